@@ -1,0 +1,69 @@
+ghost use Rattle.std.specs.Prelude.{◌≡◌, ◌+◌, ◌*◌, ◌/◌, ◌<◌, ◌≤◌, ◌++◌, length, min, take, drop, IfOk};
+ghost use Rattle.pdh_bits.specs.Bits.{bit, bits_of_byte, bits_of, number_of, bytes_of};
+
+use std::alloc::{AllocError, Global};
+
+/// The bits of the bytes, the most significant bit of each byte first.
+pub fn bits_of(alloc: Global, bytes: &[u8]) -> Result<Vec<bool>, AllocError>
+    ensures { IfOk result (λ v. v.items ≡ bits_of bytes.now) }
+{
+    let mut bits = Vec::with_capacity(alloc, bytes.len().saturating_mul(8))?;
+    for byte in bytes {
+        bits.extend_from_slice(&bits_of_byte(*byte))?;
+    }
+    Ok(bits)
+}
+
+/// The whole bytes of the bits. Up to seven last bits that fill no byte are left off.
+pub fn bytes_of(alloc: Global, bits: &[bool]) -> Result<Vec<u8>, AllocError>
+    ensures { IfOk result (λ v. v.items ≡ bytes_of bits.now) }
+{
+    let mut bytes = vec![in alloc; 0u8; bits.len() / 8]?;
+    write_bytes(bits, &mut bytes);
+    Ok(bytes)
+}
+
+/// Writes as many whole bytes of the bits as there are and fit, and answers their number.
+pub(crate) fn write_bytes(bits: &[bool], into: &mut [u8]) -> usize
+    ensures count { result ≡ min (length bits.now / 8) (length into.old) }
+    ensures written { into.new ≡ take result (bytes_of bits.now) ++ drop result into.old }
+{
+    let count = into.len().min(bits.len() / 8);
+    for place in 0..count {
+        into[place] = number_of(&bits[8 * place..8 * place + 8]);
+    }
+    count
+}
+
+fn bits_of_byte(byte: u8) -> [bool; 8]
+    ensures { result ≡ bits_of_byte byte }
+{
+    [
+        bit(byte, 7),
+        bit(byte, 6),
+        bit(byte, 5),
+        bit(byte, 4),
+        bit(byte, 3),
+        bit(byte, 2),
+        bit(byte, 1),
+        bit(byte, 0),
+    ]
+}
+
+fn bit(byte: u8, place: u8) -> bool
+    requires { place < 8 }
+    ensures { result ≡ bit byte place }
+{
+    (byte >> place) % 2 == 1
+}
+
+fn number_of(bits: &[bool]) -> u8
+    requires { length bits.now ≤ 8 }
+    ensures { result ≡ number_of bits.now }
+{
+    let mut number = 0;
+    for bit in bits {
+        number = 2 * number + u8::from(*bit);
+    }
+    number
+}

@@ -1,0 +1,11 @@
+//! Bits of bytes, and whole bytes of bits, the most significant bit of each byte first.
+#![tactic(auto)]
+
+mod bit_out;
+mod bits;
+
+pub use bit_out::{BitOut, Full};
+pub use bits::{bits_of, bytes_of};
+
+#[cfg(test)]
+mod tests;

@@ -1,0 +1,5 @@
+pub mod Ranges
+pub mod LeastLaws
+pub mod FrameLaws
+pub mod RightLines
+pub mod FrameLoops

@@ -1,0 +1,150 @@
+-- Lists made from the numbers of a range.
+use Rattle.std.proofs.Common.{◌≡◌, ℕ, zero, suc, ◌+◌, ◌<◌, ◌≤◌, Bool, true, false, ◌&&◌, cond, List, [], ◌∷◌, ◌++◌, length, map, filter, refl, sym, ap, ◌∙◌, inl, inr, arith, append_assoc, add-one, zero-add, ◌||◌}
+use Rattle.std.specs.Prelude.{count_by, fold}
+use Rattle.std.specs.List.{range_with_len, list_all, list_any}
+use Rattle.std.proofs.lemmas.List.{map-append, append-nil}
+use Rattle.std.proofs.lemmas.List.Elements.{filter-append}
+use Rattle.std.proofs.lemmas.List.Folds.{list_all-append, list_any-append}
+use Rattle.std.proofs.lemmas.List.Sums.{fold-append, sum_by-cons, sum_by-append}
+use Rattle.std.proofs.lemmas.Bool.{cases_Bool, cases_eq}
+
+pub and_true : (a b : Bool) → (a && b) ≡ true → (a ≡ true) × (b ≡ true)
+and_true true b h = (refl, h)
+and_true false b h = cc
+
+pub range_push : (a n : ℕ) → range_with_len a (suc n) ≡ range_with_len a n ++ (a + n) ∷ []
+range_push a zero = ap (λ x. x ∷ []) (omega arith)
+range_push a (suc n) =
+    let rest : range_with_len (a + 1) (suc n) ≡ range_with_len (a + 1) n ++ (a + 1 + n) ∷ [] = range_push (a + 1) n in
+    let e : a + 1 + n ≡ a + suc n = omega arith in
+    ap (λ x. a ∷ x) (rest ∙ ap (λ k. range_with_len (a + 1) n ++ k ∷ []) e)
+
+pub length-range : (a n : ℕ) → length (range_with_len a n) ≡ n
+length-range a zero = refl
+length-range a (suc n) = ap (λ k. suc k) (length-range (a + 1) n)
+
+pub range_append : (a n m : ℕ) → range_with_len a (n + m) ≡ range_with_len a n ++ range_with_len (a + n) m
+range_append a n zero = ap (range_with_len a) (omega arith) ∙ sym (append-nil (range_with_len a n))
+range_append a n (suc m) =
+    let e : n + suc m ≡ suc (n + m) = omega arith in
+    let f : a + (n + m) ≡ (a + n) + m = omega arith in
+    ap (range_with_len a) e ∙ range_push a (n + m) ∙ ap (λ x. x ++ (a + (n + m)) ∷ []) (range_append a n m)
+    ∙ append_assoc (range_with_len a n) (range_with_len (a + n) m) ((a + (n + m)) ∷ [])
+    ∙ ap (λ k. range_with_len a n ++ (range_with_len (a + n) m ++ k ∷ [])) f
+    ∙ ap (λ x. range_with_len a n ++ x) (sym (range_push (a + n) m))
+
+pub map-range_same_on : {X : Type 0} (f g : ℕ → X) (a n : ℕ) → ((k : ℕ) → a ≤ k → k < a + n → f k ≡ g k) → map f (range_with_len a n) ≡ map g (range_with_len a n)
+map-range_same_on f g a zero same = refl
+map-range_same_on f g a (suc n) same =
+    let here : f a ≡ g a = same a (omega arith) (omega arith) in
+    let rest : map f (range_with_len (a + 1) n) ≡ map g (range_with_len (a + 1) n) = map-range_same_on f g (a + 1) n (λ k h h'. same k (omega arith) (omega arith)) in
+    cc
+
+pub map-range_shift : {X : Type 0} (f : ℕ → X) (a b n : ℕ) → map f (range_with_len (a + b) n) ≡ map (λ k. f (a + k)) (range_with_len b n)
+map-range_shift f a b zero = refl
+map-range_shift f a b (suc n) =
+    let e : a + b + 1 ≡ a + (b + 1) = omega arith in
+    ap (λ x. f (a + b) ∷ x) (ap (λ k. map f (range_with_len k n)) e ∙ map-range_shift f a (b + 1) n)
+
+pub list_all-range : (p : ℕ → Bool) (a n : ℕ) → ((k : ℕ) → a ≤ k → k < a + n → p k ≡ true) → list_all p (range_with_len a n) ≡ true
+list_all-range p a zero all = refl
+list_all-range p a (suc n) all =
+    let here : p a ≡ true = all a (omega arith) (omega arith) in
+    let rest : list_all p (range_with_len (a + 1) n) ≡ true = list_all-range p (a + 1) n (λ k h h'. all k (omega arith) (omega arith)) in
+    ap (λ b. b && list_all p (range_with_len (a + 1) n)) here ∙ rest
+
+pub count-range_same : (p q : ℕ → Bool) (a n : ℕ) → ((k : ℕ) → a ≤ k → k < a + n → p k ≡ q k) → count_by p (range_with_len a n) ≡ count_by q (range_with_len a n)
+count-range_same p q a zero same = refl
+count-range_same p q a (suc n) same =
+    let here : p a ≡ q a = same a (omega arith) (omega arith) in
+    let rest : count_by p (range_with_len (a + 1) n) ≡ count_by q (range_with_len (a + 1) n) = count-range_same p q (a + 1) n (λ k h h'. same k (omega arith) (omega arith)) in
+    sum_by-cons (λ x. cond (p x) 1 0) a (range_with_len (a + 1) n) ∙ ap (λ b. cond b 1 0 + count_by p (range_with_len (a + 1) n)) here
+    ∙ ap (λ n. cond (q a) 1 0 + n) rest ∙ sym (sum_by-cons (λ x. cond (q x) 1 0) a (range_with_len (a + 1) n))
+
+pub count_none : (xs : List ℕ) → count_by (λ x. false) xs ≡ 0
+count_none [] = refl
+count_none (x ∷ xs) = sum_by-cons (λ x. 0) x xs ∙ ap (λ n. 0 + n) (count_none xs)
+
+pub count-range_push : (p : ℕ → Bool) (n : ℕ) → count_by p (range_with_len 0 (suc n)) ≡ count_by p (range_with_len 0 n) + cond (p n) 1 0
+count-range_push p n =
+    let e : 0 + n ≡ n = omega arith in
+    ap (count_by p) (range_push 0 n) ∙ sum_by-append (λ x. cond (p x) 1 0) (range_with_len 0 n) ((0 + n) ∷ []) ∙ ap (λ k. count_by p (range_with_len 0 n) + k) (one (0 + n) ∙ ap (λ k. cond (p k) 1 0) e)
+  where
+    one : (k : ℕ) → count_by p (k ∷ []) ≡ cond (p k) 1 0
+    one k = sum_by-cons (λ x. cond (p x) 1 0) k [] ∙ omega arith
+
+pub count_push : (p : ℕ → Bool) (n : ℕ) → count_by p (range_with_len 0 (n + 1)) ≡ count_by p (range_with_len 0 n) + cond (p n) 1 0
+count_push p n = ap (λ k. count_by p (range_with_len 0 k)) (add-one n) ∙ count-range_push p n
+
+filter_one : (p : ℕ → Bool) (k : ℕ) (b : Bool) → p k ≡ b → filter p (k ∷ []) ≡ cond b (k ∷ []) []
+filter_one p k b h = ap (λ b. cond b (k ∷ []) []) h
+
+-- the passing numbers, each by how many pass before it
+pub numbered : {X : Type 0} (f : ℕ → X) (p : ℕ → Bool) (n : ℕ)
+    → map (λ k. f (count_by p (range_with_len 0 k))) (filter p (range_with_len 0 n)) ≡ map f (range_with_len 0 (count_by p (range_with_len 0 n)))
+numbered f p zero = refl
+numbered f p (suc n) =
+    let e : 0 + n ≡ n = omega arith in
+    let before : map (λ k. f (count_by p (range_with_len 0 k))) (filter p (range_with_len 0 n)) ≡ map f (range_with_len 0 (count_by p (range_with_len 0 n))) = numbered f p n in
+    let split : filter p (range_with_len 0 (suc n)) ≡ filter p (range_with_len 0 n) ++ filter p (n ∷ []) =
+    ap (filter p) (range_push 0 n) ∙ filter-append p (range_with_len 0 n) ((0 + n) ∷ []) ∙ ap (λ k. filter p (range_with_len 0 n) ++ filter p (k ∷ [])) e in
+    let maps : map (λ k. f (count_by p (range_with_len 0 k))) (filter p (range_with_len 0 (suc n)))
+    ≡ map f (range_with_len 0 (count_by p (range_with_len 0 n))) ++ map (λ k. f (count_by p (range_with_len 0 k))) (filter p (n ∷ [])) =
+    ap (map (λ k. f (count_by p (range_with_len 0 k)))) split ∙ map-append (λ k. f (count_by p (range_with_len 0 k))) (filter p (range_with_len 0 n)) (filter p (n ∷ []))
+    ∙ ap (λ x. x ++ map (λ k. f (count_by p (range_with_len 0 k))) (filter p (n ∷ []))) before in
+    elim (cases_Bool (p n)) [
+      | inl passes ↦
+          let c : ℕ = count_by p (range_with_len 0 n) in
+          let more : count_by p (range_with_len 0 (suc n)) ≡ suc c = count-range_push p n ∙ ap (λ b. c + cond b 1 0) passes ∙ omega arith in
+          maps ∙ ap (λ x. map f (range_with_len 0 c) ++ map (λ k. f (count_by p (range_with_len 0 k))) x) (filter_one p n true passes)
+          ∙ sym (ap (λ k. map f (range_with_len 0 k)) more ∙ ap (map f) (range_push 0 c) ∙ map-append f (range_with_len 0 c) ((0 + c) ∷ []) ∙ ap (λ k. map f (range_with_len 0 c) ++ f k ∷ []) (omega arith))
+      | inr fails ↦
+          let c : ℕ = count_by p (range_with_len 0 n) in
+          let same : count_by p (range_with_len 0 (suc n)) ≡ c = count-range_push p n ∙ ap (λ b. c + cond b 1 0) fails ∙ omega arith in
+          maps ∙ ap (λ x. map f (range_with_len 0 c) ++ map (λ k. f (count_by p (range_with_len 0 k))) x) (filter_one p n false fails)
+          ∙ append-nil (map f (range_with_len 0 c)) ∙ sym (ap (λ k. map f (range_with_len 0 k)) same)
+    ]
+
+pub list_all_push : (p : ℕ → Bool) (n : ℕ) → list_all p (range_with_len 0 n) ≡ true → p n ≡ true → list_all p (range_with_len 0 (n + 1)) ≡ true
+list_all_push p n before here =
+    let last : p (0 + n) ≡ true = ap p (zero-add n) ∙ here in
+    ap (λ k. list_all p (range_with_len 0 k)) (add-one n) ∙ ap (list_all p) (range_push 0 n) ∙ list_all-append p (range_with_len 0 n) ((0 + n) ∷ [])
+    ∙ ap (λ b. b && (p (0 + n) && true)) before ∙ ap (λ b. b && true) last
+
+pub list_all-at : (p : ℕ → Bool) (a n k : ℕ) → list_all p (range_with_len a n) ≡ true → a ≤ k → k < a + n → p k ≡ true
+list_all-at p a zero k all h h' = absurd (omega arith)
+list_all-at p a (suc n) k all h h' =
+    let parts = and_true (p a) (list_all p (range_with_len (a + 1) n)) all in
+    elim (cases_eq k a) [
+      | inl same ↦ ap p same ∙ parts.0
+      | inr other ↦ list_all-at p (a + 1) n k parts.1 (omega arith) (omega arith)
+    ]
+
+pub list_all_fails : (p : ℕ → Bool) (a n k : ℕ) → a ≤ k → k < a + n → p k ≡ false → list_all p (range_with_len a n) ≡ false
+list_all_fails p a zero k h h' fails = absurd (omega arith)
+list_all_fails p a (suc n) k h h' fails =
+    elim (cases_eq k a) [
+      | inl same ↦
+          let here : p a ≡ false = ap p (sym same) ∙ fails in
+          ap (λ b. b && list_all p (range_with_len (a + 1) n)) here
+      | inr other ↦
+          let rest : list_all p (range_with_len (a + 1) n) ≡ false = list_all_fails p (a + 1) n k (omega arith) (omega arith) fails in
+          ap (λ b. p a && b) rest ∙ none (p a)
+    ]
+  where
+    none : (b : Bool) → (b && false) ≡ false
+    none true = refl
+    none false = refl
+
+pub fold_push : (f : ℕ → ℕ → ℕ) (a n : ℕ) → fold f a (range_with_len 0 (n + 1)) ≡ f (fold f a (range_with_len 0 n)) n
+fold_push f a n =
+    ap (λ k. fold f a (range_with_len 0 k)) (add-one n) ∙ ap (fold f a) (range_push 0 n) ∙ fold-append f a (range_with_len 0 n) ((0 + n) ∷ []) ∙ ap (f (fold f a (range_with_len 0 n))) (zero-add n)
+
+or_false : (b : Bool) → (b || false) ≡ b
+or_false true = refl
+or_false false = refl
+
+pub list_any_push : (p : ℕ → Bool) (n : ℕ) → list_any p (range_with_len 0 (n + 1)) ≡ (list_any p (range_with_len 0 n) || p n)
+list_any_push p n =
+    ap (λ k. list_any p (range_with_len 0 k)) (add-one n) ∙ ap (list_any p) (range_push 0 n) ∙ list_any-append p (range_with_len 0 n) ((0 + n) ∷ [])
+    ∙ ap (λ b. list_any p (range_with_len 0 n) || b) (or_false (p (0 + n)) ∙ ap p (zero-add n))

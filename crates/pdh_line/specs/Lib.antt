@@ -1,0 +1,4 @@
+pub mod Least
+pub mod Tracking
+pub mod Receiving
+pub mod Worked

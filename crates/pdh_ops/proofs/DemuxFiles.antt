@@ -1,0 +1,170 @@
+-- What the steps of `demux e12` leave of the files.
+use Rattle.std.proofs.Common.{◌≡◌, ◌≢◌, ℕ, ◌<◌, ◌≤◌, List, [], ◌++◌, Option, None, Some, Ok, Err, IsOk, true, false, length, take, refl, ap, sym, subst, ◌∙◌, inl, inr, arith, lit<, Vec, slice_index_or}
+use Rattle.std.proofs.Math.Seq.{take-length}
+use Rattle.std.proofs.lemmas.Bool.{cases_lt, cases_eq}
+use Rattle.std.specs.declared.alloc.Global.{Global}
+use Rattle.std.specs.Option.{option_map_or}
+use Rattle.pdh_edge.specs.Files.{ShelfState, Told, Looks, TouchesOnly, Touches, FailsToStart, FailsToAppend, Holds, HoldsPrefix, Grows, GrowsInPart}
+use Rattle.pdh_edge.specs.Files.Told.{Untold, Known}
+use Rattle.pdh_bits.specs.Bits.{bits_of}
+use Rattle.pdh_shape.specs.Sets.{e2}
+use Rattle.pdh_line.specs.Tracking.{every_right}
+use Rattle.pdh_ops.specs.Names.{line_name, output_name, name_of}
+use Rattle.pdh_ops.specs.Demux.{frames_of, line_of, demuxed, output_of}
+use Rattle.pdh_ops.specs.Steps.{AreOutputs, IsFramesCause, IsWriteStop}
+use Rattle.pdh_ops.specs.Commands.{Files, IsOutput, AreTold, output_bytes, comes_to}
+use Rattle.pdh_ops.specs.Run.{AreCut, ChangesOnly, Performs, GoesOn}
+use Rattle.pdh_ops.specs.declared.command.Command.TheVariants.{Demux}
+use Rattle.pdh_ops.specs.declared.answer.Done.TheVariants.{Demuxed}
+use Rattle.pdh_ops.specs.declared.answer.Stop.{Stop}
+use Rattle.pdh_ops.specs.declared.answer.Stop.TheVariants.{Memory, Usage, Read, Write, Missing, NotYet}
+use Rattle.pdh_ops.proofs.OutputNames.{output_name-differs}
+use Rattle.pdh_ops.proofs.Touching.{fails_since}
+use Rattle.pdh_ops.proofs.LineComes.{comes_of, demuxed-wrong, demuxed-right}
+use Rattle.pdh_ops.proofs.Causes.{looks_others}
+
+-- ---- one file
+
+-- what a file holds after an append, by what it held
+pub grows_holds : (old new : Told) (bytes held : List ℕ) → Grows old bytes new → Holds old held → Holds new (held ++ bytes)
+grows_holds Untold new bytes held grows holds now told = absurd (cc)
+grows_holds (Known None) new bytes held grows holds now told = absurd grows
+grows_holds (Known (Some was)) new bytes held grows holds now told =
+    let same : Some was ≡ Some held = holds (Some was) refl in
+    let bytes_same : was ≡ held = cc in
+    let now_is : now ≡ Some (was ++ bytes) = cc in
+    now_is ∙ ap (λ x. Some (x ++ bytes)) bytes_same
+
+-- and after one that failed
+pub grows_part_holds : (old new : Told) (bytes : List ℕ) → GrowsInPart old bytes new → Holds old [] → HoldsPrefix new bytes
+grows_part_holds Untold new bytes grows holds = (0, λ now told. absurd (cc))
+grows_part_holds (Known None) new bytes grows holds = absurd (let e : None ≡ Some [] = holds None refl in cc)
+grows_part_holds (Known (Some was)) new bytes grows holds =
+    let same : Some was ≡ Some [] = holds (Some was) refl in
+    let empty : was ≡ [] = cc in (
+      grows.0,
+      λ now told.
+          let now_is : now ≡ Some (was ++ take grows.0 bytes) = cc in
+          now_is ∙ ap (λ x. Some (x ++ take grows.0 bytes)) empty,
+    )
+
+-- ---- the outputs
+
+-- another output is as before
+pub other_same : (b c : ShelfState) (k leaf : ℕ) → k < 4 → leaf < 4 → k ≢ leaf → Touches (output_name leaf) b c → c.told (output_name k) ≡ b.told (output_name k)
+other_same b c k leaf low here ne kept = kept.told (output_name k) (output_name-differs k leaf (omega arith) (omega arith) ne)
+
+pub start_fails : (a b c : ShelfState) (leaf : ℕ) → leaf < 4 →
+    ((k : ℕ) → k < leaf → Holds (b.told (output_name k)) []) → ((k : ℕ) → leaf ≤ k → k < 4 → b.told (output_name k) ≡ a.told (output_name k)) →
+    Touches (output_name leaf) b c → FailsToStart (output_name leaf) b c → AreCut Demux a c
+start_fails a b c leaf here empty later kept fails = record {
+  started = leaf;
+  begun = λ files i told lt low.
+      let ne : i ≢ leaf = omega arith in
+      (0, subst (λ t. Holds t []) (sym (other_same b c i leaf low here ne kept)) (empty i lt));
+  next = λ low. elim fails.told [ inl same ↦ inl (same ∙ later leaf (omega arith) here) | inr empty ↦ inr empty ];
+  later = λ i lt low.
+      let ne : i ≢ leaf = omega arith in
+      let from : leaf ≤ i = omega arith in
+      other_same b c i leaf low here ne kept ∙ later i from low;
+}
+
+pub append_fails : (b c : ShelfState) (leaf : ℕ) (bytes : ℕ → List ℕ) → leaf < 4 → ((k : ℕ) → k < leaf → Holds (b.told (output_name k)) (bytes k)) →
+    ((k : ℕ) → leaf ≤ k → k < 4 → Holds (b.told (output_name k)) []) → Touches (output_name leaf) b c → FailsToAppend (output_name leaf) (bytes leaf) b c →
+    (k : ℕ) → k < 4 → HoldsPrefix (c.told (output_name k)) (bytes k)
+append_fails b c leaf bytes here whole empty kept fails k low = elim (cases_eq k leaf) [
+  | inl e ↦ subst (λ i. HoldsPrefix (c.told (output_name i)) (bytes i)) (sym e) (grows_part_holds _ _ (bytes leaf) fails.told (empty leaf (omega arith) here))
+  | inr ne ↦ elim (cases_lt k leaf) [
+    | inl lt ↦ (length (bytes k), subst (λ t. Holds t (take (length (bytes k)) (bytes k))) (sym (other_same b c k leaf low here ne kept)) (subst (Holds (b.told (output_name k))) (sym (take-length (bytes k))) (whole k lt)))
+    | inr from ↦ (0, subst (λ t. Holds t []) (sym (other_same b c k leaf low here ne kept)) (empty k from low))
+  ]
+]
+
+-- ---- the whole command
+
+-- the line as it is told
+line_told : (a : ShelfState) (line : List ℕ) (files : Files) → Holds (a.told line_name) line → AreTold Demux a.told files → files line_name ≡ Some line
+line_told a line files holds told = holds (files line_name) (told 0 (lit< tt))
+
+all_others : (a b c d : ShelfState) → Looks a b → TouchesOnly (IsOutput Demux) b c → TouchesOnly (IsOutput Demux) c d → ChangesOnly (IsOutput Demux) a d
+all_others a b c d looks starts appends = record {
+  told = λ name out. appends.told name out ∙ starts.told name out ∙ ap (λ (t : List ℕ → Told). t name) looks.told;
+  read_faults = omega arith;
+  write_faults = omega arith;
+  misses = omega arith;
+}
+
+bytes_of_line : (line : List ℕ) (files : Files) (leaf : ℕ) → files line_name ≡ Some line → output_of line leaf ≡ output_bytes Demux files leaf
+bytes_of_line line files leaf e = sym (ap (λ (h : Option (List ℕ)). option_map_or (λ line. output_of line leaf) h []) e)
+
+comes_right : (a : ShelfState) (line : List ℕ) (files : Files) → Holds (a.told line_name) line → line_of (Some line) ≡ Ok line → every_right e2 (bits_of line) ≡ true →
+    AreTold Demux a.told files → comes_to Demux files ≡ Ok (Demuxed (frames_of line))
+comes_right a line files holds served right told = comes_of (files line_name) line demuxed (line_told a line files holds told) served ∙ demuxed-right line right
+
+goes_on : (a : ShelfState) (line : List ℕ) → Holds (a.told line_name) line → line_of (Some line) ≡ Ok line → every_right e2 (bits_of line) ≡ true → GoesOn Demux a
+goes_on a line holds served right files told = subst IsOk (sym (comes_right a line files holds served right told)) refl
+
+pub frames_refused : (a b : ShelfState) (line bytes : List ℕ) (stop : Stop) → Looks a b → Holds (a.told line_name) line → line_of (Some line) ≡ Ok line → bytes ≡ line → IsFramesCause bytes stop → Performs Demux a b (Err stop)
+frames_refused a b line bytes Memory looks holds served same cause = record { cause = tt; outputs = looks.told; others = looks_others (IsOutput Demux) a b looks }
+frames_refused a b line bytes NotYet looks holds served same cause = record {
+  cause = λ files told. sym (comes_of (files line_name) line demuxed (line_told a line files holds told) served ∙ demuxed-wrong line (subst (λ l. every_right e2 (bits_of l) ≡ false) same cause));
+  outputs = looks.told;
+  others = looks_others (IsOutput Demux) a b looks;
+}
+frames_refused a b line bytes Usage looks holds served same cause = absurd cause
+frames_refused a b line bytes (Read file) looks holds served same cause = absurd cause
+frames_refused a b line bytes (Write file) looks holds served same cause = absurd cause
+frames_refused a b line bytes (Missing file) looks holds served same cause = absurd cause
+
+pub start_refused : (a b c : ShelfState) (line bytes : List ℕ) (stop : Stop) → Looks a b → TouchesOnly (IsOutput Demux) b c → Holds (a.told line_name) line → line_of (Some line) ≡ Ok line →
+    bytes ≡ line → every_right e2 (bits_of bytes) ≡ true → IsWriteStop b c stop → AreCut Demux b c → Performs Demux a c (Err stop)
+start_refused a b c line bytes (Write file) looks starts holds served same right cause cut =
+    let told : b.told ≡ a.told = looks.told in
+    record {
+      cause = (fails_since (name_of file) a b c (omega arith) cause, goes_on a line holds served (subst (λ l. every_right e2 (bits_of l) ≡ true) same right));
+      outputs = subst (λ (t : List ℕ → Told). AreCut Demux (record a { told = t }) c) told (record {
+        started = cut.started;
+        begun = cut.begun;
+        next = cut.next;
+        later = cut.later;
+      });
+      others = record {
+        told = λ name out. starts.told name out ∙ ap (λ (t : List ℕ → Told). t name) looks.told;
+        read_faults = omega arith;
+        write_faults = omega arith;
+        misses = omega arith;
+      };
+    }
+start_refused a b c line bytes Memory looks starts holds served same right cause cut = absurd cause
+start_refused a b c line bytes Usage looks starts holds served same right cause cut = absurd cause
+start_refused a b c line bytes (Read file) looks starts holds served same right cause cut = absurd cause
+start_refused a b c line bytes (Missing file) looks starts holds served same right cause cut = absurd cause
+start_refused a b c line bytes NotYet looks starts holds served same right cause cut = absurd cause
+
+pub append_refused : (a b c d : ShelfState) (line bytes : List ℕ) (outs : List (Vec ℕ Global)) (e : Vec ℕ Global) (stop : Stop) → Looks a b → TouchesOnly (IsOutput Demux) b c → TouchesOnly (IsOutput Demux) c d →
+    Holds (a.told line_name) line → line_of (Some line) ≡ Ok line → bytes ≡ line → every_right e2 (bits_of bytes) ≡ true → AreOutputs bytes outs → IsWriteStop c d stop →
+    ((leaf : ℕ) → leaf < 4 → HoldsPrefix (d.told (output_name leaf)) (slice_index_or outs leaf e).items) → Performs Demux a d (Err stop)
+append_refused a b c d line bytes outs e (Write file) looks starts appends holds served same right are cause prefixes = record {
+  cause = (fails_since (name_of file) a c d (omega arith) cause, goes_on a line holds served (subst (λ l. every_right e2 (bits_of l) ≡ true) same right));
+  outputs = record {
+    started = 4;
+    begun = λ files i told lt low. subst (HoldsPrefix (d.told (output_name i))) (are.each i e low ∙ ap (λ (l : List ℕ). output_of l i) same ∙ bytes_of_line line files i (line_told a line files holds told)) (prefixes i low);
+    next = λ low. absurd (omega arith);
+    later = λ i lt low. absurd (omega arith);
+  };
+  others = all_others a b c d looks starts appends;
+}
+append_refused a b c d line bytes outs e Memory looks starts appends holds served same right are cause prefixes = absurd cause
+append_refused a b c d line bytes outs e Usage looks starts appends holds served same right are cause prefixes = absurd cause
+append_refused a b c d line bytes outs e (Read file) looks starts appends holds served same right are cause prefixes = absurd cause
+append_refused a b c d line bytes outs e (Missing file) looks starts appends holds served same right are cause prefixes = absurd cause
+append_refused a b c d line bytes outs e NotYet looks starts appends holds served same right are cause prefixes = absurd cause
+
+pub done : (a b c d : ShelfState) (line bytes : List ℕ) (outs : List (Vec ℕ Global)) (e : Vec ℕ Global) → Looks a b → TouchesOnly (IsOutput Demux) b c → TouchesOnly (IsOutput Demux) c d →
+    Holds (a.told line_name) line → line_of (Some line) ≡ Ok line → bytes ≡ line → every_right e2 (bits_of bytes) ≡ true → AreOutputs bytes outs →
+    ((leaf : ℕ) → leaf < 4 → Holds (d.told (output_name leaf)) (slice_index_or outs leaf e).items) → Performs Demux a d (Ok (Demuxed (frames_of line)))
+done a b c d line bytes outs e looks starts appends holds served same right are wholes = record {
+  cause = λ files told. sym (comes_right a line files holds served (subst (λ l. every_right e2 (bits_of l) ≡ true) same right) told);
+  outputs = λ files i told low. subst (Holds (d.told (output_name i))) (are.each i e low ∙ ap (λ (l : List ℕ). output_of l i) same ∙ bytes_of_line line files i (line_told a line files holds told)) (wholes i low);
+  others = all_others a b c d looks starts appends;
+}

@@ -1,0 +1,14 @@
+//! The top call: it does all that the program does.
+#![tactic(auto)]
+
+mod answer;
+mod command;
+mod demux;
+mod file;
+mod line;
+mod program;
+mod report;
+#[cfg(test)]
+mod tests;
+
+pub use program::{Ran, run};

@@ -1,0 +1,70 @@
+ghost use Rattle.std.specs.Prelude.{◌≡◌, map};
+ghost use Rattle.std.specs.String.{string_bytes};
+ghost use Rattle.pdh_ops.specs.Commands.{command_of};
+ghost use Rattle.pdh_ops.specs.Run.{Performs, Does, Runs, Completes};
+
+use crate::answer::{Done, Stop};
+use crate::command::Command;
+use crate::demux::demux;
+use crate::report::report;
+use pdh_edge::{Shelf, Sink};
+use std::alloc::Global;
+
+/// What a run answers: the program's status, and the shelf and the sink that it was handed.
+#[derive(Drop)]
+pub struct Ran<S, K> {
+    pub status: u8,
+    pub shelf: S,
+    pub out: K,
+}
+
+// The command of the words, if they are a row of the table.
+fn command(words: &[String]) -> Option<Command>
+    ensures { result ≡ command_of (map string_bytes words.now) }
+{
+    match words {
+        [first, second] if first.as_str() == "demux" && second.as_str() == "e12" => {
+            Some(Command::Demux)
+        }
+        _ => None,
+    }
+}
+
+fn perform<S: Shelf>(alloc: Global, command: Command, shelf: &mut S) -> Result<Done, Stop>
+    ensures { Performs command (S.state shelf.old) (S.state shelf.new) result }
+{
+    match command {
+        Command::Demux => demux(alloc, shelf),
+    }
+}
+
+fn answer<S: Shelf>(alloc: Global, words: &[String], shelf: &mut S) -> Result<Done, Stop>
+    ensures { Does (command_of (map string_bytes words.now)) (S.state shelf.old) (S.state shelf.new) result }
+{
+    match command(words) {
+        Some(command) => perform(alloc, command, shelf),
+        None => Err(Stop::Usage),
+    }
+}
+
+/// Does all that the program does with its words (without its own name), over a shelf of files and
+/// a sink for its text, and hands both back on every path.
+///
+/// The statuses: 0, the command did its work; 1, memory was wanting; 2, the words are no row of the
+/// table; 3, a call of the shelf failed to read; 4, a call of the shelf failed to write, or the
+/// sink failed to take the text of status 0; 5, an input isn't held; 13, the line is of a form that
+/// isn't demultiplexed yet.
+pub fn run<S: Shelf, K: Sink>(
+    alloc: Global,
+    words: &[String],
+    mut shelf: S,
+    mut out: K,
+) -> Ran<S, K>
+    ensures runs { Runs (command_of (map string_bytes words.now)) (S.state shelf) (S.state result.shelf) (K.state out) (K.state result.out) result.status }
+    // The same, said of inputs that are told and of a shelf without faults.
+    ensures completes { Completes (command_of (map string_bytes words.now)) (S.state shelf) (S.state result.shelf) (K.state out) (K.state result.out) result.status }
+{
+    let answer = answer(alloc, words, &mut shelf);
+    let status = report(&mut out, answer);
+    Ran { status, shelf, out }
+}

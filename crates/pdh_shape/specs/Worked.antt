@@ -1,0 +1,53 @@
+-- Worked examples, computed by the checker.
+use Rattle.std.specs.Prelude.{◌≡◌, ℕ, zero, suc, Bool, true, false, List, [], ◌∷◌, ◌++◌, map, replicate, refl}
+use Rattle.pdh_shape.specs.declared.role.Role.{Role}
+use Rattle.pdh_shape.specs.declared.role.Role.TheVariants.{Align, Service, Control, Just, Info}
+use Rattle.pdh_shape.specs.Frame.{slots, is_right, wrong, clean}
+use Rattle.pdh_shape.specs.Tributary.{stripped}
+use Rattle.pdh_shape.specs.Sets.{e2, e2_signal, set_role, set_mark}
+
+-- the four tributaries in turn, so many times
+abbrev pub turns : ℕ → List Role
+turns zero = []
+turns (suc n) = Info 0 ∷ Info 1 ∷ Info 2 ∷ Info 3 ∷ turns n
+
+abbrev pub controls_of : ℕ → List Role
+controls_of copy = Control 0 copy ∷ Control 1 copy ∷ Control 2 copy ∷ Control 3 copy ∷ []
+
+-- G.742, Table 1, set by set: the signal, the alarm, the national bit and 200 tributary bits; a control bit of each
+-- tributary and 208 tributary bits, twice; the control bits, the justifiable bits and 204 tributary bits
+abbrev pub e2_table : List Role
+e2_table =
+    (map Align e2_signal ++ Service 0 ∷ Service 1 ∷ turns 50)
+    ++ (controls_of 0 ++ turns 52)
+    ++ (controls_of 1 ++ turns 52)
+    ++ (controls_of 2 ++ Just 0 ∷ Just 1 ∷ Just 2 ∷ Just 3 ∷ turns 51)
+
+pub e2_roles : map e2.role (slots e2) ≡ e2_table
+unfolding set_role
+e2_roles = refl
+
+-- a frame of zeros behind its signal, without alarm and with the national bit 1
+unfoldable pub zeros_frame : List Bool
+zeros_frame = e2_signal ++ false ∷ true ∷ replicate 836 false
+
+-- it is right, and its control copies 000 say that it carries 206 bits of each tributary
+pub zeros_right : is_right e2 zeros_frame ≡ true
+unfolding zeros_frame is_right set_role
+zeros_right = refl
+
+pub zeros_stripped : map (λ j. stripped e2 j zeros_frame) (0 ∷ 1 ∷ 2 ∷ 3 ∷ []) ≡ replicate 4 (replicate 206 false)
+unfolding zeros_frame stripped set_role
+zeros_stripped = refl
+
+pub zeros_clean : wrong e2 zeros_frame ≡ clean
+unfolding zeros_frame wrong set_role set_mark
+zeros_clean = refl
+
+-- the same with byte 0 as 04 in place of F4: the first four framing slots are wrong
+unfoldable pub bad_frame : List Bool
+bad_frame = replicate 5 false ++ true ∷ replicate 4 false ++ false ∷ true ∷ replicate 836 false
+
+pub bad_wrong : wrong e2 bad_frame ≡ record { framing = 15; multi = false }
+unfolding bad_frame wrong set_role set_mark
+bad_wrong = refl

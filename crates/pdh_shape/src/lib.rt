@@ -1,0 +1,11 @@
+//! Frame shapes: what each slot of a frame carries, and when frame alignment is lost.
+#![tactic(auto)]
+
+mod e2;
+mod role;
+mod sets;
+mod shape;
+
+pub use e2::E2;
+pub use role::{Duty, Mark, Marks, Role, Service};
+pub use shape::{Shape, majority};

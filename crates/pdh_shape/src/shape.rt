@@ -1,0 +1,88 @@
+ghost use Rattle.std.specs.Prelude.{◌≡◌, ◌<◌, ◌≤◌, ◌⊎◌, ◌%◌, ℕ};
+ghost use Rattle.pdh_shape.specs.Frame.{FrameShape, IsFrame};
+ghost use Rattle.pdh_shape.specs.Tributary.{is_majority, HasTributaries};
+
+use crate::{Duty, Mark, Marks, Role, Service};
+
+/// The shape of a multiplexer's frame. Slots, tributaries, copies and numbers are counted from 0.
+pub trait Shape {
+    /// The shape as a value, which definitions take.
+    ghost shape: { FrameShape };
+
+    ghost LEN: { ℕ };
+
+    /// Slots in a frame, which is bits on the line.
+    const LEN: u32;
+
+    ghost TRIBS: { ℕ };
+
+    /// Tributaries.
+    const TRIBS: u8;
+
+    ghost COPIES: { ℕ };
+
+    /// Copies of each tributary's justification control; 0 where the shape has none.
+    const COPIES: u8;
+
+    ghost LOW: { ℕ };
+
+    /// The least number of bits of a tributary that a frame carries. It carries one more where its
+    /// justification control says so.
+    const LOW: u32;
+
+    /// What a slot carries.
+    fn role(slot: u32) -> Role
+        requires { slot < LEN }
+        ensures { result ≡ shape.role slot };
+
+    /// Which alignment slot a slot is; Other exactly where its role isn't Align.
+    fn mark(slot: u32) -> Mark
+        requires { slot < LEN }
+        ensures { result ≡ shape.mark slot };
+
+    /// Whether the bits of a tributary are inverted on the line.
+    fn inverted(trib: u8) -> bool
+        requires { trib < TRIBS }
+        ensures { result ≡ shape.inverted trib };
+
+    /// What the service bit of a number tells the receiver; Other for a number that the shape
+    /// doesn't have.
+    fn duty(number: u8) -> Duty
+        ensures { result ≡ shape.duty number };
+
+    /// The service bit of a number, where the frame says `say` and the information slots of the
+    /// frame before hold an odd number of ones or not; true for a number that the shape doesn't
+    /// have.
+    fn service(number: u8, say: &Service, odd: bool) -> bool
+        ensures { result ≡ shape.service number say.now odd };
+
+    /// Whether a frame with marks d completes a loss of alignment, after frames with marks a, b
+    /// and c. Frames before the alignment count as right.
+    fn loses(a: &Marks, b: &Marks, c: &Marks, d: &Marks) -> bool
+        ensures { result ≡ shape.loses a.now b.now c.now d.now };
+
+    /// The constants are those of the value.
+    ghost len_is: { shape.len ≡ LEN };
+
+    ghost tribs_is: { shape.tribs ≡ TRIBS };
+
+    ghost copies_is: { shape.copies ≡ COPIES };
+
+    ghost low_is: { shape.low ≡ LOW };
+
+    /// The frame has some slots and not too many, and frames that are right complete no loss.
+    ghost is_frame: { IsFrame shape };
+
+    /// Each tributary has its information slots, its justifiable slot and its control copies.
+    ghost has_tributaries: { HasTributaries shape };
+}
+
+/// Whether a frame carries the lower number of a tributary's bits, where so many of its control
+/// copies are 1: the majority is 1, or there are no copies (ITU-T G.742, 5).
+pub fn majority(ones: u8, copies: u8) -> bool
+    requires in_range { ones ≤ copies }
+    requires odd { (copies ≡ 0) ⊎ (copies % 2 ≡ 1) }
+    ensures { result ≡ is_majority ones copies }
+{
+    copies == 0 || ones > copies / 2
+}
