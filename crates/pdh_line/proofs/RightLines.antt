@@ -14,7 +14,7 @@ use Rattle.pdh_line.specs.Tracking.{frame_of, frames_in, is_confirmed, positions
 use Rattle.pdh_line.specs.Tracking.Piece.{Gap, Delivered}
 use Rattle.pdh_line.specs.Receiving.{piece_bits, received}
 use Rattle.pdh_line.proofs.Ranges.{list_all-at}
-use Rattle.pdh_line.proofs.LeastLaws.{least_below_none, least_below_before}
+use Rattle.pdh_line.proofs.LeastLaws.{least_below_none, least_below_before, least_below-zero}
 use Rattle.pdh_line.proofs.FrameLaws.{wrong_of_right}
 
 -- ---- what the definitions say, by name
@@ -141,3 +141,19 @@ received-right s j l frame three right =
     ap (flat_map (piece_bits s j)) (track-right s l frame three right)
     ∙ ap (λ x. x ++ flat_map (piece_bits s j) (map (λ k. Delivered (frame_of s l k)) (range_with_len 0 (frames_in s l)))) (no_gap s j frame)
     ∙ frames_bits s j l (range_with_len 0 (frames_in s l))
+
+-- ---- a line that is shorter than three frames
+
+track-short : (s : FrameShape) (l : List Bool) → length l < 3 * s.len → track s l ≡ Gap 0 ∷ []
+track-short s l short =
+    let none : positions s l ≡ 0 = omega arith in
+    let gap : gap_of s l ≡ 0 = gap_of_is s l ∙ ap (λ n. least_below n (λ p. is_confirmed s (drop p l))) none ∙ least_below-zero (λ p. is_confirmed s (drop p l)) in
+    let found : is_found s l ≡ false = le-ltb _ _ (omega arith) in
+    track_open s l (is_lost_none s l found)
+    ∙ ap (λ n. Gap (gap_of s l) ∷ map (λ k. Delivered (frame_of s (aligned s l) k)) (range_with_len 0 n)) (delivered_none s l found)
+    ∙ ap (λ n. Gap n ∷ []) gap
+
+-- no tributary gets anything
+pub received-short : (s : FrameShape) (j : ℕ) (l : List Bool) → IsFrame s → length l < 3 * s.len → received s j l ≡ []
+unfolding received
+received-short s j l frame short = ap (flat_map (piece_bits s j)) (track-short s l short) ∙ ap (λ x. x ++ []) (no_gap s j frame)

@@ -5,12 +5,13 @@ use Rattle.pdh_edge.specs.Files.Told.{Known}
 use Rattle.pdh_ops.specs.Names.{line_name}
 use Rattle.pdh_ops.specs.Demux.{line_of}
 use Rattle.pdh_ops.specs.Answer.{Answer, and_then}
-use Rattle.pdh_ops.specs.Commands.{Files, AreTold, comes_to, IsOutput}
+use Rattle.pdh_ops.specs.Mux.{Files}
+use Rattle.pdh_ops.specs.Commands.{AreTold, comes_to, IsOutput}
 use Rattle.pdh_ops.specs.Run.{HasCause, ChangesOnly, Performs, IsTold, Runs, Completes}
 use Rattle.pdh_ops.specs.Steps.{IsLineCause}
 use Rattle.pdh_ops.specs.declared.command.Command.{Command}
 use Rattle.pdh_ops.specs.declared.answer.Stop.{Stop}
-use Rattle.pdh_ops.specs.declared.answer.Stop.TheVariants.{Memory, Usage, Read, Write, Missing, NotYet}
+use Rattle.pdh_ops.specs.declared.answer.Stop.TheVariants.{Memory, Usage, Read, Write, Missing, LongSchedule, BadRow, UnknownNode, CountOver, Short, Overflow, Underflow, ManyFrames, NotYet}
 use Rattle.pdh_ops.proofs.Touching.{looks_same}
 
 pub looks_others : (P : List ℕ → Type 0) (a b : ShelfState) → Looks a b → ChangesOnly P a b
@@ -36,7 +37,19 @@ line_stops command next a b NotYet comes tells looks cause = record {
   outputs = looks.told;
   others = looks_others (IsOutput command) a b looks;
 }
+line_stops command next a b (ManyFrames n) comes tells looks cause = record {
+  cause = λ files told. refused next a (ManyFrames n) cause files (tells files told) ∙ sym (comes files);
+  outputs = looks.told;
+  others = looks_others (IsOutput command) a b looks;
+}
 line_stops command next a b Usage comes tells looks cause = absurd cause
+line_stops command next a b LongSchedule comes tells looks cause = absurd cause
+line_stops command next a b (BadRow l) comes tells looks cause = absurd cause
+line_stops command next a b (UnknownNode l) comes tells looks cause = absurd cause
+line_stops command next a b (CountOver l n m) comes tells looks cause = absurd cause
+line_stops command next a b (Short f h n) comes tells looks cause = absurd cause
+line_stops command next a b (Overflow p) comes tells looks cause = absurd cause
+line_stops command next a b (Underflow p) comes tells looks cause = absurd cause
 line_stops command next a b (Write file) comes tells looks cause = absurd cause
 
 -- where no fault rose, a command answers exactly what its inputs come to, or want of memory
@@ -49,6 +62,14 @@ exact command a b (Err (Read file)) files cause told reads writes = absurd (read
 exact command a b (Err (Write file)) files cause told reads writes = absurd (writes cause.0.rose)
 exact command a b (Err (Missing file)) files cause told reads writes = inr (cause.1 files told)
 exact command a b (Err NotYet) files cause told reads writes = inr (cause files told)
+exact command a b (Err LongSchedule) files cause told reads writes = inr (cause files told)
+exact command a b (Err (BadRow l)) files cause told reads writes = inr (cause files told)
+exact command a b (Err (UnknownNode l)) files cause told reads writes = inr (cause files told)
+exact command a b (Err (CountOver l n m)) files cause told reads writes = inr (cause files told)
+exact command a b (Err (Short f h n)) files cause told reads writes = inr (cause files told)
+exact command a b (Err (Overflow p)) files cause told reads writes = inr (cause files told)
+exact command a b (Err (Underflow p)) files cause told reads writes = inr (cause files told)
+exact command a b (Err (ManyFrames n)) files cause told reads writes = inr (cause files told)
 
 -- and the run tells it
 pub completes : (command : Option Command) (a b : ShelfState) (k l : SinkState) (status : ℕ) → Runs command a b k l status → Completes command a b k l status

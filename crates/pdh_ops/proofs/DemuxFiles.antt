@@ -1,9 +1,9 @@
 -- What the steps of `demux e12` leave of the files.
-use Rattle.std.proofs.Common.{◌≡◌, ◌≢◌, ℕ, ◌<◌, ◌≤◌, List, [], ◌++◌, Option, None, Some, Ok, Err, IsOk, true, false, length, take, refl, ap, sym, subst, ◌∙◌, inl, inr, arith, lit<, Vec, slice_index_or}
+use Rattle.std.proofs.Common.{◌≡◌, ◌≢◌, ℕ, ◌<◌, ◌≤◌, List, [], ◌++◌, Option, None, Some, Ok, Err, true, false, length, take, refl, ap, sym, subst, ◌∙◌, inl, inr, arith, lit<, Vec, slice_index_or}
 use Rattle.std.proofs.Math.Seq.{take-length}
 use Rattle.std.proofs.lemmas.Bool.{cases_lt, cases_eq}
 use Rattle.std.specs.declared.alloc.Global.{Global}
-use Rattle.std.specs.Option.{option_map_or}
+use Rattle.std.specs.Prelude.{unwrap_or}
 use Rattle.pdh_edge.specs.Files.{ShelfState, Told, Looks, TouchesOnly, Touches, FailsToStart, FailsToAppend, Holds, HoldsPrefix, Grows, GrowsInPart}
 use Rattle.pdh_edge.specs.Files.Told.{Untold, Known}
 use Rattle.pdh_bits.specs.Bits.{bits_of}
@@ -11,13 +11,15 @@ use Rattle.pdh_shape.specs.Sets.{e2}
 use Rattle.pdh_line.specs.Tracking.{every_right}
 use Rattle.pdh_ops.specs.Names.{line_name, output_name, name_of}
 use Rattle.pdh_ops.specs.Demux.{frames_of, line_of, demuxed, output_of}
-use Rattle.pdh_ops.specs.Steps.{AreOutputs, IsFramesCause, IsWriteStop}
-use Rattle.pdh_ops.specs.Commands.{Files, IsOutput, AreTold, output_bytes, comes_to}
-use Rattle.pdh_ops.specs.Run.{AreCut, ChangesOnly, Performs, GoesOn}
+use Rattle.pdh_ops.specs.Steps.{AreOutputs, IsFramesCause}
+use Rattle.pdh_ops.specs.Writing.{IsWriteStop}
+use Rattle.pdh_ops.specs.Mux.{Files}
+use Rattle.pdh_ops.specs.Commands.{IsOutput, AreTold, output_bytes, comes_to}
+use Rattle.pdh_ops.specs.Run.{AreCut, ChangesOnly, Performs, GoesOn, reaches_outputs}
 use Rattle.pdh_ops.specs.declared.command.Command.TheVariants.{Demux}
 use Rattle.pdh_ops.specs.declared.answer.Done.TheVariants.{Demuxed}
 use Rattle.pdh_ops.specs.declared.answer.Stop.{Stop}
-use Rattle.pdh_ops.specs.declared.answer.Stop.TheVariants.{Memory, Usage, Read, Write, Missing, NotYet}
+use Rattle.pdh_ops.specs.declared.answer.Stop.TheVariants.{Memory, Usage, Read, Write, Missing, LongSchedule, BadRow, UnknownNode, CountOver, Short, Overflow, Underflow, ManyFrames, NotYet}
 use Rattle.pdh_ops.proofs.OutputNames.{output_name-differs}
 use Rattle.pdh_ops.proofs.Touching.{fails_since}
 use Rattle.pdh_ops.proofs.LineComes.{comes_of, demuxed-wrong, demuxed-right}
@@ -95,14 +97,14 @@ all_others a b c d looks starts appends = record {
 }
 
 bytes_of_line : (line : List ℕ) (files : Files) (leaf : ℕ) → files line_name ≡ Some line → output_of line leaf ≡ output_bytes Demux files leaf
-bytes_of_line line files leaf e = sym (ap (λ (h : Option (List ℕ)). option_map_or (λ line. output_of line leaf) h []) e)
+bytes_of_line line files leaf e = sym (ap (λ (h : Option (List ℕ)). output_of (unwrap_or h []) leaf) e)
 
 comes_right : (a : ShelfState) (line : List ℕ) (files : Files) → Holds (a.told line_name) line → line_of (Some line) ≡ Ok line → every_right e2 (bits_of line) ≡ true →
     AreTold Demux a.told files → comes_to Demux files ≡ Ok (Demuxed (frames_of line))
 comes_right a line files holds served right told = comes_of (files line_name) line demuxed (line_told a line files holds told) served ∙ demuxed-right line right
 
 goes_on : (a : ShelfState) (line : List ℕ) → Holds (a.told line_name) line → line_of (Some line) ≡ Ok line → every_right e2 (bits_of line) ≡ true → GoesOn Demux a
-goes_on a line holds served right files told = subst IsOk (sym (comes_right a line files holds served right told)) refl
+goes_on a line holds served right files told = ap reaches_outputs (comes_right a line files holds served right told)
 
 pub frames_refused : (a b : ShelfState) (line bytes : List ℕ) (stop : Stop) → Looks a b → Holds (a.told line_name) line → line_of (Some line) ≡ Ok line → bytes ≡ line → IsFramesCause bytes stop → Performs Demux a b (Err stop)
 frames_refused a b line bytes Memory looks holds served same cause = record { cause = tt; outputs = looks.told; others = looks_others (IsOutput Demux) a b looks }
@@ -115,6 +117,14 @@ frames_refused a b line bytes Usage looks holds served same cause = absurd cause
 frames_refused a b line bytes (Read file) looks holds served same cause = absurd cause
 frames_refused a b line bytes (Write file) looks holds served same cause = absurd cause
 frames_refused a b line bytes (Missing file) looks holds served same cause = absurd cause
+frames_refused a b line bytes LongSchedule looks holds served same cause = absurd cause
+frames_refused a b line bytes (BadRow l) looks holds served same cause = absurd cause
+frames_refused a b line bytes (UnknownNode l) looks holds served same cause = absurd cause
+frames_refused a b line bytes (CountOver l n m) looks holds served same cause = absurd cause
+frames_refused a b line bytes (Short f h n) looks holds served same cause = absurd cause
+frames_refused a b line bytes (Overflow p) looks holds served same cause = absurd cause
+frames_refused a b line bytes (Underflow p) looks holds served same cause = absurd cause
+frames_refused a b line bytes (ManyFrames n) looks holds served same cause = absurd cause
 
 pub start_refused : (a b c : ShelfState) (line bytes : List ℕ) (stop : Stop) → Looks a b → TouchesOnly (IsOutput Demux) b c → Holds (a.told line_name) line → line_of (Some line) ≡ Ok line →
     bytes ≡ line → every_right e2 (bits_of bytes) ≡ true → IsWriteStop b c stop → AreCut Demux b c → Performs Demux a c (Err stop)
@@ -139,6 +149,14 @@ start_refused a b c line bytes Memory looks starts holds served same right cause
 start_refused a b c line bytes Usage looks starts holds served same right cause cut = absurd cause
 start_refused a b c line bytes (Read file) looks starts holds served same right cause cut = absurd cause
 start_refused a b c line bytes (Missing file) looks starts holds served same right cause cut = absurd cause
+start_refused a b c line bytes LongSchedule looks starts holds served same right cause cut = absurd cause
+start_refused a b c line bytes (BadRow l) looks starts holds served same right cause cut = absurd cause
+start_refused a b c line bytes (UnknownNode l) looks starts holds served same right cause cut = absurd cause
+start_refused a b c line bytes (CountOver l n m) looks starts holds served same right cause cut = absurd cause
+start_refused a b c line bytes (Short f h n) looks starts holds served same right cause cut = absurd cause
+start_refused a b c line bytes (Overflow p) looks starts holds served same right cause cut = absurd cause
+start_refused a b c line bytes (Underflow p) looks starts holds served same right cause cut = absurd cause
+start_refused a b c line bytes (ManyFrames n) looks starts holds served same right cause cut = absurd cause
 start_refused a b c line bytes NotYet looks starts holds served same right cause cut = absurd cause
 
 pub append_refused : (a b c d : ShelfState) (line bytes : List ℕ) (outs : List (Vec ℕ Global)) (e : Vec ℕ Global) (stop : Stop) → Looks a b → TouchesOnly (IsOutput Demux) b c → TouchesOnly (IsOutput Demux) c d →
@@ -158,6 +176,14 @@ append_refused a b c d line bytes outs e Memory looks starts appends holds serve
 append_refused a b c d line bytes outs e Usage looks starts appends holds served same right are cause prefixes = absurd cause
 append_refused a b c d line bytes outs e (Read file) looks starts appends holds served same right are cause prefixes = absurd cause
 append_refused a b c d line bytes outs e (Missing file) looks starts appends holds served same right are cause prefixes = absurd cause
+append_refused a b c d line bytes outs e LongSchedule looks starts appends holds served same right are cause prefixes = absurd cause
+append_refused a b c d line bytes outs e (BadRow l) looks starts appends holds served same right are cause prefixes = absurd cause
+append_refused a b c d line bytes outs e (UnknownNode l) looks starts appends holds served same right are cause prefixes = absurd cause
+append_refused a b c d line bytes outs e (CountOver l n m) looks starts appends holds served same right are cause prefixes = absurd cause
+append_refused a b c d line bytes outs e (Short f h n) looks starts appends holds served same right are cause prefixes = absurd cause
+append_refused a b c d line bytes outs e (Overflow p) looks starts appends holds served same right are cause prefixes = absurd cause
+append_refused a b c d line bytes outs e (Underflow p) looks starts appends holds served same right are cause prefixes = absurd cause
+append_refused a b c d line bytes outs e (ManyFrames n) looks starts appends holds served same right are cause prefixes = absurd cause
 append_refused a b c d line bytes outs e NotYet looks starts appends holds served same right are cause prefixes = absurd cause
 
 pub done : (a b c d : ShelfState) (line bytes : List ℕ) (outs : List (Vec ℕ Global)) (e : Vec ℕ Global) → Looks a b → TouchesOnly (IsOutput Demux) b c → TouchesOnly (IsOutput Demux) c d →

@@ -3,3 +3,9 @@ pub mod Touching
 pub mod LineComes
 pub mod Causes
 pub mod DemuxFiles
+pub mod Texts
+pub mod MuxComes
+pub mod Lists
+pub mod MuxMade
+pub mod MuxFiles
+pub mod MuxGivesBack

@@ -1,13 +1,13 @@
--- The names of outputs differ.
+-- The names of files differ.
 use Rattle.std.proofs.Common.{◌≡◌, ◌≢◌, ℕ, ◌+◌, ◌/◌, ◌%◌, ◌<◌, get_or, refl, ap, arith}
-use Rattle.pdh_ops.specs.Names.{output_name}
+use Rattle.pdh_ops.specs.Names.{output_name, numbered_name}
 
 tens : (a : ℕ) → get_or (output_name a) 1 0 ≡ 48 + (a + 1) / 10 % 10
-unfolding output_name
+unfolding numbered_name
 tens a = refl
 
 units : (a : ℕ) → get_or (output_name a) 2 0 ≡ 48 + (a + 1) % 10
-unfolding output_name
+unfolding numbered_name
 units a = refl
 
 -- two digits tell the numbers below 100 apart

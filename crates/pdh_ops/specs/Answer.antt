@@ -1,10 +1,12 @@
 -- What a run answers: its status and its text.
 use Rattle.std.specs.Prelude.{ℕ, List, ◌++◌, codes, decimal, Result, Ok, Err}
+use Rattle.pdh_shape.specs.declared.place.Place.{Place}
+use Rattle.pdh_words.specs.Paths.{path_text}
 use Rattle.pdh_ops.specs.Names.{name_of}
 use Rattle.pdh_ops.specs.declared.answer.Done.{Done}
-use Rattle.pdh_ops.specs.declared.answer.Done.TheVariants.{Demuxed}
+use Rattle.pdh_ops.specs.declared.answer.Done.TheVariants.{Demuxed, Muxed}
 use Rattle.pdh_ops.specs.declared.answer.Stop.{Stop}
-use Rattle.pdh_ops.specs.declared.answer.Stop.TheVariants.{Memory, Usage, Read, Write, Missing, NotYet}
+use Rattle.pdh_ops.specs.declared.answer.Stop.TheVariants.{Memory, Usage, Read, Write, Missing, LongSchedule, BadRow, UnknownNode, CountOver, Short, Overflow, Underflow, ManyFrames, NotYet}
 
 -- what was done, or why not
 abbrev pub Answer : Type 0
@@ -21,11 +23,25 @@ status_of Usage = 2
 status_of (Read file) = 3
 status_of (Write file) = 4
 status_of (Missing file) = 5
+status_of LongSchedule = 6
+status_of (BadRow line) = 6
+status_of (UnknownNode line) = 6
+status_of (CountOver line count most) = 6
+status_of (Short file have need) = 7
+status_of (Overflow place) = 8
+status_of (Underflow place) = 8
+status_of (ManyFrames frames) = 10
 status_of NotYet = 13
+
+-- a place as texts have it: tributaries are counted from 1, frames and slots from 0
+abbrev pub place_text : Place → List ℕ
+place_text place =
+    path_text place.path ++ codes " tributary " ++ decimal place.trib ++ codes " frame " ++ decimal place.frame ++ codes " slot " ++ decimal place.slot
 
 -- each text is one line
 abbrev pub done_text : Done → List ℕ
 done_text (Demuxed frames) = codes "demux e12: frames " ++ decimal frames ++ codes "\n"
+done_text (Muxed frames) = codes "mux e12: frames " ++ decimal frames ++ codes "\n"
 
 abbrev pub stop_text : Stop → List ℕ
 stop_text Memory = codes "memory\n"
@@ -33,6 +49,14 @@ stop_text Usage = codes "usage: pdh mux demux clock inspect show e1pack e1unpack
 stop_text (Read file) = codes "read fault: " ++ name_of file ++ codes "\n"
 stop_text (Write file) = codes "write fault: " ++ name_of file ++ codes "\n"
 stop_text (Missing file) = codes "missing: " ++ name_of file ++ codes "\n"
+stop_text LongSchedule = codes "schedule: too long\n"
+stop_text (BadRow line) = codes "schedule: line " ++ decimal line ++ codes ": bad row\n"
+stop_text (UnknownNode line) = codes "schedule: line " ++ decimal line ++ codes ": unknown node\n"
+stop_text (CountOver line count most) = codes "schedule: line " ++ decimal line ++ codes ": count " ++ decimal count ++ codes " over " ++ decimal most ++ codes "\n"
+stop_text (Short file have need) = codes "short: " ++ name_of file ++ codes ": have " ++ decimal have ++ codes " bits, need " ++ decimal need ++ codes "\n"
+stop_text (Overflow place) = codes "overflow: " ++ place_text place ++ codes "\n"
+stop_text (Underflow place) = codes "underflow: " ++ place_text place ++ codes "\n"
+stop_text (ManyFrames frames) = codes "too many frames: " ++ decimal frames ++ codes "\n"
 stop_text NotYet = codes "not yet: line.bits\n"
 
 abbrev pub text_of : Answer → List ℕ

@@ -1,6 +1,11 @@
 pub mod Names
 pub mod Answer
 pub mod Demux
+pub mod Mux
 pub mod Commands
 pub mod Run
+pub mod Reading
+pub mod Writing
 pub mod Steps
+pub mod MuxSteps
+pub mod GivesBack

@@ -1,7 +1,7 @@
 -- The names of the files.
 use Rattle.std.specs.Prelude.{ℕ, ◌+◌, ◌/◌, ◌%◌, List, [], ◌∷◌, ◌++◌, codes}
 use Rattle.pdh_ops.specs.declared.file.File.{File}
-use Rattle.pdh_ops.specs.declared.file.File.TheVariants.{Line, Output}
+use Rattle.pdh_ops.specs.declared.file.File.TheVariants.{Line, Schedule, Leaf, Output}
 
 -- the last two decimal digits of a number
 abbrev pub two_digits : ℕ → List ℕ
@@ -11,10 +11,24 @@ two_digits n = (48 + n / 10 % 10) ∷ (48 + n % 10) ∷ []
 unfoldable pub line_name : List ℕ
 line_name = codes "line.bits"
 
--- the output of a leaf, counted from 0 here and from 1 in its name
-unfoldable pub output_name : ℕ → List ℕ
-output_name leaf = codes "o" ++ two_digits (leaf + 1) ++ codes ".bits"
+-- how many bits of each tributary arrive in each frame
+unfoldable pub schedule_name : List ℕ
+schedule_name = codes "schedule.txt"
+
+-- a file of a leaf, counted from 0 here and from 1 in its name
+unfoldable pub numbered_name : List ℕ → ℕ → List ℕ
+numbered_name letter leaf = letter ++ two_digits (leaf + 1) ++ codes ".bits"
+
+-- a leaf's bits
+abbrev pub leaf_name : ℕ → List ℕ
+leaf_name leaf = numbered_name (codes "t") leaf
+
+-- what a leaf received
+abbrev pub output_name : ℕ → List ℕ
+output_name leaf = numbered_name (codes "o") leaf
 
 abbrev pub name_of : File → List ℕ
 name_of Line = line_name
+name_of Schedule = schedule_name
+name_of (Leaf leaf) = leaf_name leaf
 name_of (Output leaf) = output_name leaf

@@ -1,13 +1,14 @@
 -- What a run does, whatever its command.
-use Rattle.std.specs.Prelude.{◌≡◌, ◌⊎◌, ℕ, ◌<◌, ◌≤◌, List, [], ⊤, Option, Some, None, IsOk, Ok, Err}
+use Rattle.std.specs.Prelude.{◌≡◌, ◌⊎◌, ℕ, ◌<◌, ◌≤◌, List, [], ⊤, Bool, true, false, Option, Some, None, Ok, Err}
 use Rattle.pdh_edge.specs.Files.{ShelfState, SinkState, Rose, FailsToRead, FailsToWrite, Holds, HoldsPrefix, Sends, FailsToSend}
 use Rattle.pdh_edge.specs.Files.Told.{Known}
 use Rattle.pdh_ops.specs.Names.{name_of}
+use Rattle.pdh_ops.specs.Mux.{Files}
 use Rattle.pdh_ops.specs.Answer.{Answer, status_of, done_text, stop_text}
-use Rattle.pdh_ops.specs.Commands.{Files, outputs, output_bytes, comes_to, AreTold, IsOutput}
+use Rattle.pdh_ops.specs.Commands.{outputs, output_bytes, comes_to, AreTold, IsOutput}
 use Rattle.pdh_ops.specs.declared.command.Command.{Command}
 use Rattle.pdh_ops.specs.declared.answer.Stop.{Stop}
-use Rattle.pdh_ops.specs.declared.answer.Stop.TheVariants.{Memory, Usage, Read, Write, Missing}
+use Rattle.pdh_ops.specs.declared.answer.Stop.TheVariants.{Memory, Usage, Read, Write, Missing, Overflow, Underflow}
 
 -- ---- why a command answers
 
@@ -15,9 +16,15 @@ use Rattle.pdh_ops.specs.declared.answer.Stop.TheVariants.{Memory, Usage, Read, 
 abbrev pub Comes : Command → ShelfState → Answer → Type 0
 Comes command old answer = (files : Files) → AreTold command old.told files → answer ≡ comes_to command files
 
--- where its inputs are told, no step before the outputs refuses them
+-- no step before the outputs refuses the inputs; an event of a store comes in the run, behind the start of the outputs
+abbrev pub reaches_outputs : Answer → Bool
+reaches_outputs (Ok done) = true
+reaches_outputs (Err (Overflow place)) = true
+reaches_outputs (Err (Underflow place)) = true
+reaches_outputs (Err stop) = false
+
 abbrev pub GoesOn : Command → ShelfState → Type 0
-GoesOn command old = (files : Files) → AreTold command old.told files → IsOk (comes_to command files)
+GoesOn command old = (files : Files) → AreTold command old.told files → reaches_outputs (comes_to command files) ≡ true
 
 -- Why a command stops. Want of memory has no cause here; a fault of the shelf has risen in its count, and the name is
 -- that of the call which failed; every other stop is what the inputs come to.
@@ -58,10 +65,12 @@ pub record AreCut (command : Command) (old new : ShelfState) : Type 0 where
   pub next : started < (outputs command).count → IsSame command old new started ⊎ (new.told ((outputs command).name started) ≡ Known (Some []))
   pub later : (i : ℕ) → started < i → i < (outputs command).count → IsSame command old new i
 
--- How an answer leaves the files. What refuses before the first start leaves them as they were; a read may fail before
--- that, or after all outputs are started.
+-- How an answer leaves the files. What was done and an event of a store leave whole outputs; what refuses before the
+-- first start leaves the files as they were; a read may fail before that, or after all outputs are started.
 abbrev pub AreLeft : Command → ShelfState → ShelfState → Answer → Type 0
 AreLeft command old new (Ok done) = AreWhole command old new
+AreLeft command old new (Err (Overflow place)) = AreWhole command old new
+AreLeft command old new (Err (Underflow place)) = AreWhole command old new
 AreLeft command old new (Err (Read file)) = (new.told ≡ old.told) ⊎ AreBegun (outputs command).count command old new
 AreLeft command old new (Err (Write file)) = AreCut command old new
 AreLeft command old new (Err stop) = new.told ≡ old.told

@@ -1,4 +1,6 @@
 use crate::file::File;
+use pdh_clock::ScheduleFault;
+use pdh_shape::Place;
 use std::alloc::AllocError;
 
 /// What a command did, with the numbers of its text.
@@ -6,9 +8,11 @@ use std::alloc::AllocError;
 pub enum Done {
     /// `demux e12`, with the whole frames of the line.
     Demuxed(u64),
+    /// `mux e12`, with the frames of the line.
+    Muxed(u64),
 }
 
-/// Why a command ended early.
+/// Why a command ended early. Lines of a text are counted from 1.
 #[derive(Clone, Copy, Debug, PartialEq, Eq)]
 pub enum Stop {
     /// Memory was wanting.
@@ -21,6 +25,22 @@ pub enum Stop {
     Write(File),
     /// This input isn't held.
     Missing(File),
+    /// The schedule's text is longer than 33,554,432 bytes.
+    LongSchedule,
+    /// The line of that number is no row of a schedule.
+    BadRow(u32),
+    /// The row in the line of that number is of a node that the chain doesn't have.
+    UnknownNode(u32),
+    /// A row's count is above the slots of a frame: the line, the count, and the slots.
+    CountOver(u32, u64, u32),
+    /// A file has fewer bits than the command needs: how many it has, and how many it must have.
+    Short(File, u64, u64),
+    /// A bit arrived at a full elastic store.
+    Overflow(Place),
+    /// A slot carried a bit of an empty elastic store.
+    Underflow(Place),
+    /// The line has more frames than 16,384.
+    ManyFrames(u64),
     /// The line is of a form that isn't demultiplexed yet.
     NotYet,
 }
@@ -39,6 +59,14 @@ impl Stop {
             Stop::Read(_) => 3,
             Stop::Write(_) => 4,
             Stop::Missing(_) => 5,
+            Stop::LongSchedule => 6,
+            Stop::BadRow(_) => 6,
+            Stop::UnknownNode(_) => 6,
+            Stop::CountOver(_, _, _) => 6,
+            Stop::Short(_, _, _) => 7,
+            Stop::Overflow(_) => 8,
+            Stop::Underflow(_) => 8,
+            Stop::ManyFrames(_) => 10,
             Stop::NotYet => 13,
         }
     }
@@ -52,5 +80,22 @@ impl From<AllocError> for Stop {
 
     fn from(_: AllocError) -> Self {
         Stop::Memory
+    }
+}
+
+impl From<ScheduleFault> for Stop {
+    ghost use Rattle.std.specs.Prelude.{◌≡◌};
+    ghost use Rattle.pdh_ops.specs.Mux.{stop_of_fault};
+
+    ghost from_gives = { λ fault e. e ≡ stop_of_fault fault };
+
+    fn from(fault: ScheduleFault) -> Self {
+        match fault {
+            ScheduleFault::TooLong { .. } => Stop::LongSchedule,
+            ScheduleFault::BadRow { line } => Stop::BadRow(line),
+            ScheduleFault::UnknownNode { line } => Stop::UnknownNode(line),
+            ScheduleFault::CountOver { line, count, most } => Stop::CountOver(line, count, most),
+            ScheduleFault::Memory => Stop::Memory,
+        }
     }
 }

@@ -1,7 +1,7 @@
 ghost use Rattle.std.specs.Prelude.{◌≡◌, ◌<◌, ◌≤◌, ℕ, [], length, true, IfOk, OnOk, OnErr, IfErr, Some, Ok, Vec, slice_index_or};
 ghost use Rattle.std.specs.declared.alloc.Global.{Global};
 ghost use Rattle.pdh_bits.specs.Bits.{bits_of as bits_in};
-ghost use Rattle.pdh_edge.specs.Files.{Touches, TouchesOnly, Starts, FailsToStart, Appends, FailsToAppend, Holds, HoldsPrefix};
+ghost use Rattle.pdh_edge.specs.Files.{TouchesOnly, Holds, HoldsPrefix};
 ghost use Rattle.pdh_shape.specs.Sets.{e2};
 ghost use Rattle.pdh_line.specs.Tracking.{every_right as is_every_right};
 ghost use Rattle.pdh_ops.specs.Names.{output_name};
@@ -9,10 +9,12 @@ ghost use Rattle.pdh_ops.specs.Demux.{line_of, output_of};
 ghost use Rattle.pdh_ops.specs.Commands.{IsOutput};
 ghost use Rattle.pdh_ops.specs.Run.{AreCut, Performs};
 ghost use Rattle.pdh_ops.specs.declared.command.Command.TheVariants.{Demux};
-ghost use Rattle.pdh_ops.specs.Steps.{AreOutputs, IsFramesCause, IsWriteStop};
+ghost use Rattle.pdh_ops.specs.Steps.{AreOutputs, IsFramesCause};
+ghost use Rattle.pdh_ops.specs.Writing.{IsWriteStop};
 
 use crate::answer::{Done, Stop};
 use crate::file::File;
+use crate::files::{append, start};
 use crate::line::read_line;
 use pdh_bits::{bits_of, bytes_of};
 use pdh_edge::Shelf;
@@ -41,32 +43,6 @@ fn outputs(alloc: Global, line: &[u8]) -> Result<Vec<Vec<u8>>, Stop>
     Ok(outputs)
 }
 
-// Makes an output empty.
-fn start<S: Shelf>(shelf: &mut S, leaf: u8) -> Result<(), Stop>
-    ensures kept { Touches (output_name leaf) (S.state shelf.old) (S.state shelf.new) }
-    ensures ok { OnOk result (Starts (output_name leaf) (S.state shelf.old) (S.state shelf.new)) }
-    ensures err { IfErr result (λ stop. (stop ≡ Stop.Write (File.Output leaf)) × FailsToStart (output_name leaf) (S.state shelf.old) (S.state shelf.new)) }
-{
-    let file = File::Output(leaf);
-    match shelf.start(file.name().as_str()) {
-        Ok(()) => Ok(()),
-        Err(_) => Err(Stop::Write(file)),
-    }
-}
-
-// Adds the bytes of an output.
-fn append<S: Shelf>(shelf: &mut S, leaf: u8, bytes: &[u8]) -> Result<(), Stop>
-    ensures kept { Touches (output_name leaf) (S.state shelf.old) (S.state shelf.new) }
-    ensures ok { OnOk result (Appends (output_name leaf) bytes.now (S.state shelf.old) (S.state shelf.new)) }
-    ensures err { IfErr result (λ stop. (stop ≡ Stop.Write (File.Output leaf)) × FailsToAppend (output_name leaf) bytes.now (S.state shelf.old) (S.state shelf.new)) }
-{
-    let file = File::Output(leaf);
-    match shelf.append(file.name().as_str(), bytes) {
-        Ok(()) => Ok(()),
-        Err(_) => Err(Stop::Write(file)),
-    }
-}
-
 // Makes the outputs empty, in order.
 fn start_all<S: Shelf>(shelf: &mut S) -> Result<(), Stop>
     ensures kept { TouchesOnly (IsOutput Demux) (S.state shelf.old) (S.state shelf.new) }
@@ -75,7 +51,7 @@ fn start_all<S: Shelf>(shelf: &mut S) -> Result<(), Stop>
     ensures cut { OnErr result (AreCut Demux (S.state shelf.old) (S.state shelf.new)) }
 {
     for leaf in 0..4 {
-        start(shelf, leaf)?;
+        start(shelf, File::Output(leaf))?;
     }
     Ok(())
 }
@@ -92,7 +68,7 @@ fn append_all<S: Shelf>(shelf: &mut S, outputs: &[Vec<u8>]) -> Result<(), Stop>
         → HoldsPrefix ((S.state shelf.new).told (output_name leaf)) (slice_index_or outputs.now leaf d).items) }
 {
     for leaf in 0..4 {
-        append(shelf, leaf, &outputs[leaf as usize])?;
+        append(shelf, File::Output(leaf), &outputs[leaf as usize])?;
     }
     Ok(())
 }

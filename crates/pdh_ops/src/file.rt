@@ -1,5 +1,5 @@
 ghost use Rattle.std.specs.Prelude.{◌≡◌, ◌+◌, ◌%◌, ◌≤◌, length};
-ghost use Rattle.pdh_ops.specs.Names.{line_name as name_of_line, output_name as name_of_output};
+ghost use Rattle.pdh_ops.specs.Names.{line_name as name_of_line, schedule_name as name_of_schedule, numbered_name as name_of_numbered};
 
 use arrayvec::ArrayString;
 
@@ -8,7 +8,11 @@ use arrayvec::ArrayString;
 pub enum File {
     /// The recorded line.
     Line,
-    /// The output of a leaf, counted from 0.
+    /// How many bits of each tributary arrive in each frame.
+    Schedule,
+    /// The bits of a leaf, counted from 0.
+    Leaf(u8),
+    /// What a leaf received, counted from 0.
     Output(u8),
 }
 
@@ -22,15 +26,16 @@ fn digit(n: u16) -> char
     char::from(b'0' + (n % 10) as u8)
 }
 
-// The name of a leaf's output, with the last two digits of the leaf's number from 1.
-#[tactic(auto, unfolding(crate::specs::Names::output_name))]
-fn output_name(leaf: u8) -> Name
-    ensures value { result.bytes ≡ name_of_output leaf }
+// The name of a leaf's file: a letter, and the last two digits of the leaf's number from 1.
+#[tactic(auto, unfolding(crate::specs::Names::numbered_name))]
+fn numbered_name(letter: &str, leaf: u8) -> Name
+    requires { length letter.now ≡ 1 }
+    ensures value { result.bytes ≡ name_of_numbered letter.now leaf }
     ensures short { length result.bytes ≡ 8 }
 {
     let number = u16::from(leaf) + 1;
     let mut name = Name::new();
-    name.push_str("o");
+    name.push_str(letter);
     name.push(digit(number / 10));
     name.push(digit(number));
     name.push_str(".bits");
@@ -48,6 +53,17 @@ fn line_name() -> Name
     name
 }
 
+// The name of the schedule.
+#[tactic(auto, unfolding(crate::specs::Names::schedule_name))]
+fn schedule_name() -> Name
+    ensures value { result.bytes ≡ name_of_schedule }
+    ensures short { length result.bytes ≡ 12 }
+{
+    let mut name = Name::new();
+    name.push_str("schedule.txt");
+    name
+}
+
 impl File {
     ghost use Rattle.pdh_ops.specs.Names.{name_of};
 
@@ -58,7 +74,9 @@ impl File {
     {
         match self {
             File::Line => line_name(),
-            File::Output(leaf) => output_name(leaf),
+            File::Schedule => schedule_name(),
+            File::Leaf(leaf) => numbered_name("t", leaf),
+            File::Output(leaf) => numbered_name("o", leaf),
         }
     }
 }

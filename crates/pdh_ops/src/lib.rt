@@ -5,7 +5,11 @@ mod answer;
 mod command;
 mod demux;
 mod file;
+mod files;
 mod line;
+mod mux;
+#[cfg(test)]
+mod mux_tests;
 mod program;
 mod report;
 #[cfg(test)]

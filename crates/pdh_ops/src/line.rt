@@ -6,8 +6,12 @@ ghost use Rattle.pdh_ops.specs.Steps.{IsLineCause};
 
 use crate::answer::Stop;
 use crate::file::File;
+use crate::files::{read, size};
 use pdh_edge::Shelf;
 use std::alloc::Global;
+
+/// The most frames of a line.
+pub const MOST_FRAMES: u64 = 16_384;
 
 // The bytes of the line, if it has a number of frames that can be demultiplexed yet.
 pub fn read_line<S: Shelf>(alloc: Global, shelf: &mut S) -> Result<Vec<u8>, Stop>
@@ -16,19 +20,13 @@ pub fn read_line<S: Shelf>(alloc: Global, shelf: &mut S) -> Result<Vec<u8>, Stop
     ensures served { IfOk result (λ line. line_of (Some line.items) ≡ Ok line.items) }
     ensures err { IfErr result (IsLineCause (S.state shelf.old) (S.state shelf.new)) }
 {
-    let name = File::Line.name();
-    let bytes = match shelf.size(name.as_str()) {
-        Ok(Some(bytes)) => bytes,
-        Ok(None) => return Err(Stop::Missing(File::Line)),
-        Err(_) => return Err(Stop::Read(File::Line)),
-    };
+    let bytes = size(shelf, File::Line)?;
     let frames = bytes / 106;
-    if frames < 3 || frames > 16_384 {
+    if frames > MOST_FRAMES {
+        return Err(Stop::ManyFrames(frames));
+    }
+    if frames < 3 {
         return Err(Stop::NotYet);
     }
-    let mut line = vec![in alloc; 0u8; bytes as usize]?;
-    match shelf.read_at(name.as_str(), 0, &mut line) {
-        Ok(()) => Ok(line),
-        Err(_) => Err(Stop::Read(File::Line)),
-    }
+    read(alloc, shelf, File::Line, bytes)
 }

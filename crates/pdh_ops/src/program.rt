@@ -2,10 +2,12 @@ ghost use Rattle.std.specs.Prelude.{◌≡◌, map};
 ghost use Rattle.std.specs.String.{string_bytes};
 ghost use Rattle.pdh_ops.specs.Commands.{command_of};
 ghost use Rattle.pdh_ops.specs.Run.{Performs, Does, Runs, Completes};
+ghost use Rattle.pdh_ops.specs.GivesBack.{GivesBack};
 
 use crate::answer::{Done, Stop};
 use crate::command::Command;
 use crate::demux::demux;
+use crate::mux::mux;
 use crate::report::report;
 use pdh_edge::{Shelf, Sink};
 use std::alloc::Global;
@@ -23,8 +25,11 @@ fn command(words: &[String]) -> Option<Command>
     ensures { result ≡ command_of (map string_bytes words.now) }
 {
     match words {
-        [first, second] if first.as_str() == "demux" && second.as_str() == "e12" => {
+        [first, second] if second.as_str() == "e12" && first.as_str() == "demux" => {
             Some(Command::Demux)
+        }
+        [first, second] if second.as_str() == "e12" && first.as_str() == "mux" => {
+            Some(Command::Mux)
         }
         _ => None,
     }
@@ -35,6 +40,7 @@ fn perform<S: Shelf>(alloc: Global, command: Command, shelf: &mut S) -> Result<D
 {
     match command {
         Command::Demux => demux(alloc, shelf),
+        Command::Mux => mux(alloc, shelf),
     }
 }
 
@@ -52,8 +58,10 @@ fn answer<S: Shelf>(alloc: Global, words: &[String], shelf: &mut S) -> Result<Do
 ///
 /// The statuses: 0, the command did its work; 1, memory was wanting; 2, the words are no row of the
 /// table; 3, a call of the shelf failed to read; 4, a call of the shelf failed to write, or the
-/// sink failed to take the text of status 0; 5, an input isn't held; 13, the line is of a form that
-/// isn't demultiplexed yet.
+/// sink failed to take the text of status 0; 5, an input isn't held; 6, the schedule's text has a
+/// fault; 7, a leaf's file has too few bits; 8, an elastic store overflows or underflows, and the line
+/// ends before that frame; 10, the line has too many frames; 13, the line is of a form that isn't
+/// demultiplexed yet.
 pub fn run<S: Shelf, K: Sink>(
     alloc: Global,
     words: &[String],
@@ -61,7 +69,9 @@ pub fn run<S: Shelf, K: Sink>(
     mut out: K,
 ) -> Ran<S, K>
     ensures runs { Runs (command_of (map string_bytes words.now)) (S.state shelf) (S.state result.shelf) (K.state out) (K.state result.out) result.status }
-    // The same, said of inputs that are told and of a shelf without faults.
+    // What `mux` wrote, `demux` gives back in order.
+    ensures gives_back { GivesBack (command_of (map string_bytes words.now)) (S.state shelf) (S.state result.shelf) result.status }
+    // The same as the first, said of inputs that are told and of a shelf without faults.
     ensures completes { Completes (command_of (map string_bytes words.now)) (S.state shelf) (S.state result.shelf) (K.state out) (K.state result.out) result.status }
 {
     let answer = answer(alloc, words, &mut shelf);

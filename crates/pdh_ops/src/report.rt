@@ -1,14 +1,18 @@
 ghost use Rattle.std.specs.Prelude.{◌≡◌, ◌≤◌, ◌++◌, length, decimal, codes};
-ghost use Rattle.pdh_ops.specs.Answer.{text_of, done_text as done_of, stop_text as stop_of};
+ghost use Rattle.pdh_ops.specs.Names.{name_of};
+ghost use Rattle.pdh_ops.specs.Answer.{text_of, done_text as done_of, stop_text as stop_of, place_text as place_of};
 ghost use Rattle.pdh_ops.specs.Run.{IsTold};
 
 use crate::answer::{Done, Stop};
+use crate::file::File;
 use pdh_edge::Sink;
+use pdh_shape::Place;
 use pdh_words::Text;
 
 // A line of a part and a number.
+#[tactic(auto, using(crate::proofs::Texts::digits))]
 fn counted(part: &str, n: u64) -> Text
-    requires { length part.now ≤ 299 }
+    requires { length part.now ≤ 100 }
     ensures { result ≡ part.now ++ decimal n ++ codes "\n" }
 {
     let mut text = Text::new();
@@ -18,39 +22,124 @@ fn counted(part: &str, n: u64) -> Text
     text
 }
 
+// A line of a part and a file's name.
+fn named(part: &str, file: File) -> Text
+    requires { length part.now ≤ 100 }
+    ensures { result ≡ part.now ++ name_of file ++ codes "\n" }
+{
+    let mut text = Text::new();
+    text.text(part);
+    text.text(file.name().as_str());
+    text.text("\n");
+    text
+}
+
+// A line of a part and a place.
+#[tactic(auto, using(crate::proofs::Texts::digits, crate::proofs::Texts::path_len))]
+fn placed(part: &str, place: Place) -> Text
+    requires { length part.now ≤ 100 }
+    ensures { result ≡ part.now ++ place_of place ++ codes "\n" }
+{
+    let mut text = Text::new();
+    text.text(part);
+    text.path(&place.path);
+    text.text(" tributary ");
+    text.number(u64::from(place.trib));
+    text.text(" frame ");
+    text.number(place.frame);
+    text.text(" slot ");
+    text.number(u64::from(place.slot));
+    text.text("\n");
+    text
+}
+
+// A line of a part alone.
+fn plain(part: &str) -> Text
+    requires { length part.now ≤ 100 }
+    ensures { result ≡ part.now ++ codes "\n" }
+{
+    let mut text = Text::new();
+    text.text(part);
+    text.text("\n");
+    text
+}
+
+// The line of a fault in a line of the schedule.
+#[tactic(auto, using(crate::proofs::Texts::digits))]
+fn faulty(line: u32, fault: &str) -> Text
+    requires { length fault.now ≤ 100 }
+    ensures { result ≡ codes "schedule: line " ++ decimal line ++ fault.now ++ codes "\n" }
+{
+    let mut text = Text::new();
+    text.text("schedule: line ");
+    text.number(u64::from(line));
+    text.text(fault);
+    text.text("\n");
+    text
+}
+
+// The line of a count that is above the slots of a frame.
+#[tactic(auto, using(crate::proofs::Texts::digits))]
+fn over(line: u32, count: u64, most: u32) -> Text
+    ensures { result ≡ codes "schedule: line " ++ decimal line ++ codes ": count " ++ decimal count ++ codes " over " ++ decimal most ++ codes "\n" }
+{
+    let mut text = Text::new();
+    text.text("schedule: line ");
+    text.number(u64::from(line));
+    text.text(": count ");
+    text.number(count);
+    text.text(" over ");
+    text.number(u64::from(most));
+    text.text("\n");
+    text
+}
+
+// The line of a file with too few bits.
+#[tactic(auto, using(crate::proofs::Texts::digits))]
+fn short(file: File, have: u64, need: u64) -> Text
+    ensures { result ≡ codes "short: " ++ name_of file ++ codes ": have " ++ decimal have ++ codes " bits, need " ++ decimal need ++ codes "\n" }
+{
+    let mut text = Text::new();
+    text.text("short: ");
+    text.text(file.name().as_str());
+    text.text(": have ");
+    text.number(have);
+    text.text(" bits, need ");
+    text.number(need);
+    text.text("\n");
+    text
+}
+
 fn done_text(done: Done) -> Text
     ensures { result ≡ done_of done }
 {
     match done {
         Done::Demuxed(frames) => counted("demux e12: frames ", frames),
+        Done::Muxed(frames) => counted("mux e12: frames ", frames),
     }
 }
 
 fn stop_text(stop: Stop) -> Text
     ensures { result ≡ stop_of stop }
 {
-    let mut text = Text::new();
     match stop {
-        Stop::Memory => text.text("memory"),
-        Stop::Usage => {
-            text.text("usage: pdh mux demux clock inspect show e1pack e1unpack disturb drill");
-        }
-        Stop::Read(file) => {
-            text.text("read fault: ");
-            text.text(file.name().as_str());
-        }
-        Stop::Write(file) => {
-            text.text("write fault: ");
-            text.text(file.name().as_str());
-        }
-        Stop::Missing(file) => {
-            text.text("missing: ");
-            text.text(file.name().as_str());
-        }
-        Stop::NotYet => text.text("not yet: line.bits"),
+        Stop::Memory => plain("memory"),
+        Stop::Usage => plain(
+            "usage: pdh mux demux clock inspect show e1pack e1unpack disturb drill",
+        ),
+        Stop::Read(file) => named("read fault: ", file),
+        Stop::Write(file) => named("write fault: ", file),
+        Stop::Missing(file) => named("missing: ", file),
+        Stop::LongSchedule => plain("schedule: too long"),
+        Stop::BadRow(line) => faulty(line, ": bad row"),
+        Stop::UnknownNode(line) => faulty(line, ": unknown node"),
+        Stop::CountOver(line, count, most) => over(line, count, most),
+        Stop::Short(file, have, need) => short(file, have, need),
+        Stop::Overflow(place) => placed("overflow: ", place),
+        Stop::Underflow(place) => placed("underflow: ", place),
+        Stop::ManyFrames(frames) => counted("too many frames: ", frames),
+        Stop::NotYet => plain("not yet: line.bits"),
     }
-    text.text("\n");
-    text
 }
 
 // The text of an answer, which is one line.

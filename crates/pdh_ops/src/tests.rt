@@ -49,7 +49,8 @@ fn shelf(alloc: Global, given: &Given) -> Result<MemShelf, AllocError> {
     Ok(shelf)
 }
 
-fn ran(
+/// Runs the program with these words.
+pub fn ran(
     alloc: Global,
     words: &[&str],
     shelf: MemShelf,
@@ -82,6 +83,12 @@ const USAGE: Expected = Expected {
 const NOT_YET: Expected = Expected {
     status: 13,
     text: b"not yet: line.bits\n",
+    outputs: NOTHING,
+};
+
+const MANY: Expected = Expected {
+    status: 10,
+    text: b"too many frames: 16385\n",
     outputs: NOTHING,
 };
 
@@ -153,7 +160,7 @@ fn answers(rt: HostRuntime) -> Result<(), Fail> {
         (FINE, DONE),
         (second, NOT_YET),
         (of_frames(2), NOT_YET),
-        (of_frames(16_385), NOT_YET),
+        (of_frames(16_385), MANY),
         (missing, MISSING),
         (failing(Call::Size, 0), READ_FAULT),
         (failing(Call::Read, 0), READ_FAULT),
@@ -188,11 +195,13 @@ fn answers(rt: HostRuntime) -> Result<(), Fail> {
 #[test]
 fn refuses_words(rt: HostRuntime) -> Result<(), Fail> {
     let alloc = rt.alloc();
-    let rows: [&[&str]; 6] = [
+    let rows: [&[&str]; 8] = [
         &[],
         &["demux"],
         &["demux", "e15"],
-        &["mux", "e12"],
+        &["mux"],
+        &["mux", "e15"],
+        &["mux", "e12", "feac", "3"],
         &["demux", "e12", "bent"],
         &["--help"],
     ];

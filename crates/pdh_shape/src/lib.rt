@@ -2,10 +2,12 @@
 #![tactic(auto)]
 
 mod e2;
+mod place;
 mod role;
 mod sets;
 mod shape;
 
 pub use e2::E2;
+pub use place::{Level, Path, Place};
 pub use role::{Duty, Mark, Marks, Role, Service};
 pub use shape::{Shape, majority};

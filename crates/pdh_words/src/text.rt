@@ -1,7 +1,9 @@
 ghost use Rattle.std.specs.Prelude.{◌≡◌, ◌+◌, ◌++◌, ◌≤◌, [], length, decimal};
+ghost use Rattle.pdh_words.specs.Paths.{path_text};
 
 use arrayvec::ArrayString;
 use itoa::Buffer;
+use pdh_shape::Path;
 use std::marker::Model;
 
 /// A text of at most 320 bytes. It takes no memory.
@@ -31,7 +33,8 @@ impl Text {
     /// Appends a part.
     pub fn text(&mut self, part: &str)
         requires { length self.old + length part.now ≤ 320 }
-        ensures { self.new ≡ self.old ++ part.now }
+        ensures bytes { self.new ≡ self.old ++ part.now }
+        ensures len { length self.new ≡ length self.old + length part.now }
     {
         self.held.push_str(part);
     }
@@ -40,10 +43,26 @@ impl Text {
     pub fn number(&mut self, n: u64)
         requires { length self.old + length (decimal n) ≤ 320 }
         ensures bytes { self.new ≡ self.old ++ decimal n }
-        ensures digits { length (decimal n) ≤ 20 }
+        ensures len { length self.new ≤ length self.old + 20 }
     {
         let mut buffer = Buffer::new();
         self.held.push_str(buffer.format(n));
+    }
+
+    /// Appends the text of a node's path: `/`, `/A` or `/A/B`.
+    pub fn path(&mut self, path: &Path)
+        requires { length self.old + length (path_text path.now) ≤ 320 }
+        ensures bytes { self.new ≡ self.old ++ path_text path.now }
+        ensures len { length self.new ≤ length self.old + 42 }
+    {
+        self.text("/");
+        if path.depth > 0 {
+            self.number(u64::from(path.first));
+        }
+        if path.depth > 1 {
+            self.text("/");
+            self.number(u64::from(path.second));
+        }
     }
 
     /// The bytes of the text.

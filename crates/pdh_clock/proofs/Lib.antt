@@ -1,0 +1,11 @@
+pub mod Splits
+pub mod Counting
+pub mod Joining
+pub mod Storing
+pub mod Tabled
+pub mod Located
+pub mod Adding
+pub mod Growing
+pub mod Beginning
+pub mod Worked
+pub mod Laws

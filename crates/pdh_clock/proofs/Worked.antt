@@ -1,0 +1,166 @@
+-- The definitions on worked texts.
+use Rattle.std.proofs.Common.{◌≡◌, ℕ, false, List, [], ◌∷◌, ◌++◌, Some, None, Result, Ok, Err, refl}
+use Rattle.std.specs.Prelude.{codes}
+use Rattle.pdh_shape.specs.declared.place.Level.{Level}
+use Rattle.pdh_clock.specs.declared.fault.ScheduleFault.{ScheduleFault}
+use Rattle.pdh_clock.specs.declared.fault.ScheduleFault.TheVariants.{BadRow, UnknownNode, CountOver}
+use Rattle.pdh_line.specs.Sending.{arrived}
+use Rattle.pdh_clock.specs.Text.{lines_of, words_of, number_of, path_of}
+use Rattle.pdh_clock.specs.Row.{Row}
+use Rattle.pdh_clock.specs.Chain.{nodes_of}
+use Rattle.pdh_clock.specs.Judged.{schedule_of}
+use Rattle.pdh_clock.specs.Contents.{Contents, frames_of, frame_count, counts}
+use Rattle.pdh_clock.specs.Begun.{frames_begun, shortage}
+
+-- a line and its line feed
+abbrev line : List ℕ → List ℕ
+line bytes = bytes ++ 10 ∷ []
+
+-- the level of one 8448 kbit/s multiplexer, and that of a 34368 kbit/s one
+abbrev e2 : Level
+e2 = record {
+  len = 848;
+  tribs = 4;
+  low = 205;
+  locked = false;
+  rate = 8448000;
+  per = 1;
+  ppm = 30;
+  trib_rate = 2048000;
+  trib_per = 1;
+  trib_ppm = 50;
+}
+
+abbrev e3 : Level
+e3 = record {
+  len = 1536;
+  tribs = 4;
+  low = 377;
+  locked = false;
+  rate = 34368000;
+  per = 1;
+  ppm = 20;
+  trib_rate = 8448000;
+  trib_per =
+      1;
+  trib_ppm = 30;
+}
+
+abbrev read : List ℕ → Result (List Row) ScheduleFault
+read text = schedule_of (e2 ∷ []) text
+
+-- a row of the top
+abbrev row : ℕ → List ℕ → Row
+row repeat counts = record { path = []; repeat = repeat; counts = counts }
+
+-- ---- lines, words, numbers and paths
+
+no_line : lines_of [] ≡ []
+no_line = refl
+
+last_line_feed_or_not : lines_of (line (codes "a") ++ line [] ++ line (codes "bc"))
+    ≡ lines_of (line (codes "a") ++ line [] ++ codes "bc")
+last_line_feed_or_not = refl
+
+three_lines : lines_of (line (codes "a") ++ line [] ++ codes "bc") ≡ codes "a" ∷ [] ∷ codes "bc" ∷ []
+three_lines = refl
+
+words_between_spaces : words_of (codes "/  12 ") ≡ codes "/" ∷ [] ∷ codes "12" ∷ [] ∷ []
+words_between_spaces = refl
+
+numbers : (number_of (codes "0") ≡ Some 0) × (number_of (codes "206") ≡ Some 206) × (number_of (codes "999999999") ≡ Some 999999999)
+numbers = (refl, refl, refl)
+
+no_numbers : (number_of [] ≡ None) × (number_of (codes "03") ≡ None) × (number_of (codes "1000000000") ≡ None) ×
+    (number_of (codes "+1") ≡ None)
+no_numbers = (refl, refl, refl, refl)
+
+paths : (path_of (codes "/") ≡ Some []) × (path_of (codes "/4") ≡ Some (4 ∷ [])) × (path_of (codes "/2/9") ≡ Some (2 ∷ 9 ∷ []))
+paths = (refl, refl, refl)
+
+no_paths : (path_of [] ≡ None) × (path_of (codes "1") ≡ None) × (path_of (codes "/0") ≡ None) × (path_of (codes "/1/") ≡ None)
+no_paths = (refl, refl, refl, refl)
+
+-- ---- texts and their rows
+
+one_row : read (codes "/ 3 206 206 206 206") ≡ Ok (row 3 (206 ∷ 206 ∷ 206 ∷ 206 ∷ []) ∷ [])
+unfolding schedule_of
+one_row = refl
+
+passed_over : read (line (codes "# two rows") ++ line [] ++ line (codes "/ 3 206 205 204 203") ++ line
+    (codes "#") ++ codes "/ 1 0 1 2 848")
+    ≡ Ok (row 3 (206 ∷ 205 ∷ 204 ∷ 203 ∷ []) ∷ row 1 (0 ∷ 1 ∷ 2 ∷ 848 ∷ []) ∷ [])
+unfolding schedule_of
+passed_over = refl
+
+-- ---- faults
+
+counted_lines : read (line (codes "#") ++ line [] ++ codes "/ 0 206 206 206 206") ≡ Err (BadRow 3)
+unfolding schedule_of
+counted_lines = refl
+
+form_before_node : read (codes "/1 x 206 206 206 206") ≡ Err (BadRow 1)
+unfolding schedule_of
+form_before_node = refl
+
+node_before_number_of_counts : read (codes "/1 3 206") ≡ Err (UnknownNode 1)
+unfolding schedule_of
+node_before_number_of_counts = refl
+
+number_of_counts_before_count : read (codes "/ 1 900 206 206") ≡ Err (BadRow 1)
+unfolding schedule_of
+number_of_counts_before_count = refl
+
+first_count_over : read (codes "/ 1 206 900 849 206") ≡ Err (CountOver 1 900 848)
+unfolding schedule_of
+first_count_over = refl
+
+one_over : read (codes "/ 1 849 206 206 206") ≡ Err (CountOver 1 849 848)
+unfolding schedule_of
+one_over = refl
+
+first_fault : read (line (codes "/ 1 206 206 206 206") ++ line (codes "/7 1 1 1 1 1") ++ codes "x") ≡ Err (UnknownNode 2)
+unfolding schedule_of
+first_fault = refl
+
+blanks : (read (codes "/ 3  206 206 206 206") ≡ Err (BadRow 1)) × (read (codes "/ 3 206 206 206 206 ") ≡ Err (BadRow 1)) ×
+    (read (line (13 ∷ [])) ≡ Err (BadRow 1))
+unfolding schedule_of
+blanks = (refl, refl, refl)
+
+-- ---- what a schedule gives a node
+
+-- two rows of the top and one of another node
+abbrev rows : List Row
+rows = row 2 (206 ∷ 205 ∷ []) ∷ record { path = 1 ∷ []; repeat = 5; counts = 7 ∷ 7 ∷ [] } ∷ row 1 (3 ∷ 4 ∷ []) ∷ []
+
+joined_rows : frames_of rows [] ≡ (206 ∷ 205 ∷ []) ∷ (206 ∷ 205 ∷ []) ∷ (3 ∷ 4 ∷ []) ∷ []
+unfolding frames_of
+joined_rows = refl
+
+rows_of_a_node : (frame_count rows [] ≡ 3) × (frame_count rows (1 ∷ []) ≡ 5) × (frame_count rows (2 ∷ []) ≡ 0)
+unfolding frames_of
+rows_of_a_node = (refl, refl, refl)
+
+counts_of_a_node : (counts rows [] 0 1 ≡ 206) × (counts rows [] 1 2 ≡ 4) × (counts rows (1 ∷ []) 1 4 ≡ 7)
+unfolding frames_of
+counts_of_a_node = (refl, refl, refl)
+
+totals : arrived (counts rows [] 1) 3 ≡ 414
+unfolding arrived frames_of
+totals = refl
+
+nodes_in_order : nodes_of (e3 ∷ e2 ∷ []) ≡ [] ∷ (1 ∷ []) ∷ (2 ∷ []) ∷ (3 ∷ []) ∷ (4 ∷ []) ∷ []
+nodes_in_order = refl
+
+-- three frames of a 34368 kbit/s top that brings 377 bits a frame begin two frames of its first tributary: 24 + 3 · 377 = 1155 bits
+abbrev below : Contents
+below = record { levels = e3 ∷ e2 ∷ []; rows = row 3 (377 ∷ 377 ∷ 377 ∷ 377 ∷ []) ∷ [] }
+
+begun_below : (frames_begun below 3 [] ≡ 3) × (frames_begun below 3 (1 ∷ []) ≡ 2) × (frames_begun below 0 (1 ∷ []) ≡ 0)
+unfolding arrived frames_of frames_begun
+begun_below = (refl, refl, refl)
+
+first_shortage : shortage below 3 ≡ Some (record { path = 1 ∷ []; have = 0; need = 2 })
+unfolding arrived frames_of frames_begun shortage
+first_shortage = refl

@@ -1,0 +1,28 @@
+use Rattle.std.proofs.Common.{◌≡◌, List, [], ◌∷◌, length, get_or, All, refl, sym, subst, arith}
+use Rattle.std.proofs.lemmas.List.Elements.{All-get_or}
+use Rattle.pdh_shape.specs.declared.place.Level.{Level}
+use Rattle.pdh_clock.specs.Text.{lines_of}
+use Rattle.pdh_clock.specs.Chain.{IsLevel}
+use Rattle.pdh_clock.specs.Stored.{rows_of}
+use Rattle.pdh_clock.specs.Contents.{IsRowOf}
+use Rattle.pdh_clock.proofs.Laws.{rows_judged_sound}
+use Rattle.pdh_clock.proofs.schedule.Schedule.read.Goals as goal
+
+-- a list of one level
+one_level : (levels : List Level) (d : Level) → length levels ≡ 1 → levels ≡ get_or levels 0 d ∷ []
+one_level [] d h = absurd (omega arith)
+one_level (level ∷ []) d h = refl
+one_level (level ∷ next ∷ levels) d h = absurd (omega arith)
+
+pub invariant_of-result : goal.invariant_of-result
+invariant_of-result c = record {
+  level_is = All-get_or IsLevel c.args.levels.now 0 _ (omega (arith, c.requires.one)) c.requires.each;
+  stored = c.in_ok-table.ensures.table;
+  tribs = c.in_ok-table.ensures.tribs;
+  rows = rows_judged_sound _ 1 (lines_of c.args.text.now) (rows_of c.in_ok-table.table) c.in_ok-table.ensures.rows;
+}
+
+pub returns-clause-sound : goal.returns-clause-sound
+returns-clause-sound c =
+    subst (λ levels. All (IsRowOf levels) (rows_of c.in_ok-table.table)) (sym (one_level c.args.levels.now _ c.requires.one))
+    (rows_judged_sound _ 1 (lines_of c.args.text.now) (rows_of c.in_ok-table.table) c.in_ok-table.ensures.rows)

@@ -1,0 +1,30 @@
+-- A schedule as its callers see it, and the counts that it gives a node.
+use Rattle.std.specs.Prelude.{◌≡◌, ℕ, ◌<◌, ◌≤◌, List, [], All, IsSome, length, filter, replicate, slice_index}
+use Rattle.std.specs.List.{flat_map, slice_index_or}
+use Rattle.pdh_shape.specs.declared.place.Level.{Level}
+use Rattle.pdh_clock.specs.Row.{Row}
+use Rattle.pdh_clock.specs.Chain.{same_path, level_at, stores_at, len_at}
+
+-- the levels of its chain, and its rows in order of lines
+pub record Contents : Type 0 where
+  pub levels : List Level
+  pub rows : List Row
+
+-- a row of a node of the levels: it is of some frames, and each store has a count that is no more than the bits of a frame
+pub record IsRowOf (levels : List Level) (row : Row) : Type 0 where
+  pub node : IsSome (level_at levels row.path)
+  pub some_frames : 0 < row.repeat
+  pub stores : length row.counts ≡ stores_at levels row.path
+  pub most : All (λ count. count ≤ len_at levels row.path) row.counts
+
+-- the counts of each frame of the node at a path: the counts of its rows, each as often as the row says
+unfoldable pub frames_of : List Row → List ℕ → List (List ℕ)
+frames_of rows path = flat_map (λ row. replicate row.repeat row.counts) (filter (λ row. same_path row.path path) rows)
+
+-- how many frames the node has
+abbrev pub frame_count : List Row → List ℕ → ℕ
+frame_count rows path = length (frames_of rows path)
+
+-- how many bits of a tributary, numbered from 0, arrive in each frame
+abbrev pub counts : List Row → List ℕ → ℕ → ℕ → ℕ
+counts rows path trib frame = slice_index (slice_index_or (frames_of rows path) frame []) trib

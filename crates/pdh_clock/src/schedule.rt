@@ -1,0 +1,144 @@
+//! Schedules.
+
+use crate::fault::ScheduleFault;
+use crate::reading::read_rows;
+use crate::table::Table;
+use pdh_shape::{Level, Path};
+use std::alloc::Global;
+use std::marker::Model;
+
+/// The most bytes that a schedule's text may have.
+pub const MOST_BYTES: usize = 33_554_432;
+
+/// How many bits of each tributary arrive in each frame of each node of a chain.
+#[derive(Drop)]
+pub struct Schedule {
+    level: Level,
+    table: Table,
+}
+
+impl Model for Schedule {
+    ghost use Rattle.std.specs.Prelude.{[], ◌∷◌};
+    ghost use Rattle.pdh_clock.specs.Contents.{Contents};
+    ghost use Rattle.pdh_clock.specs.Stored.{IsStored, rows_of};
+
+    ghost Value = { Contents };
+
+    ghost view = { λ s. record { levels = s.level ∷ []; rows = rows_of s.table } };
+
+    ghost invariant = { λ s. IsStored s.level s.table };
+}
+
+/// A node that has fewer frames than it is to begin.
+#[derive(Clone, Copy, Debug, PartialEq, Eq)]
+pub struct Short {
+    /// The node.
+    pub node: Path,
+    /// How many frames the schedule gives it.
+    pub have: u64,
+    /// How many frames it is to begin.
+    pub need: u64,
+}
+
+impl Schedule {
+    ghost use Rattle.std.specs.Prelude.{◌≡◌, ◌<◌, ◌≤◌, ◌*◌, [], All, IsNone, IsSome, IfOk, option_map, length};
+    ghost use Rattle.pdh_line.specs.Sending.{arrived};
+    ghost use Rattle.pdh_clock.specs.Chain.{AreLevels, steps_of, level_at, stores_at, len_at};
+    ghost use Rattle.pdh_clock.specs.Judged.{Gives, schedule_of};
+    ghost use Rattle.pdh_clock.specs.Contents.{IsRowOf, counts, frame_count};
+    ghost use Rattle.pdh_clock.specs.Stored.{IsTable, rows_of};
+    ghost use Rattle.pdh_clock.specs.Begun.{frames_begun, shortage, shortage_of};
+
+    /// Reads a schedule's text. Faults are those of the first line that has one, and memory may run out besides.
+    #[tactic(auto, unfolding(crate::specs::Judged::schedule_of))]
+    pub fn read(alloc: Global, levels: &[Level], text: &[u8]) -> Result<Schedule, ScheduleFault>
+        requires { AreLevels levels.now }
+        ensures rows { Gives (λ schedule. schedule.rows) result (schedule_of levels.now text.now) }
+        ensures levels { IfOk result (λ schedule. schedule.levels ≡ levels.now) }
+        ensures sound { IfOk result (λ schedule. All (IsRowOf levels.now) schedule.rows) }
+    {
+        if text.len() > MOST_BYTES {
+            return Err(ScheduleFault::TooLong {
+                len: text.len() as u64,
+            });
+        }
+        let level = levels[0];
+        let table = read_rows(alloc, &level, text)?;
+        Ok(Schedule { level, table })
+    }
+
+    /// The rows of a node. With one level the top is the one node.
+    fn table_of(&self, node: &Path) -> &Table
+        requires { IsSome (level_at self.now.levels (steps_of node.now)) }
+        ensures top { steps_of node.now ≡ [] }
+        ensures rows { rows_of result.now ≡ self.now.rows }
+        ensures table { IsTable result.now }
+        ensures sound { All (IsRowOf self.now.levels) self.now.rows }
+        ensures tribs { result.now.tribs ≡ stores_at self.now.levels (steps_of node.now) }
+    {
+        let table = &self.table;
+        prove!(node.depth == 0);
+        table
+    }
+
+    /// How many frames a node has.
+    pub fn frames(&self, node: &Path) -> u64
+        requires { IsSome (level_at self.now.levels (steps_of node.now)) }
+        ensures { result ≡ frame_count self.now.rows (steps_of node.now) }
+    {
+        self.table_of(node).frames()
+    }
+
+    /// How many bits of a tributary, counted from 0, arrive in a frame.
+    pub fn count(&self, node: &Path, frame: u64, trib: u8) -> u32
+        requires scheduled { frame < frame_count self.now.rows (steps_of node.now) }
+        requires in_range { trib < stores_at self.now.levels (steps_of node.now) }
+        ensures value { result ≡ counts self.now.rows (steps_of node.now) trib frame }
+        ensures most { result ≤ len_at self.now.levels (steps_of node.now) }
+    {
+        self.table_of(node).count(frame, usize::from(trib))
+    }
+
+    /// How many bits of a tributary, counted from 0, arrive in the first frames.
+    pub fn total(&self, node: &Path, frames: u64, trib: u8) -> u64
+        requires scheduled { frames ≤ frame_count self.now.rows (steps_of node.now) }
+        requires in_range { trib < stores_at self.now.levels (steps_of node.now) }
+        ensures value { result ≡ arrived (counts self.now.rows (steps_of node.now) trib) frames }
+        ensures most { result ≤ frames * len_at self.now.levels (steps_of node.now) }
+    {
+        self.table_of(node).total(frames, usize::from(trib))
+    }
+
+    /// The first node that has fewer frames than it begins while the top makes so many. A node comes before those
+    /// below it.
+    pub fn short(&self, top_frames: u64) -> Option<Short>
+        requires { top_frames ≤ frame_count self.now.rows [] }
+        ensures { option_map shortage_of result ≡ shortage self.now top_frames }
+    {
+        let top = Path {
+            depth: 0,
+            first: 0,
+            second: 0,
+        };
+        // The check learns here what holds of the one level.
+        let _ = &self.level;
+        let have = self.frames(&top);
+        (have < top_frames).then_some(Short {
+            node: top,
+            have,
+            need: top_frames,
+        })
+    }
+
+    /// How many frames a node begins while the top makes so many.
+    pub fn begun(&self, node: &Path, top_frames: u64) -> u64
+        requires node { IsSome (level_at self.now.levels (steps_of node.now)) }
+        requires enough { IsNone (shortage self.now top_frames) }
+        ensures { result ≡ frames_begun self.now top_frames (steps_of node.now) }
+    {
+        // The check learns here what holds of the one level: the top is its node, and its frames have bits.
+        let _ = &self.level;
+        prove!(node.depth == 0);
+        top_frames
+    }
+}

@@ -1,0 +1,85 @@
+//! The lines of a text, the words of a line, and the words that are numbers or paths.
+
+ghost use Rattle.std.specs.Prelude.{◌==◌, drop, position, ◌≡◌, ◌≢◌, ◌+◌, ◌<◌, ◌≤◌, ◌^◌, [], ◌∷◌, length, IfSome, option_map};
+ghost use Rattle.std.specs.Option.{option_copied};
+ghost use Rattle.std.specs.List.{before_first};
+ghost use Rattle.pdh_clock.specs.Text.{lines_of, words_of, number_of, path_of};
+ghost use Rattle.pdh_clock.specs.Chain.{steps_of};
+ghost use Rattle.pdh_clock.specs.Parsed.{left_len, words_left};
+
+use pdh_shape::Path;
+
+/// The place of the first byte that equals `mark`.
+fn position_of(bytes: &[u8], mark: u8) -> Option<usize>
+    ensures { result ≡ position (λ byte. byte == mark) bytes.now }
+{
+    bytes.iter().position(|byte| *byte == mark)
+}
+
+/// Splits bytes at the first one that equals `mark`, which stands in neither part.
+fn split_once(bytes: &[u8], mark: u8) -> (&[u8], Option<&[u8]>)
+    ensures front { result.0.now ≡ before_first (λ byte. byte == mark) bytes.now }
+    ensures rest { let end = position (λ byte. byte == mark) bytes.now in
+        option_copied result.1 ≡ option_map (λ end. drop (end + 1) bytes.now) end }
+{
+    match position_of(bytes, mark) {
+        Some(end) => (&bytes[..end], Some(&bytes[end + 1..])),
+        None => (bytes, None),
+    }
+}
+
+/// Splits a text that isn't empty into its first line and what follows the line feed.
+pub fn first_line(text: &[u8]) -> (&[u8], &[u8])
+    requires { text.now ≢ [] }
+    ensures lines { lines_of text.now ≡ result.0.now ∷ lines_of result.1.now }
+    ensures lens { length result.0.now + length result.1.now ≤ length text.now }
+    ensures shorter { length result.1.now < length text.now }
+{
+    let (line, rest) = split_once(text, b'\n');
+    (line, rest.unwrap_or(&[]))
+}
+
+/// Splits a line into its first word and what follows the space, where there is one.
+pub fn first_word(line: &[u8]) -> (&[u8], Option<&[u8]>)
+    ensures words { words_of line.now ≡ result.0.now ∷ words_left (option_copied result.1) }
+    ensures lens { length line.now ≡ length result.0.now + left_len (option_copied result.1) }
+{
+    split_once(line, b' ')
+}
+
+/// The number that a word writes: `0`, or a digit 1 to 9 and at most eight digits.
+pub fn number(word: &[u8]) -> Option<u32>
+    ensures value { result ≡ number_of word.now }
+    ensures small { IfSome result (λ value. value < 10 ^ 9) }
+    ensures some { IfSome result (λ _. 0 < length word.now) }
+{
+    if word.is_empty() || word.len() > 9 || (word[0] == b'0' && word.len() > 1) {
+        return None;
+    }
+    let mut value = 0;
+    for digit in word {
+        if !digit.is_ascii_digit() {
+            return None;
+        }
+        value = 10 * value + u32::from(*digit - b'0');
+    }
+    Some(value)
+}
+
+/// The path that a word writes: `/`, `/A` or `/A/B` with A and B from 1 to 9.
+pub fn path(word: &[u8]) -> Option<Path>
+    ensures steps { option_map steps_of result ≡ path_of word.now }
+    ensures some { IfSome result (λ _. 0 < length word.now) }
+{
+    let (depth, first, second) = match word {
+        [b'/'] => (0, b'0', b'0'),
+        [b'/', first @ b'1'..=b'9'] => (1, *first, b'0'),
+        [b'/', first @ b'1'..=b'9', b'/', second @ b'1'..=b'9'] => (2, *first, *second),
+        _ => return None,
+    };
+    Some(Path {
+        depth,
+        first: first - b'0',
+        second: second - b'0',
+    })
+}

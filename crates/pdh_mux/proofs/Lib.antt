@@ -1,0 +1,6 @@
+pub mod TributarySteps
+pub mod Tributaries
+pub mod Inputs
+pub mod Frames
+pub mod Roles
+pub mod Shapes

@@ -1,0 +1,20 @@
+use Rattle.std.proofs.Common.{◌≤◌, ◌<◌, ◌+◌, ◌*◌, refl, rules, subst, vec_len}
+use Rattle.std.proofs.lemmas.Result.{err_from_is_err_and}
+use Rattle.pdh_line.proofs.EventLaws.{first_event-known}
+use Rattle.pdh_mux.specs.Events.{event_of}
+use Rattle.pdh_mux.proofs.Inputs.{lists_are}
+use Rattle.pdh_mux.proofs.line.make_line.Goals as goal
+
+pub make_frames-requires : goal.make_frames-requires
+make_frames-requires g c κs within =
+    let counts = g.C.Counts.counts c.args.counts.now in
+    let line = c.reserve.new.self in
+    let lists = lists_are g.S.Shape.shape counts c.args.inputs.now c.args.say.now c.args.frames g.S.Shape.TRIBS g.met.S.Shape.tribs_is c.requires.inputs c.requires.entered in
+    let room = subst (λ k. vec_len line + c.args.frames * k ≤ line.cap) c.LEN.ensures c.in_ok-reserve.ensures.ok in
+    (search rules, (search rules, (c.requires.stores, (c.requires.roles, (refl, (c.requires.known, (c.requires.fits, (c.in_ok-tributaries.ensures counts, (lists, (λ n. refl, room))))))))))
+
+pub returns-in_err-make_frames-clause-known : goal.returns-in_err-make_frames-clause-known
+returns-in_err-make_frames-clause-known g c =
+    let p = err_from_is_err_and c.from_residual-in_err-make_frames.result c.from_residual-in_err-make_frames.ensures.1 in
+    let known = first_event-known g.S.Shape.shape (g.C.Counts.counts c.args.counts.now) c.args.frames (event_of c.in_err-make_frames.field-0.0) c.in_err-make_frames.ensures.stop in
+    rw (p.1, p.2) (subst (λ n. c.in_err-make_frames.field-0.0.trib < n) g.met.S.Shape.tribs_is known)

@@ -1,0 +1,82 @@
+-- What the state of a node in making stands for.
+use Rattle.std.specs.Prelude.{◌≡◌, ◌<◌, ◌≤◌, ℕ, ◌+◌, ◌*◌, ◌%◌, Bool, true, false, nat_lt, List, length, map, count_by, ◌==◌, slice_index_or}
+use Rattle.std.specs.List.{list_all, range_with_len}
+use Rattle.std.specs.Global.{Vec}
+use Rattle.pdh_shape.specs.declared.role.Role.{Role}
+use Rattle.pdh_shape.specs.declared.role.Role.TheVariants.{Control, Just, Info}
+use Rattle.pdh_shape.specs.Frame.{FrameShape, slots}
+use Rattle.pdh_line.specs.Sending.{lead, store_size, arrived, sent, sends_more, came_before, read_before, entered, payload_bit, Source, bits_at}
+use Rattle.pdh_mux.specs.declared.tributary.Tributary.{Tributary}
+
+-- ---- the inputs' bits
+
+-- the bits of each input
+abbrev pub lists_of : List (Vec Bool) → List (List Bool)
+lists_of inputs = map (λ input. input.items) inputs
+
+-- ---- the shape
+
+-- a slot of this role names no tributary, or one of so many
+abbrev pub names_below : ℕ → Role → Bool
+names_below tribs (Control j copy) = nat_lt j tribs
+names_below tribs (Just j) = nat_lt j tribs
+names_below tribs (Info j) = nat_lt j tribs
+names_below tribs _ = true
+
+-- each tributary that a slot names is one of the shape's
+unfoldable pub names_tributaries : FrameShape → Bool
+names_tributaries s = list_all (λ slot. names_below s.tribs (s.role slot)) (slots s)
+
+-- ---- the tributaries
+
+-- tributary j's counters stand before frame n
+pub record IsBefore (s : FrameShape) (j : ℕ) (counts : ℕ → ℕ) (n : ℕ) (x : Tributary) : Type 0 where
+  pub read : x.read ≡ sent s counts n
+  pub fill : x.read + x.fill ≡ lead + arrived counts n
+  pub room : x.fill ≤ store_size
+
+-- tributary j's counters stand in frame n, where the bits of `came` slots have arrived and `gone` slots are made
+pub record IsWithin (s : FrameShape) (j : ℕ) (counts : ℕ → ℕ) (n came gone : ℕ) (x : Tributary) : Type 0 where
+  pub fits : counts n ≤ s.len
+  pub count : x.count ≡ counts n
+  pub left : x.left ≡ came * counts n % s.len
+  pub read : x.read ≡ read_before s j counts n gone
+  pub fill : x.read + x.fill ≡ came_before s counts n came
+  pub more : x.more ≡ sends_more s counts n
+  pub room : x.fill ≤ store_size
+
+-- all tributaries stand before frame n
+pub record AreBefore (s : FrameShape) (counts : ℕ → ℕ → ℕ) (n : ℕ) (xs : List Tributary) : Type 0 where
+  pub all : length xs ≡ s.tribs
+  pub each : (j : ℕ) (d : Tributary) → j < s.tribs → IsBefore s j (counts j) n (slice_index_or xs j d)
+
+-- all tributaries stand in frame n
+pub record AreWithin (s : FrameShape) (counts : ℕ → ℕ → ℕ) (n came gone : ℕ) (xs : List Tributary) : Type 0 where
+  pub all : length xs ≡ s.tribs
+  pub each : (j : ℕ) (d : Tributary) → j < s.tribs → IsWithin s j (counts j) n came gone (slice_index_or xs j d)
+
+-- ---- the inputs
+
+-- the lists are the source's tributaries, and hold all bits that have come by slot t of frame n
+pub record AreInputs (s : FrameShape) (source : Source) (n t : ℕ) (lists : List (List Bool)) : Type 0 where
+  pub all : length lists ≡ s.tribs
+  pub same : (j k : ℕ) → source.inputs j k ≡ slice_index_or (bits_at lists j) k false
+  pub enough : (j : ℕ) → j < s.tribs → came_before s (source.counts j) n t ≤ length (bits_at lists j)
+
+-- the same of all bits that so many frames enter
+pub record AreLists (s : FrameShape) (source : Source) (frames : ℕ) (lists : List (List Bool)) : Type 0 where
+  pub all : length lists ≡ s.tribs
+  pub same : (j k : ℕ) → source.inputs j k ≡ slice_index_or (bits_at lists j) k false
+  pub enough : (j : ℕ) → j < s.tribs → entered (source.counts j) frames ≤ length (bits_at lists j)
+
+-- ---- parity
+
+-- an information or a justifiable slot
+abbrev pub is_payload : Role → Bool
+is_payload (Info j) = true
+is_payload (Just j) = true
+is_payload _ = false
+
+-- the information and justifiable slots of frame n below slot t hold an odd number of ones
+abbrev pub odd_within : FrameShape → Source → ℕ → ℕ → Bool
+odd_within s source n t = count_by (λ t. payload_bit s source n t (s.role t)) (range_with_len 0 t) % 2 == 1

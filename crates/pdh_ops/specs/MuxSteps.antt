@@ -1,0 +1,91 @@
+-- The steps of `mux e12`: what each finds, and why it stops.
+use Rattle.std.specs.Prelude.{◌≡◌, ℕ, ◌*◌, ◌<◌, ◌≤◌, List, ⊤, Bool, Option, Some, None, Ok, Err, length, Vec, slice_index, slice_index_or}
+use Rattle.std.specs.declared.alloc.Global.{Global}
+use Rattle.pdh_bits.specs.Bits.{bytes_of}
+use Rattle.pdh_edge.specs.Files.{ShelfState, Rose, FailsToRead}
+use Rattle.pdh_shape.specs.Frame.{idle}
+use Rattle.pdh_shape.specs.Sets.{e2}
+use Rattle.pdh_line.specs.Sending.{front, line_bit, source_of}
+use Rattle.pdh_line.specs.Events.{Event}
+use Rattle.pdh_mux.specs.Making.{lists_of}
+use Rattle.pdh_clock.specs.Row.{Row}
+use Rattle.pdh_ops.specs.Names.{schedule_name, leaf_name, name_of}
+use Rattle.pdh_ops.specs.Reading.{HasLength}
+use Rattle.pdh_ops.specs.Mux.{Files, bytes_in, mux_inputs, all_held, rows_of, counts_of, frames_in, leaf_bits, bits_needed, event_of, frames_made, stop_of_event}
+use Rattle.pdh_ops.specs.Commands.{AreTold}
+use Rattle.pdh_ops.specs.Run.{Comes}
+use Rattle.pdh_ops.specs.declared.command.Command.TheVariants.{Mux}
+use Rattle.pdh_ops.specs.declared.file.File.TheVariants.{Leaf}
+use Rattle.pdh_ops.specs.declared.mux.InputSizes.{InputSizes}
+use Rattle.pdh_ops.specs.declared.mux.Made.{Made}
+use Rattle.pdh_ops.specs.declared.answer.Stop.{Stop}
+use Rattle.pdh_ops.specs.declared.answer.Stop.TheVariants.{Memory, Usage, Read, Write, Missing, Short, Overflow, Underflow, ManyFrames}
+
+-- where the inputs of `mux` are told, this holds of them
+abbrev pub OfInputs : ShelfState → (Files → Type 0) → Type 0
+OfInputs state P = (files : Files) → AreTold Mux state.told files → P files
+
+-- why a step before the outputs stops: memory is wanting, a call failed to read, or the inputs come to this stop
+abbrev pub Refuses : ShelfState → ShelfState → Stop → Type 0
+Refuses old new Memory = ⊤
+Refuses old new Usage = ⊥
+Refuses old new (Read file) = FailsToRead (name_of file) old new
+Refuses old new (Write file) = ⊥
+Refuses old new (Missing file) = Rose old.misses new.misses × Comes Mux old (Err (Missing file))
+Refuses old new (Overflow place) = ⊥
+Refuses old new (Underflow place) = ⊥
+Refuses old new stop = Comes Mux old (Err stop)
+
+-- the sizes of the inputs
+pub record AreSizes (sizes : InputSizes) (state : ShelfState) : Type 0 where
+  pub schedule : HasLength schedule_name sizes.schedule state
+  pub leaf : (k : ℕ) → k < 4 → HasLength (leaf_name k) (slice_index sizes.leaves k) state
+
+-- all inputs are held
+abbrev pub AreHeld : ShelfState → Type 0
+AreHeld state = OfInputs state (λ files. all_held mux_inputs files ≡ Ok tt)
+
+-- the schedule has these rows
+abbrev pub HasRows : ShelfState → List Row → Type 0
+HasRows state rows = OfInputs state (λ files. rows_of (bytes_in files schedule_name) ≡ Ok rows)
+
+-- leaf k has as many bits as must enter, at least
+abbrev pub IsLong : List Row → InputSizes → ℕ → Type 0
+IsLong rows sizes k = bits_needed rows k ≤ 8 * slice_index sizes.leaves k
+
+-- there are no more frames than a line may have, and the leaves are long enough
+pub record AreEnough (rows : List Row) (sizes : InputSizes) (frames : ℕ) : Type 0 where
+  pub frames_are : frames ≡ frames_in rows
+  pub few : frames ≤ 16384
+  pub long : (k : ℕ) → k < 4 → IsLong rows sizes k
+
+-- leaf k is the first that is too short
+pub record IsShort (rows : List Row) (sizes : InputSizes) (k have need : ℕ) : Type 0 where
+  pub leaf : k < 4
+  pub few : frames_in rows ≤ 16384
+  pub have_is : have ≡ 8 * slice_index sizes.leaves k
+  pub need_is : need ≡ bits_needed rows k
+  pub short : have < need
+  pub before : (i : ℕ) → i < k → IsLong rows sizes i
+
+-- why the frames or the leaves are refused
+abbrev pub IsEnoughStop : List Row → InputSizes → Stop → Type 0
+IsEnoughStop rows sizes (ManyFrames n) = (n ≡ frames_in rows) × (16384 < n)
+IsEnoughStop rows sizes (Short (Leaf k) have need) = IsShort rows sizes k have need
+IsEnoughStop rows sizes _ = ⊥
+
+-- the leaves' bits
+pub record AreLeaves (sizes : InputSizes) (state : ShelfState) (leaves : List (Vec Bool Global)) : Type 0 where
+  pub count : length leaves ≡ 4
+  pub len : (k : ℕ) (d : Vec Bool Global) → k < 4 → length (slice_index_or leaves k d).items ≡ 8 * slice_index sizes.leaves k
+  pub bits : (k : ℕ) (d : Vec Bool Global) → k < 4 → OfInputs state (λ files. (slice_index_or leaves k d).items ≡ leaf_bits files k)
+
+-- how an event ends the command, if there is one
+abbrev pub IsEnd : Option Event → Option Stop → Type 0
+IsEnd None end = end ≡ None
+IsEnd (Some event) end = end ≡ Some (stop_of_event event)
+
+-- the line's bytes up to the first event, and how that ends the command
+pub record IsMade (rows : List Row) (leaves : List (Vec Bool Global)) (made : Made) : Type 0 where
+  pub bytes : made.bytes.items ≡ bytes_of (front (line_bit e2 (source_of (counts_of rows) (lists_of leaves) idle)) (frames_made rows * 848))
+  pub end : IsEnd (event_of rows) made.end
