@@ -301,7 +301,7 @@ sent-entered s counts j zero frame has stores known none = omega (arith, sent-ze
 sent-entered s counts j (suc n) frame has stores known none =
     subst (λ b. sent s (counts j) (suc n) ≤ cond b 0 (lead + arrived (counts j) (suc n))) (sym (eqb-suc-zero n)) (sent-came s counts j (suc n) frame has stores known none)
 
-entered-grows : (counts : ℕ → ℕ) (m n : ℕ) → m ≤ n → entered counts m ≤ entered counts n
+pub entered-grows : (counts : ℕ → ℕ) (m n : ℕ) → m ≤ n → entered counts m ≤ entered counts n
 entered-grows counts zero n h = omega arith
 entered-grows counts (suc m) zero h = absurd (omega arith)
 entered-grows counts (suc m) (suc n) h =
@@ -355,12 +355,12 @@ received-prefix_of_lists s counts lists say j n m line frame has stores known no
 
 -- ---- the tributary of the first event
 
-first_of_either : {X : Type 0} (xs ys : List X) (x : X) → slice_get (xs ++ ys) 0 ≡ Some x → (slice_get xs 0 ≡ Some x) ⊎ (slice_get ys 0 ≡ Some x)
+pub first_of_either : {X : Type 0} (xs ys : List X) (x : X) → slice_get (xs ++ ys) 0 ≡ Some x → (slice_get xs 0 ≡ Some x) ⊎ (slice_get ys 0 ≡ Some x)
 first_of_either [] ys x h = inr h
 first_of_either (y ∷ xs) ys x h = inl h
 
 -- what holds of the first element of each list holds of the first of all
-first_of_all : {X : Type 0} (P : X → Type 0) (f : ℕ → List X) (n : ℕ) (x : X) → ((k : ℕ) → k < n → slice_get (f k) 0 ≡ Some x → P x)
+pub first_of_all : {X : Type 0} (P : X → Type 0) (f : ℕ → List X) (n : ℕ) (x : X) → ((k : ℕ) → k < n → slice_get (f k) 0 ≡ Some x → P x)
     → slice_get (flat_map f (range_with_len 0 n)) 0 ≡ Some x → P x
 first_of_all P f zero x each h = absurd (let wrong : ◌≡◌ {A = Option _} None (Some x) = h in cc)
 first_of_all P f (suc n) x each h =

@@ -6,3 +6,6 @@ pub mod FrameLoops
 pub mod SendingLaws
 pub mod SentFrames
 pub mod EventLaws
+pub mod FillBounds
+pub mod WithinTolerance
+pub mod EvenReading

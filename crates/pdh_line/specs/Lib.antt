@@ -5,3 +5,4 @@ pub mod Worked
 pub mod Sending
 pub mod Events
 pub mod WorkedLines
+pub mod Tolerance

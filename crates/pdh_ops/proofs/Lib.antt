@@ -9,3 +9,4 @@ pub mod Lists
 pub mod MuxMade
 pub mod MuxFiles
 pub mod MuxGivesBack
+pub mod MuxTolerated

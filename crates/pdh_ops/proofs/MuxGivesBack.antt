@@ -12,17 +12,17 @@ use Rattle.pdh_edge.specs.Files.{ShelfState, SinkState}
 use Rattle.pdh_shape.specs.Sets.{e2}
 use Rattle.pdh_shape.specs.E2Laws.{e2_is_frame, e2_has_tributaries}
 use Rattle.pdh_line.specs.Receiving.{received}
-use Rattle.pdh_line.specs.Sending.{front, line_bit, bits_at}
+use Rattle.pdh_line.specs.Sending.{front, line_bit, bits_at, given_back}
 use Rattle.pdh_line.specs.Events.{Event}
 use Rattle.pdh_line.proofs.SentFrames.{length-front}
 use Rattle.pdh_line.proofs.EventLaws.{received-prefix_of_list}
 use Rattle.pdh_clock.specs.Row.{Row}
 use Rattle.pdh_ops.specs.Names.{schedule_name, leaf_name}
 use Rattle.pdh_ops.specs.Answer.{Answer, and_then, status_of}
-use Rattle.pdh_ops.specs.Mux.{Files, bytes_in, mux_inputs, all_held, rows_of, rows_in, frames_in, leaf_bits, mux_source, bits_held, bits_needed, short_leaf, event_of, muxed, frames_made, line_bytes, stop_of_event}
+use Rattle.pdh_ops.specs.Mux.{Files, bytes_in, mux_inputs, all_held, rows_of, rows_in, counts_of, frames_in, leaf_bits, mux_source, bits_held, bits_needed, short_leaf, event_of, muxed, frames_made, line_bytes, stop_of_event}
 use Rattle.pdh_ops.specs.Commands.{comes_to}
 use Rattle.pdh_ops.specs.Run.{Performs, IsTold, Runs}
-use Rattle.pdh_ops.specs.GivesBack.{IsPrefix, GivesBack}
+use Rattle.pdh_ops.specs.GivesBack.{GivesBack}
 use Rattle.pdh_ops.specs.declared.command.Command.{Command}
 use Rattle.pdh_ops.specs.declared.command.Command.TheVariants.{Demux, Mux}
 use Rattle.pdh_ops.specs.declared.answer.Done.{Done}
@@ -35,7 +35,7 @@ use Rattle.pdh_ops.proofs.MuxComes.{is_short_leaf}
 -- ---- what holds where the command did its work
 
 -- no stop has status 0
-stop_status : (stop : Stop) → 1 ≤ status_of stop
+pub stop_status : (stop : Stop) → 1 ≤ status_of stop
 stop_status Memory = omega arith
 stop_status Usage = omega arith
 stop_status (Read f) = omega arith
@@ -66,9 +66,9 @@ not_short files rows (suc n) none few k h = elim (cases_lt k n) [
 ]
 
 -- the frames are made without an event from leaves that are long enough
-record IsDone (files : Files) (rows : List Row) : Type 0 where
-  none : event_of rows ≡ None
-  long : (k : ℕ) → k < 4 → nat_lt (bits_held files k) (bits_needed rows k) ≡ false
+pub record IsDone (files : Files) (rows : List Row) : Type 0 where
+  pub none : event_of rows ≡ None
+  pub long : (k : ℕ) → k < 4 → nat_lt (bits_held files k) (bits_needed rows k) ≡ false
 
 muxed_done : (files : Files) (rows : List Row) (done : Done) → ◌≡◌ {A = Answer} (Ok done) (muxed files rows) → IsDone files rows
 muxed_done files rows done h = go (nat_lt 16384 (frames_in rows)) (short_leaf files rows) (event_of rows) refl refl h
@@ -81,7 +81,7 @@ muxed_done files rows done h = go (nat_lt 16384 (frames_in rows)) (short_leaf fi
     go false None (Some event) s e h = absurd (cc)
     go false None None s e h = record { none = e; long = not_short files rows 4 s (omega arith) }
 
-mux_done : (files : Files) (done : Done) → ◌≡◌ {A = Answer} (Ok done) (comes_to Mux files) → IsDone files (rows_in files)
+pub mux_done : (files : Files) (done : Done) → ◌≡◌ {A = Answer} (Ok done) (comes_to Mux files) → IsDone files (rows_in files)
 mux_done files done h = muxed_done files (rows_in files) done (by_rows (rows_of (bytes_in files schedule_name)) (by_held (all_held mux_inputs files) h))
   where
     by_held : (r : Result (Unit {0}) Stop) → ◌≡◌ {A = Answer} (Ok done) (and_then r (λ _. and_then (rows_of (bytes_in files schedule_name)) (muxed files))) → ◌≡◌ {A = Answer} (Ok done) (and_then (rows_of (bytes_in files schedule_name)) (muxed files))
@@ -101,17 +101,26 @@ line_bits files rows none =
     let whole : length (front line (frames_in rows * 848)) % 8 ≡ 0 = omega (arith, length-front line (frames_in rows * 848)) in
     rw none (bits_of-bytes_of (front line (frames_in rows * 848)) whole)
 
-gives : (files : Files) (rows : List Row) (line : List ℕ) (leaf n : ℕ) → IsDone files rows → line ≡ line_bytes files rows → leaf < 4 → 848 * n ≤ length (bits_of line) →
-    IsPrefix (received e2 leaf (take (n * 848) (bits_of line))) (leaf_bits files leaf)
+-- the frames of which a receiver has so many bits are among those that were made
+pub frames_there : (files : Files) (rows : List Row) (line : List ℕ) (n : ℕ) → IsDone files rows → line ≡ line_bytes files rows → 848 * n ≤ length (bits_of line) → n ≤ frames_in rows
+frames_there files rows line n done is few =
+    let made : bits_of line ≡ front (line_bit e2 (mux_source files rows)) (frames_in rows * 848) = ap bits_of is ∙ line_bits files rows done.none in
+    omega (arith, ap length made, length-front (line_bit e2 (mux_source files rows)) (frames_in rows * 848))
+
+-- a leaf's file has the bits that enter
+pub long_there : (files : Files) (rows : List Row) (leaf : ℕ) → IsDone files rows → leaf < 4 → bits_needed rows leaf ≤ length (leaf_bits files leaf)
+long_there files rows leaf done low = let test = done.long leaf low in let e = length-bits_of (bytes_in files (leaf_name leaf)) in grind (arith, nat_tests)
+
+pub gives : (files : Files) (rows : List Row) (line : List ℕ) (leaf n : ℕ) → IsDone files rows → line ≡ line_bytes files rows → leaf < 4 → 848 * n ≤ length (bits_of line) →
+    received e2 leaf (take (n * 848) (bits_of line)) ≡ take (given_back e2 (counts_of rows leaf) n) (leaf_bits files leaf)
 unfolding event_of
 gives files rows line leaf n done is low few =
     let source = mux_source files rows in
     let bits : List Bool = leaf_bits files leaf in
     let made : bits_of line ≡ front (line_bit e2 source) (frames_in rows * 848) = ap bits_of is ∙ line_bits files rows done.none in
-    let all : n ≤ frames_in rows = omega (arith, ap length made, length-front (line_bit e2 source) (frames_in rows * 848)) in
     let at : bits_at (map (leaf_bits files) (range_with_len 0 4)) leaf ≡ bits = get_or-map-range_with_len (leaf_bits files) 0 4 leaf leaf [] low (omega arith) in
-    let long : bits_needed rows leaf ≤ length bits = let test = done.long leaf low in let e = length-bits_of (bytes_in files (leaf_name leaf)) in grind (arith, nat_tests) in
-    (_, received-prefix_of_list e2 source leaf (frames_in rows) n bits (bits_of line) e2_is_frame e2_has_tributaries refl low done.none (λ k. ap (λ (l : List Bool). slice_index_or l k false) at) long made all)
+    received-prefix_of_list e2 source leaf (frames_in rows) n bits (bits_of line) e2_is_frame e2_has_tributaries refl low done.none (λ k. ap (λ (l : List Bool). slice_index_or l k false) at)
+    (long_there files rows leaf done low) made (frames_there files rows line n done is few)
 
 -- ---- the run
 
@@ -120,7 +129,7 @@ answer_gives_back a b k l status (Err stop) performs tells files line leaf n tol
 answer_gives_back a b k l status (Ok done) performs tells files line leaf n told now status_is low few =
     let same : Some line ≡ Some (line_bytes files (rows_in files)) = performs.outputs files 0 told (lit< tt) (Some line) now in
     let is : line ≡ line_bytes files (rows_in files) = cc in
-    gives files (rows_in files) line leaf n (mux_done files done (performs.cause files told)) is low few
+    (_, gives files (rows_in files) line leaf n (mux_done files done (performs.cause files told)) is low few)
 
 pub gives_back : (command : Option Command) (a b : ShelfState) (k l : SinkState) (status : ℕ) → Runs command a b k l status → GivesBack command a b status
 gives_back None a b k l status runs = tt

@@ -9,3 +9,4 @@ pub mod Writing
 pub mod Steps
 pub mod MuxSteps
 pub mod GivesBack
+pub mod Tolerated

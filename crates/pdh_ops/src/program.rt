@@ -3,6 +3,7 @@ ghost use Rattle.std.specs.String.{string_bytes};
 ghost use Rattle.pdh_ops.specs.Commands.{command_of};
 ghost use Rattle.pdh_ops.specs.Run.{Performs, Does, Runs, Completes};
 ghost use Rattle.pdh_ops.specs.GivesBack.{GivesBack};
+ghost use Rattle.pdh_ops.specs.Tolerated.{HasNoEvent, IsDelayed};
 
 use crate::answer::{Done, Stop};
 use crate::command::Command;
@@ -71,6 +72,10 @@ pub fn run<S: Shelf, K: Sink>(
     ensures runs { Runs (command_of (map string_bytes words.now)) (S.state shelf) (S.state result.shelf) (K.state out) (K.state result.out) result.status }
     // What `mux` wrote, `demux` gives back in order.
     ensures gives_back { GivesBack (command_of (map string_bytes words.now)) (S.state shelf) (S.state result.shelf) result.status }
+    // Where each leaf is within the tolerance, `mux` meets no event, and what its line gives back is
+    // at most 444 bits behind arrival.
+    ensures no_event { HasNoEvent (command_of (map string_bytes words.now)) (S.state shelf) result.status }
+    ensures delay { IsDelayed (command_of (map string_bytes words.now)) (S.state shelf) (S.state result.shelf) result.status }
     // The same as the first, said of inputs that are told and of a shelf without faults.
     ensures completes { Completes (command_of (map string_bytes words.now)) (S.state shelf) (S.state result.shelf) (K.state out) (K.state result.out) result.status }
 {

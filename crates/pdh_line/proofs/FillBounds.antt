@@ -1,0 +1,201 @@
+-- The bounds on a store's fill within the tolerance, at each frame's start and at each step inside a frame.
+use Rattle.std.proofs.Common.{◌≡◌, ℕ, zero, suc, ◌+◌, ◌-◌, ◌*◌, ◌/◌, ◌<◌, ◌≤◌, Bool, true, false, ◌&&◌, cond, leb, eqb, List, [], ◌∷◌, refl, sym, ap, ◌∙◌, subst, inl, inr, arith, zero-add}
+use Rattle.std.specs.Prelude.{count_by, sum_by}
+use Rattle.std.specs.List.{range_with_len}
+use Rattle.std.proofs.lemmas.Bool.{leb-true, leb-false, cases_Bool, cases_lt}
+use Rattle.std.proofs.lemmas.List.Sums.{sum_by-cons, sum_by-append}
+use Rattle.std.proofs.Math.Nat.{lt-div-mul-add, div-mul-le_self, mul-le-mul_right, mul-le-mul_left}
+use Rattle.pdh_shape.specs.declared.role.Role.{Role}
+use Rattle.pdh_shape.specs.declared.role.Role.TheVariants.{Align, Service, Control, Just, Info}
+use Rattle.pdh_shape.specs.Frame.{FrameShape, IsFrame, slots}
+use Rattle.pdh_shape.specs.Tributary.{reads_from, HasTributaries}
+use Rattle.pdh_line.specs.Sending.{lead, threshold, arrived, carried, sent, sends_more, reads_below, came_before, read_before}
+use Rattle.pdh_line.specs.Tolerance.{arrived_over, IsWithin, ReadsEvenly}
+use Rattle.pdh_line.proofs.Ranges.{range_append}
+use Rattle.pdh_line.proofs.SendingLaws.{HasStores, arrived-zero, arrived-suc, sent-zero, sent-suc, sends_more-is, came_before-start, came_before-next, came_before_grows, read_before-start, read_before-next}
+
+-- ---- arrivals over a run
+
+pub arrived-run : (counts : ℕ → ℕ) (first run : ℕ) → arrived counts (first + run) ≡ arrived counts first + arrived_over counts first run
+unfolding arrived
+arrived-run counts first run =
+    ap (sum_by counts) (range_append 0 first run) ∙ sum_by-append counts (range_with_len 0 first) (range_with_len (0 + first) run)
+    ∙ ap (λ k. sum_by counts (range_with_len 0 first) + sum_by counts (range_with_len k run)) (zero-add first)
+
+within-least : (s : FrameShape) (counts : ℕ → ℕ) (frames first run n : ℕ) → IsWithin s counts frames → first + run ≡ n → n ≤ frames → arrived counts first + s.low * run ≤ arrived counts n + 8
+within-least s counts frames first run n within e h =
+    subst (λ k. arrived counts first + s.low * run ≤ arrived counts k + 8) e (omega (arith, arrived-run counts first run, within.least first run (omega arith)))
+
+pub within-most : (s : FrameShape) (counts : ℕ → ℕ) (frames first run n : ℕ) → IsWithin s counts frames → first + run ≡ n → n ≤ frames → arrived counts n ≤ arrived counts first + suc s.low * run + 8
+within-most s counts frames first run n within e h =
+    subst (λ k. arrived counts k ≤ arrived counts first + suc s.low * run + 8) e (omega (arith, arrived-run counts first run, within.most first run (omega arith)))
+
+-- ---- at a frame's start
+
+-- where a frame carries an additional bit, what was sent had arrived
+pub sent-arrived : (s : FrameShape) (counts : ℕ → ℕ) (n : ℕ) → HasStores s → sends_more s counts n ≡ true → sent s counts n ≤ arrived counts n
+sent-arrived s counts n stores more =
+    let at : leb (sent s counts n + threshold) (lead + arrived counts n) ≡ true = sym (sends_more-is s counts n stores) ∙ more in
+    let h : sent s counts n + threshold ≤ lead + arrived counts n = leb-true _ _ at in
+    omega arith
+
+-- where it is justified, more was sent than had arrived
+pub arrived-sent : (s : FrameShape) (counts : ℕ → ℕ) (n : ℕ) → HasStores s → sends_more s counts n ≡ false → arrived counts n < sent s counts n
+arrived-sent s counts n stores justified =
+    let at : leb (sent s counts n + threshold) (lead + arrived counts n) ≡ false = sym (sends_more-is s counts n stores) ∙ justified in
+    let h : lead + arrived counts n < sent s counts n + threshold = leb-false _ _ at in
+    omega arith
+
+sent-more : (s : FrameShape) (counts : ℕ → ℕ) (n : ℕ) → sends_more s counts n ≡ true → sent s counts (suc n) ≡ sent s counts n + suc s.low
+sent-more s counts n more = sent-suc s counts n ∙ ap (λ b. sent s counts n + carried s b) more
+
+sent-justified : (s : FrameShape) (counts : ℕ → ℕ) (n : ℕ) → sends_more s counts n ≡ false → sent s counts (suc n) ≡ sent s counts n + s.low
+sent-justified s counts n justified = sent-suc s counts n ∙ ap (λ b. sent s counts n + carried s b) justified
+
+-- After the last frame that carried an additional bit all were justified, and that frame began with no more sent than
+-- had arrived.
+sent-few : (s : FrameShape) (counts : ℕ → ℕ) (n : ℕ) → HasStores s → (first : ℕ) × (run : ℕ) × (first + run ≡ n) × (sent s counts n ≤ arrived counts first + s.low * run + 1)
+sent-few s counts zero stores = (0, 0, refl, omega (arith, sent-zero s counts))
+sent-few s counts (suc n) stores =
+    let before = sent-few s counts n stores in
+    elim (cases_Bool (sends_more s counts n)) [
+      | inl more ↦ (n, 1, omega arith, omega (arith, sent-more s counts n more, sent-arrived s counts n stores more))
+      | inr justified ↦ (before.0, suc before.1, omega (arith, before.2), omega (arith, sent-justified s counts n justified, before.3))
+    ]
+
+-- After the last justified frame each carried an additional bit, and that frame began with more sent than had arrived.
+sent-many : (s : FrameShape) (counts : ℕ → ℕ) (n : ℕ) → HasStores s → (first : ℕ) × (run : ℕ) × (first + run ≡ n) × (arrived counts first + suc s.low * run ≤ sent s counts n)
+sent-many s counts zero stores = (0, 0, refl, omega (arith, sent-zero s counts, arrived-zero counts))
+sent-many s counts (suc n) stores =
+    let before = sent-many s counts n stores in
+    elim (cases_Bool (sends_more s counts n)) [
+      | inl more ↦ (before.0, suc before.1, omega (arith, before.2), omega (arith, sent-more s counts n more, before.3))
+      | inr justified ↦ (n, 1, omega arith, omega (arith, sent-justified s counts n justified, arrived-sent s counts n stores justified))
+    ]
+
+-- within the tolerance a store holds at least 15 bits at each frame's start
+pub fill_at_start-least : (s : FrameShape) (counts : ℕ → ℕ) (frames n : ℕ) → HasStores s → IsWithin s counts frames → n ≤ frames → sent s counts n + 15 ≤ lead + arrived counts n
+fill_at_start-least s counts frames n stores within h =
+    let few = sent-few s counts n stores in
+    omega (arith, few.3, within-least s counts frames few.0 few.1 n within few.2 h)
+
+-- and at most 32
+pub fill_at_start-most : (s : FrameShape) (counts : ℕ → ℕ) (frames n : ℕ) → HasStores s → IsWithin s counts frames → n ≤ frames → lead + arrived counts n ≤ sent s counts n + 32
+fill_at_start-most s counts frames n stores within h =
+    let many = sent-many s counts n stores in
+    omega (arith, many.3, within-most s counts frames many.0 many.1 n within many.2 h)
+
+-- ---- inside a frame
+
+is_justifiable : ℕ → Role → Bool
+is_justifiable j (Just i) = eqb i j
+is_justifiable j _ = false
+
+reads-justifiable : (j : ℕ) (r : Role) → cond (reads_from j true r) 1 0 ≡ cond (reads_from j false r) 1 0 + cond (is_justifiable j r) 1 0
+unfolding is_justifiable
+reads-justifiable j (Just i) = go (eqb i j)
+  where
+    go : (b : Bool) → cond (b && true) 1 0 ≡ cond (b && false) 1 0 + cond b 1 0
+    go true = refl
+    go false = refl
+reads-justifiable j (Info i) = go (eqb i j)
+  where
+    go : (b : Bool) → cond b 1 0 ≡ cond b 1 0 + 0
+    go true = refl
+    go false = refl
+reads-justifiable j (Align signal) = refl
+reads-justifiable j (Service number) = refl
+reads-justifiable j (Control i copy) = refl
+
+count-justifiable : (s : FrameShape) (j : ℕ) (xs : List ℕ)
+    → count_by (λ t. reads_from j true (s.role t)) xs ≡ count_by (λ t. reads_from j false (s.role t)) xs + count_by (λ t. is_justifiable j (s.role t)) xs
+count-justifiable s j [] = refl
+count-justifiable s j (x ∷ xs) =
+    let rest = count-justifiable s j xs in
+    let a = sum_by-cons (λ t. cond (reads_from j true (s.role t)) 1 0) x xs in
+    let b = sum_by-cons (λ t. cond (reads_from j false (s.role t)) 1 0) x xs in
+    let c = sum_by-cons (λ t. cond (is_justifiable j (s.role t)) 1 0) x xs in
+    omega (arith, reads-justifiable j (s.role x), a, b, c, rest)
+
+count-range_grows : (p : ℕ → Bool) (n m : ℕ) → n ≤ m → count_by p (range_with_len 0 n) ≤ count_by p (range_with_len 0 m)
+count-range_grows p n m h =
+    let e : n + (m - n) ≡ m = omega arith in
+    let split : count_by p (range_with_len 0 (n + (m - n))) ≡ count_by p (range_with_len 0 n) + count_by p (range_with_len (0 + n) (m - n)) =
+    ap (count_by p) (range_append 0 n (m - n)) ∙ sum_by-append (λ x. cond (p x) 1 0) (range_with_len 0 n) (range_with_len (0 + n) (m - n)) in
+    subst (λ k. count_by p (range_with_len 0 n) ≤ count_by p (range_with_len 0 k)) e (omega arith)
+
+-- the justifiable slot adds at most one bit
+reads_below-more : (s : FrameShape) (j t : ℕ) → HasTributaries s → j < s.tribs → t ≤ s.len → reads_below s j true t ≤ reads_below s j false t + 1
+reads_below-more s j t has known h =
+    let all : count_by (λ t. is_justifiable j (s.role t)) (slots s) ≡ 1 = omega (arith, count-justifiable s j (slots s), has.low j known, has.high j known) in
+    omega (arith, count-justifiable s j (range_with_len 0 t), count-range_grows (λ t. is_justifiable j (s.role t)) t s.len h)
+
+-- within the tolerance a store holds at least 4 bits before each slot and at each frame's end
+pub fill-from : (s : FrameShape) (j : ℕ) (counts : ℕ → ℕ) (frames n t : ℕ) → IsFrame s → HasTributaries s → HasStores s → ReadsEvenly s → j < s.tribs
+    → IsWithin s counts frames → n < frames → t ≤ s.len → read_before s j counts n t + 4 ≤ came_before s counts n t
+fill-from s j counts frames n t frame has stores even known within scheduled h =
+    let next : n + 1 ≡ suc n = omega arith in
+    let rate : s.low ≤ counts n + 8 = omega (arith, within-least s counts frames n 1 (suc n) within next scheduled, arrived-suc counts n) in
+    let share : t * s.low ≤ t * (counts n + 8) = mul-le-mul_left t rate in
+    let allowed : t * 8 ≤ s.len * 8 = mul-le-mul_right 8 h in
+    let floor : t * counts n < t * counts n / s.len * s.len + s.len = lt-div-mul-add frame.some_slots in
+    let scaled : reads_below s j false t * s.len < (t * counts n / s.len + 11) * s.len = omega (arith, even.ahead j t known h) in
+    let read : reads_below s j false t < t * counts n / s.len + 11 = lt_of_mul _ _ s.len scaled in
+    elim (cases_Bool (sends_more s counts n)) [
+      | inl more ↦ rw more (omega (arith, reads_below-more s j t has known h, sent-arrived s counts n stores more))
+      | inr justified ↦ rw justified (omega (arith, fill_at_start-least s counts frames n stores within (omega arith)))
+    ]
+  where
+    lt_of_mul : (a b c : ℕ) → a * c < b * c → a < b
+    lt_of_mul a b c h = elim (cases_lt a b) [ inl lt ↦ lt | inr ge ↦ absurd (omega (arith, mul-le-mul_right c ge)) ]
+
+-- and at most 45 with the bit that arrives in a slot, before the slot is read
+pub fill-upto : (s : FrameShape) (j : ℕ) (counts : ℕ → ℕ) (frames n t : ℕ) → IsFrame s → HasTributaries s → HasStores s → ReadsEvenly s → j < s.tribs
+    → IsWithin s counts frames → n < frames → t < s.len → came_before s counts n (suc t) ≤ read_before s j counts n t + 45
+fill-upto s j counts frames n t frame has stores even known within scheduled h =
+    let next : n + 1 ≡ suc n = omega arith in
+    let rate : counts n ≤ suc s.low + 8 = omega (arith, within-most s counts frames n 1 (suc n) within next scheduled, arrived-suc counts n) in
+    let share : suc t * counts n ≤ suc t * (suc s.low + 8) = mul-le-mul_left (suc t) rate in
+    let allowed : suc t * 8 ≤ s.len * 8 = mul-le-mul_right 8 (omega arith) in
+    let floor : suc t * counts n / s.len * s.len ≤ suc t * counts n = div-mul-le_self (suc t * counts n) s.len in
+    let scaled : suc t * counts n / s.len * s.len ≤ (reads_below s j true t + 13) * s.len = omega (arith, even.behind j t known h) in
+    let came : suc t * counts n / s.len ≤ reads_below s j true t + 13 = le_of_mul _ _ s.len frame.some_slots scaled in
+    elim (cases_Bool (sends_more s counts n)) [
+      | inl more ↦ rw more (omega (arith, fill_at_start-most s counts frames n stores within (omega arith)))
+      | inr justified ↦ rw justified (omega (arith, reads_below-more s j t has known (omega arith), arrived-sent s counts n stores justified))
+    ]
+  where
+    le_of_mul : (a b c : ℕ) → 0 < c → a * c ≤ b * c → a ≤ b
+    le_of_mul a b c p h = elim (cases_lt b a) [ inl lt ↦ absurd (omega (arith, mul-le-mul_right c lt)) | inr ge ↦ ge ]
+
+-- At each step inside a frame the fill is from 4 to 45: before a slot and at the frame's end,
+pub fill_before_slot : (s : FrameShape) (j : ℕ) (counts : ℕ → ℕ) (frames n t : ℕ) → IsFrame s → HasTributaries s → HasStores s → ReadsEvenly s → j < s.tribs
+    → IsWithin s counts frames → n < frames → t ≤ s.len
+    → (read_before s j counts n t + 4 ≤ came_before s counts n t) × (came_before s counts n t ≤ read_before s j counts n t + 45)
+fill_before_slot s j counts frames n t frame has stores even known within scheduled h = (
+  fill-from s j counts frames n t frame has stores even known within scheduled h,
+  elim (cases_lt t s.len) [
+    | inl slot ↦ omega (arith, came_before_grows s counts n t frame, fill-upto s j counts frames n t frame has stores even known within scheduled slot)
+    | inr end ↦
+        let e : s.len ≡ t = omega arith in
+        let last : came_before s counts n s.len ≤ read_before s j counts n s.len + 45 =
+        omega (
+          arith,
+          came_before-next s counts n frame,
+          came_before-start s counts (suc n) frame,
+          read_before-next s j counts n has known,
+          read_before-start s j counts (suc n),
+          fill_at_start-most s counts frames (suc n) stores within scheduled,
+        ) in
+        subst (λ t. came_before s counts n t ≤ read_before s j counts n t + 45) e last
+  ],
+)
+
+-- and after the arrivals of a slot, before it is read
+pub fill_after_arrivals : (s : FrameShape) (j : ℕ) (counts : ℕ → ℕ) (frames n t : ℕ) → IsFrame s → HasTributaries s → HasStores s → ReadsEvenly s → j < s.tribs
+    → IsWithin s counts frames → n < frames → t < s.len
+    → (read_before s j counts n t + 4 ≤ came_before s counts n (suc t)) × (came_before s counts n (suc t) ≤ read_before s j counts n t + 45)
+fill_after_arrivals s j counts frames n t frame has stores even known within scheduled h = (
+  omega (arith, came_before_grows s counts n t frame, fill-from s j counts frames n t frame has stores even known within scheduled (omega arith)),
+  fill-upto s j counts frames n t frame has stores even known within scheduled h,
+)
