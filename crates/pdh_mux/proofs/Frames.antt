@@ -65,7 +65,7 @@ odd_before-suc s source n = refl
 
 -- the first t bits of frame n are made, and had no event
 pub record Filling (s : FrameShape) (source : Source) (n t : ℕ) (xs : List Tributary) (before now : Vec Bool) (is_odd : Bool) : Type 0 where
-  pub within : AreWithin s source.counts n t t xs
+  pub within : AreWithin s source n t t xs
   pub none : events_below s source.counts (n * s.len + t) ≡ []
   pub bits : now.items ≡ before.items ++ map (line_bit s source) (range_with_len (n * s.len) t)
   pub long : vec_len now ≡ vec_len before + t
@@ -74,13 +74,13 @@ pub record Filling (s : FrameShape) (source : Source) (n t : ℕ) (xs : List Tri
 
 -- the first n frames are made, and had no event
 pub record Extending (s : FrameShape) (source : Source) (frames n : ℕ) (xs : List Tributary) (before now : Vec Bool) (odd : Bool) : Type 0 where
-  pub stand : AreBefore s source.counts n xs
+  pub stand : AreBefore s source n xs
   pub none : events_below s source.counts (n * s.len) ≡ []
   pub bits : now.items ≡ before.items ++ front (line_bit s source) (n * s.len)
   pub room : vec_len now + frames * s.len ≤ vec_capacity now + n * s.len
   pub odd_is : odd ≡ odd_before s source n
 
-pub filling_none : (s : FrameShape) (source : Source) (n : ℕ) (xs : List Tributary) (before : Vec Bool) → AreWithin s source.counts n 0 0 xs → events_below s source.counts (n * s.len) ≡ []
+pub filling_none : (s : FrameShape) (source : Source) (n : ℕ) (xs : List Tributary) (before : Vec Bool) → AreWithin s source n 0 0 xs → events_below s source.counts (n * s.len) ≡ []
     → Filling s source n 0 xs before before false
 filling_none s source n xs before within none = record {
   within = within;
@@ -92,12 +92,12 @@ filling_none s source n xs before within none = record {
 }
 
 pub filling_more : (s : FrameShape) (source : Source) (n t : ℕ) (xs ys : List Tributary) (before now later : Vec Bool) (is_odd bit is_later_odd : Bool) → Filling s source n t xs before now is_odd → t < s.len
-    → AreWithin s source.counts n (suc t) (suc t) ys → events_at s source.counts n t ≡ [] → bit ≡ slot_bit s source n t (s.role t)
+    → AreWithin s source n (suc t) (suc t) ys → events_at s source.counts n t ≡ [] → bit ≡ slot_bit s source n t (s.role t)
     → later.items ≡ now.items ++ bit ∷ [] → vec_len later ≡ vec_len now + 1 → vec_capacity later ≡ vec_capacity now
     → is_later_odd ≡ not (beq is_odd (bit && is_payload (s.role t)))
     → Filling s source n (t + 1) ys before later is_later_odd
 filling_more s source n t xs ys before now later is_odd bit is_later_odd made h within none is pushed longer same odd = record {
-  within = subst (λ k. AreWithin s source.counts n k k ys) (sym (add-one t)) within;
+  within = subst (λ k. AreWithin s source n k k ys) (sym (add-one t)) within;
   none = ap (events_below s source.counts) next ∙ events_below_more s source.counts (n * s.len + t) made.none (events_in-at s source.counts n t h ∙ none);
   bits = pushed ∙ ap (λ x. x ++ bit ∷ []) made.bits ∙ append_assoc before.items (map (line_bit s source) (range_with_len (n * s.len) t)) (bit ∷ [])
       ∙ ap (λ b. before.items ++ (map (line_bit s source) (range_with_len (n * s.len) t) ++ b ∷ [])) (is ∙ sym (line_bit-at s source n t h))
@@ -129,7 +129,7 @@ filling_stops s source n t is_odd xs before now e made h here =
 
 -- ---- the frames of a line
 
-pub extending_none : (s : FrameShape) (source : Source) (frames : ℕ) (xs : List Tributary) (before : Vec Bool) → AreBefore s source.counts 0 xs → vec_len before + frames * s.len ≤ vec_capacity before
+pub extending_none : (s : FrameShape) (source : Source) (frames : ℕ) (xs : List Tributary) (before : Vec Bool) → AreBefore s source 0 xs → vec_len before + frames * s.len ≤ vec_capacity before
     → Extending s source frames 0 xs before before false
 unfolding odd_before
 extending_none s source frames xs before stand room = record {
@@ -157,11 +157,11 @@ room_left s source frames n xs before now odd made h = omega (arith, made.room, 
 
 pub extending_more : (s : FrameShape) (source : Source) (frames n : ℕ) (xs ys : List Tributary) (before now later : Vec Bool) (odd later_odd : Bool) → IsFrame s → HasTributaries s
     → Extending s source frames n xs before now odd → n < frames
-    → AreWithin s source.counts n s.len s.len ys → events_below s source.counts (suc n * s.len) ≡ []
+    → AreWithin s source n s.len s.len ys → events_below s source.counts (suc n * s.len) ≡ []
     → later.items ≡ now.items ++ map (line_bit s source) (range_with_len (n * s.len) s.len) → vec_capacity later ≡ vec_capacity now → later_odd ≡ odd_before s source (suc n)
     → Extending s source frames (n + 1) ys before later later_odd
 extending_more s source frames n xs ys before now later odd later_odd frame has made h within none added same is = record {
-  stand = subst (λ k. AreBefore s source.counts k ys) (sym (add-one n)) (all_end s source.counts n ys frame has within);
+  stand = subst (λ k. AreBefore s source k ys) (sym (add-one n)) (all_end s source n ys frame has within);
   none = ap (λ k. events_below s source.counts (k * s.len)) (add-one n) ∙ none;
   bits = added ∙ ap (λ x. x ++ map (line_bit s source) (range_with_len (n * s.len) s.len)) made.bits
       ∙ append_assoc before.items (front (line_bit s source) (n * s.len)) (map (line_bit s source) (range_with_len (n * s.len) s.len))

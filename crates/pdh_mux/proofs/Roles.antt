@@ -24,13 +24,13 @@ pub info_known : (s : FrameShape) (t j : ℕ) → names_tributaries s ≡ true �
 info_known s t j all h is = ltb-true _ _ (ap (names_below s.tribs) is ∙ named s t all h)
 
 -- it has its counters
-pub index_known : (s : FrameShape) (counts : ℕ → ℕ → ℕ) (n came gone j : ℕ) (xs : Vec Tributary) → AreWithin s counts n came gone xs.items → j < s.tribs → j < vec_len xs
-index_known s counts n came gone j xs within known = omega (arith, within.all, xs.ok.0)
+pub index_known : (s : FrameShape) (source : Source) (n came gone j : ℕ) (xs : Vec Tributary) → AreWithin s source n came gone xs.items → j < s.tribs → j < vec_len xs
+index_known s source n came gone j xs within known = omega (arith, within.all, xs.ok.0)
 
 -- which tell whether the frame carries an additional bit
-pub more_known : (s : FrameShape) (counts : ℕ → ℕ → ℕ) (n came gone j : ℕ) (xs : List Tributary) (x : Tributary) → AreWithin s counts n came gone xs → j < s.tribs → x ≡ slice_index_or xs j x
-    → x.more ≡ sends_more s (counts j) n
-more_known s counts n came gone j xs x within known is = ap (λ y. y.more) is ∙ (within.each j x known).more
+pub more_known : (s : FrameShape) (source : Source) (n came gone j : ℕ) (xs : List Tributary) (x : Tributary) → AreWithin s source n came gone xs → j < s.tribs → x ≡ slice_index_or xs j x
+    → x.more ≡ sends_more s (source.counts j) n
+more_known s source n came gone j xs x within known is = ap (λ y. y.more) is ∙ (within.each j x known).more
 
 -- a justifiable slot that carries nothing
 pub just_off : (s : FrameShape) (counts : ℕ → ℕ → ℕ) (n t j i : ℕ) → Just j ≡ s.role t → sends_more s (counts j) n ≡ false → reads_from i (sends_more s (counts i) n) (s.role t) ≡ false

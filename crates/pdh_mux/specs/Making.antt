@@ -29,31 +29,34 @@ names_tributaries s = list_all (λ slot. names_below s.tribs (s.role slot)) (slo
 
 -- ---- the tributaries
 
--- tributary j's counters stand before frame n
-pub record IsBefore (s : FrameShape) (j : ℕ) (counts : ℕ → ℕ) (n : ℕ) (x : Tributary) : Type 0 where
-  pub read : x.read ≡ sent s counts n
-  pub fill : x.read + x.fill ≡ lead + arrived counts n
-  pub room : x.fill ≤ store_size
+-- tributary j stands before frame n, and its store holds the bits that came and weren't sent
+pub record IsBefore (s : FrameShape) (j : ℕ) (source : Source) (n : ℕ) (x : Tributary) : Type 0 where
+  pub came : x.came ≡ lead + arrived (source.counts j) n
+  pub held : sent s (source.counts j) n + length x.store ≡ x.came
+  pub bits : x.store ≡ map (source.inputs j) (range_with_len (sent s (source.counts j) n) (length x.store))
+  pub room : length x.store ≤ store_size
 
--- tributary j's counters stand in frame n, where the bits of `came` slots have arrived and `gone` slots are made
-pub record IsWithin (s : FrameShape) (j : ℕ) (counts : ℕ → ℕ) (n came gone : ℕ) (x : Tributary) : Type 0 where
-  pub fits : counts n ≤ s.len
-  pub count : x.count ≡ counts n
-  pub left : x.left ≡ came * counts n % s.len
-  pub read : x.read ≡ read_before s j counts n gone
-  pub fill : x.read + x.fill ≡ came_before s counts n came
-  pub more : x.more ≡ sends_more s counts n
-  pub room : x.fill ≤ store_size
+-- tributary j stands in frame n, where the bits of `came` slots have arrived and `gone` slots are made, and its store
+-- holds the bits that came and weren't read
+pub record IsWithin (s : FrameShape) (j : ℕ) (source : Source) (n came gone : ℕ) (x : Tributary) : Type 0 where
+  pub fits : source.counts j n ≤ s.len
+  pub count : x.count ≡ source.counts j n
+  pub left : x.left ≡ came * source.counts j n % s.len
+  pub came_is : x.came ≡ came_before s (source.counts j) n came
+  pub held : read_before s j (source.counts j) n gone + length x.store ≡ x.came
+  pub bits : x.store ≡ map (source.inputs j) (range_with_len (read_before s j (source.counts j) n gone) (length x.store))
+  pub more : x.more ≡ sends_more s (source.counts j) n
+  pub room : length x.store ≤ store_size
 
 -- all tributaries stand before frame n
-pub record AreBefore (s : FrameShape) (counts : ℕ → ℕ → ℕ) (n : ℕ) (xs : List Tributary) : Type 0 where
+pub record AreBefore (s : FrameShape) (source : Source) (n : ℕ) (xs : List Tributary) : Type 0 where
   pub all : length xs ≡ s.tribs
-  pub each : (j : ℕ) (d : Tributary) → j < s.tribs → IsBefore s j (counts j) n (slice_index_or xs j d)
+  pub each : (j : ℕ) (d : Tributary) → j < s.tribs → IsBefore s j source n (slice_index_or xs j d)
 
 -- all tributaries stand in frame n
-pub record AreWithin (s : FrameShape) (counts : ℕ → ℕ → ℕ) (n came gone : ℕ) (xs : List Tributary) : Type 0 where
+pub record AreWithin (s : FrameShape) (source : Source) (n came gone : ℕ) (xs : List Tributary) : Type 0 where
   pub all : length xs ≡ s.tribs
-  pub each : (j : ℕ) (d : Tributary) → j < s.tribs → IsWithin s j (counts j) n came gone (slice_index_or xs j d)
+  pub each : (j : ℕ) (d : Tributary) → j < s.tribs → IsWithin s j source n came gone (slice_index_or xs j d)
 
 -- ---- the inputs
 

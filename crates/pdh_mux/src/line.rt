@@ -2,7 +2,7 @@ ghost use Rattle.std.specs.Prelude.{◌≡◌, ◌<◌, ◌≤◌, ℕ, suc, ◌
 ghost use Rattle.std.specs.List.{range_with_len};
 ghost use Rattle.std.specs.Vec.{vec_capacity};
 ghost use Rattle.pdh_shape.specs.Tributary.{reads_from, turned as turned_bit};
-ghost use Rattle.pdh_line.specs.Sending.{Source, source_of, bits_at, sends_more, input_bit, slot_bit as slot_bit_of, odd_before, line_bit, front, entered};
+ghost use Rattle.pdh_line.specs.Sending.{Source, source_of, bits_at, lead, sends_more, input_bit, slot_bit as slot_bit_of, odd_before, line_bit, front, entered};
 ghost use Rattle.pdh_line.specs.Events.{overflows, events_at, events_below, first_event};
 ghost use Rattle.pdh_mux.specs.Events.{event_of, IfStore};
 ghost use Rattle.pdh_mux.specs.Making.{AreBefore, AreWithin, AreInputs, AreLists, lists_of, names_tributaries, is_payload as is_payload_role};
@@ -15,15 +15,17 @@ use std::alloc::{AllocError, Global};
 // One tributary after another takes the bit that arrives in a slot, if there is one.
 fn take_arrivals<S: Shape>(
     tributaries: &mut Vec<Tributary>,
+    inputs: &[Vec<bool>],
     frame: u64,
     slot: u32,
 ) -> Result<(), Event>
     ghost source: { Source }
     requires stores { 0 < S.COPIES }
     requires slot { slot < S.LEN }
-    requires stand { AreWithin S.shape source.counts frame slot slot tributaries.old.items }
+    requires stand { AreWithin S.shape source frame slot slot tributaries.old.items }
+    requires inputs { AreInputs S.shape source frame (suc slot) (lists_of inputs.now) }
     ensures stand { OnOk result
-        (AreWithin S.shape source.counts frame (suc slot) slot tributaries.new.items) }
+        (AreWithin S.shape source frame (suc slot) slot tributaries.new.items) }
     ensures none { OnOk result
         ((j : ℕ) → j < S.TRIBS → overflows S.shape j (source.counts j) frame slot ≡ false) }
     ensures full { IfErr result (λ event.
@@ -31,7 +33,7 @@ fn take_arrivals<S: Shape>(
     ensures frame { IfErr result (λ event. event.frame ≡ frame) }
 {
     for trib in 0..S::TRIBS {
-        if !tributaries[trib as usize].arrive(S::LEN) {
+        if !tributaries[trib as usize].arrive(S::LEN, &inputs[trib as usize]) {
             let kind = Kind::Overflow;
             return Err(Event {
                 kind,
@@ -54,7 +56,6 @@ fn turned(inverted: bool, bit: bool) -> bool
 // The next bit of the tributary that a slot carries, after the slot's arrivals.
 fn read<S: Shape>(
     tributaries: &mut Vec<Tributary>,
-    inputs: &[Vec<bool>],
     trib: u8,
     frame: u64,
     slot: u32,
@@ -63,14 +64,13 @@ fn read<S: Shape>(
     requires stores { 0 < S.COPIES }
     requires known { trib < S.TRIBS }
     requires slot { slot < S.LEN }
-    requires stand { AreWithin S.shape source.counts frame (suc slot) slot tributaries.old.items }
+    requires stand { AreWithin S.shape source frame (suc slot) slot tributaries.old.items }
     requires arrived { (j : ℕ) → j < S.TRIBS →
         overflows S.shape j (source.counts j) frame slot ≡ false }
-    requires inputs { AreInputs S.shape source frame (suc slot) (lists_of inputs.now) }
     requires reads { reads_from trib (sends_more S.shape (source.counts trib) frame)
         (S.shape.role slot) ≡ true }
     ensures stand { OnOk result
-        (AreWithin S.shape source.counts frame (suc slot) (suc slot) tributaries.new.items) }
+        (AreWithin S.shape source frame (suc slot) (suc slot) tributaries.new.items) }
     ensures none { OnOk result (events_at S.shape source.counts frame slot ≡ []) }
     ensures bit { IfOk result (λ bit. bit ≡ input_bit S.shape source frame slot trib) }
     ensures empty { IfErr result (λ event.
@@ -78,7 +78,7 @@ fn read<S: Shape>(
     ensures frame { IfErr result (λ event. event.frame ≡ frame) }
 {
     match tributaries[trib as usize].leave() {
-        Some(place) => Ok(turned(S::inverted(trib), inputs[trib as usize][place])),
+        Some(bit) => Ok(turned(S::inverted(trib), bit)),
         None => {
             let kind = Kind::Underflow;
             Err(Event {
@@ -94,7 +94,6 @@ fn read<S: Shape>(
 // The bit of a slot, after the slot's arrivals.
 fn slot_bit<S: Shape>(
     tributaries: &mut Vec<Tributary>,
-    inputs: &[Vec<bool>],
     say: &Service,
     odd: bool,
     frame: u64,
@@ -104,14 +103,13 @@ fn slot_bit<S: Shape>(
     requires stores { 0 < S.COPIES }
     requires roles { names_tributaries S.shape ≡ true }
     requires slot { slot < S.LEN }
-    requires stand { AreWithin S.shape source.counts frame (suc slot) slot tributaries.old.items }
+    requires stand { AreWithin S.shape source frame (suc slot) slot tributaries.old.items }
     requires arrived { (j : ℕ) → j < S.TRIBS →
         overflows S.shape j (source.counts j) frame slot ≡ false }
-    requires inputs { AreInputs S.shape source frame (suc slot) (lists_of inputs.now) }
     requires says { source.says frame ≡ say.now }
     requires odd { odd ≡ odd_before S.shape source frame }
     ensures stand { OnOk result
-        (AreWithin S.shape source.counts frame (suc slot) (suc slot) tributaries.new.items) }
+        (AreWithin S.shape source frame (suc slot) (suc slot) tributaries.new.items) }
     ensures none { OnOk result (events_at S.shape source.counts frame slot ≡ []) }
     ensures bit { IfOk result (λ bit.
         bit ≡ slot_bit_of S.shape source frame slot (S.shape.role slot)) }
@@ -127,9 +125,9 @@ fn slot_bit<S: Shape>(
             if !tributaries[trib as usize].more {
                 return Ok(true);
             }
-            read::<S>(tributaries, inputs, trib, frame, slot)
+            read::<S>(tributaries, trib, frame, slot)
         }
-        Role::Info(trib) => read::<S>(tributaries, inputs, trib, frame, slot),
+        Role::Info(trib) => read::<S>(tributaries, trib, frame, slot),
     }
 }
 
@@ -146,12 +144,12 @@ fn make_bit<S: Shape>(
     requires stores { 0 < S.COPIES }
     requires roles { names_tributaries S.shape ≡ true }
     requires slot { slot < S.LEN }
-    requires stand { AreWithin S.shape source.counts frame slot slot tributaries.old.items }
+    requires stand { AreWithin S.shape source frame slot slot tributaries.old.items }
     requires inputs { AreInputs S.shape source frame (suc slot) (lists_of inputs.now) }
     requires says { source.says frame ≡ say.now }
     requires odd { odd ≡ odd_before S.shape source frame }
     ensures stand { OnOk result
-        (AreWithin S.shape source.counts frame (suc slot) (suc slot) tributaries.new.items) }
+        (AreWithin S.shape source frame (suc slot) (suc slot) tributaries.new.items) }
     ensures none { OnOk result (events_at S.shape source.counts frame slot ≡ []) }
     ensures bit { IfOk result (λ bit.
         bit ≡ slot_bit_of S.shape source frame slot (S.shape.role slot)) }
@@ -159,8 +157,8 @@ fn make_bit<S: Shape>(
         slice_get (events_at S.shape source.counts frame slot) 0 ≡ Some (event_of event)) }
     ensures frame { IfErr result (λ event. event.frame ≡ frame) }
 {
-    take_arrivals::<S>(tributaries, frame, slot)?;
-    slot_bit::<S>(tributaries, inputs, say, odd, frame, slot)
+    take_arrivals::<S>(tributaries, inputs, frame, slot)?;
+    slot_bit::<S>(tributaries, say, odd, frame, slot)
 }
 
 // Whether a slot of this role is an information or a justifiable slot.
@@ -183,14 +181,14 @@ fn make_frame<S: Shape>(
     ghost source: { Source }
     requires stores { 0 < S.COPIES }
     requires roles { names_tributaries S.shape ≡ true }
-    requires stand { AreWithin S.shape source.counts frame 0 0 tributaries.old.items }
+    requires stand { AreWithin S.shape source frame 0 0 tributaries.old.items }
     requires inputs { AreInputs S.shape source frame S.LEN (lists_of inputs.now) }
     requires says { source.says frame ≡ say.now }
     requires odd { odd ≡ odd_before S.shape source frame }
     requires none { events_below S.shape source.counts (frame * S.LEN) ≡ [] }
     requires room { vec_len line.old + S.LEN ≤ vec_capacity line.old }
     ensures stand { OnOk result
-        (AreWithin S.shape source.counts frame S.LEN S.LEN tributaries.new.items) }
+        (AreWithin S.shape source frame S.LEN S.LEN tributaries.new.items) }
     ensures none { OnOk result (events_below S.shape source.counts (suc frame * S.LEN) ≡ []) }
     ensures bits { OnOk result
         (line.new.items
@@ -221,11 +219,13 @@ fn make_frame<S: Shape>(
 
 // Begins a frame: for each tributary it is decided whether the frame carries an additional bit.
 fn begin_frame<S: Shape, C: Counts>(tributaries: &mut Vec<Tributary>, counts: &C, frame: u64)
+    ghost source: { Source }
     requires stores { 0 < S.COPIES }
+    requires counts { source.counts ≡ C.counts counts.now }
     requires known { (j : ℕ) → j < S.TRIBS → C.can_count counts.now j frame }
-    requires fits { (j : ℕ) → j < S.TRIBS → C.counts counts.now j frame ≤ S.LEN }
-    requires stand { AreBefore S.shape (C.counts counts.now) frame tributaries.old.items }
-    ensures { AreWithin S.shape (C.counts counts.now) frame 0 0 tributaries.new.items }
+    requires fits { (j : ℕ) → j < S.TRIBS → source.counts j frame ≤ S.LEN }
+    requires stand { AreBefore S.shape source frame tributaries.old.items }
+    ensures { AreWithin S.shape source frame 0 0 tributaries.new.items }
 {
     for trib in 0..S::TRIBS {
         tributaries[trib as usize].begin(counts.count(frame, trib));
@@ -247,7 +247,7 @@ fn make_frames<S: Shape, C: Counts>(
     requires counts { source.counts ≡ C.counts counts.now }
     requires known { (j n : ℕ) → j < S.TRIBS → n < frames → C.can_count counts.now j n }
     requires fits { (j n : ℕ) → j < S.TRIBS → n < frames → source.counts j n ≤ S.LEN }
-    requires stand { AreBefore S.shape source.counts 0 tributaries.old.items }
+    requires stand { AreBefore S.shape source 0 tributaries.old.items }
     requires inputs { AreLists S.shape source frames (lists_of inputs.now) }
     requires says { (n : ℕ) → source.says n ≡ say.now }
     requires room { vec_len line.old + frames * S.LEN ≤ vec_capacity line.old }
@@ -267,14 +267,17 @@ fn make_frames<S: Shape, C: Counts>(
     Ok(())
 }
 
-// The tributaries before the first frame.
-fn open<S: Shape>(alloc: Global) -> Result<Vec<Tributary>, AllocError>
-    ensures { IfOk result (λ tributaries.
-        (counts : ℕ → ℕ → ℕ) → AreBefore S.shape counts 0 tributaries.items) }
+// The tributaries before the first frame, with their leads.
+fn open<S: Shape>(alloc: Global, inputs: &[Vec<bool>]) -> Result<Vec<Tributary>, AllocError>
+    requires inputs { length inputs.now ≡ S.TRIBS }
+    requires leads { (j : ℕ) → j < S.TRIBS → lead ≤ length (bits_at (lists_of inputs.now) j) }
+    ensures { IfOk result (λ tributaries. (source : Source)
+        → AreInputs S.shape source 0 0 (lists_of inputs.now)
+        → AreBefore S.shape source 0 tributaries.items) }
 {
     let mut tributaries = Vec::new(alloc);
-    for _ in 0..S::TRIBS {
-        tributaries.push(Tributary::new())?;
+    for trib in 0..S::TRIBS {
+        tributaries.push(Tributary::open(alloc, &inputs[trib as usize])?)?;
     }
     Ok(tributaries)
 }
@@ -314,7 +317,10 @@ pub fn make_line<S: Shape, C: Counts>(
     ensures known { IfErr result (λ stop. IfStore stop (λ event. event.trib < S.TRIBS)) }
     ensures memory { result ≡ Err Stop.Memory → line.new.items ≡ line.old.items }
 {
-    let mut tributaries = open::<S>(alloc)?;
+    if frames == 0 {
+        return Ok(());
+    }
+    let mut tributaries = open::<S>(alloc, inputs)?;
     line.reserve(frames as usize * S::LEN as usize)?;
     make_frames::<S, C>(&mut tributaries, counts, inputs, say, frames, line)?;
     Ok(())

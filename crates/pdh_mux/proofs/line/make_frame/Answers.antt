@@ -22,7 +22,7 @@ loop-slot-preserved g c =
 pub returns-clause-stand : goal.returns-clause-stand
 returns-clause-stand g c =
     let all : c.loop-slot.slot ≡ g.S.Shape.LEN = omega arith in
-    subst (λ t. AreWithin g.S.Shape.shape g.source.counts c.args.frame t t c.loop-slot.tributaries.items) all c.loop-slot.invariant.within
+    subst (λ t. AreWithin g.S.Shape.shape g.source c.args.frame t t c.loop-slot.tributaries.items) all c.loop-slot.invariant.within
 
 pub returns-clause-odd : goal.returns-clause-odd
 returns-clause-odd g c =

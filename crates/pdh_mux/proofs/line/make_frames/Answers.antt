@@ -18,21 +18,16 @@ loop-frame-init g c =
     let room : vec_len c.args.line.now + c.args.frames * g.S.Shape.shape.len ≤ c.args.line.now.cap = subst (λ k. vec_len c.args.line.now + c.args.frames * k ≤ c.args.line.now.cap) (sym len) c.requires.1.1.1.1.1.1.1.1.1.1 in
     extending_none g.S.Shape.shape g.source c.args.frames c.args.tributaries.now.items c.args.line.now c.requires.1.1.1.1.1.1.1.0 room
 
-pub begin_frame-requires-clause-fits : goal.begin_frame-requires-clause-fits
-begin_frame-requires-clause-fits g c j known =
-    subst (λ f. f j c.loop-frame.frame ≤ g.S.Shape.LEN) c.requires.1.1.1.1.0 (c.requires.1.1.1.1.1.1.0 j c.loop-frame.frame known c.loop-frame-test.true)
-
 pub make_frame-requires : goal.make_frame-requires
 make_frame-requires g c κs within =
     let s : FrameShape = g.S.Shape.shape in
     let n : ℕ = c.loop-frame.frame in
-    let begun = subst (λ f. AreWithin s f n 0 0 c.begin_frame.new.tributaries.items) (sym c.requires.1.1.1.1.0) c.begin_frame.ensures in
     let inputs = subst (λ k. AreInputs s g.source n k (lists_of c.args.inputs.now)) g.met.S.Shape.len_is
     (lists_inputs s g.source c.args.frames n (lists_of c.args.inputs.now) g.met.S.Shape.is_frame c.requires.1.1.1.1.1.1.1.1.0 c.loop-frame-test.true) in
     let none = subst (λ k. events_below s g.source.counts (n * k) ≡ []) g.met.S.Shape.len_is c.loop-frame.invariant.none in
     let room = subst (λ k. vec_len c.loop-frame.line + k ≤ c.loop-frame.line.cap) g.met.S.Shape.len_is
     (room_left s g.source c.args.frames n c.loop-frame.tributaries.items c.args.line.now c.loop-frame.line c.loop-frame.odd c.loop-frame.invariant c.loop-frame-test.true) in
-    (search rules, (c.requires.1.1.0, (c.requires.1.1.1.0, (begun, (inputs, (c.requires.1.1.1.1.1.1.1.1.1.0 n, (c.loop-frame.invariant.odd_is, (none, room))))))))
+    (search rules, (c.requires.1.1.0, (c.requires.1.1.1.0, (c.begin_frame.ensures, (inputs, (c.requires.1.1.1.1.1.1.1.1.1.0 n, (c.loop-frame.invariant.odd_is, (none, room))))))))
 
 pub returns-in_err-odd-clause-stop : goal.returns-in_err-odd-clause-stop
 returns-in_err-odd-clause-stop g c =
@@ -44,7 +39,7 @@ loop-frame-preserved g c =
     let s : FrameShape = g.S.Shape.shape in
     let n : ℕ = c.loop-frame.frame in
     let len : g.S.Shape.LEN ≡ s.len = sym g.met.S.Shape.len_is in
-    let within = subst (λ k. AreWithin s g.source.counts n k k c.make_frame.new.tributaries.items) len c.in_ok-odd.ensures.stand in
+    let within = subst (λ k. AreWithin s g.source n k k c.make_frame.new.tributaries.items) len c.in_ok-odd.ensures.stand in
     let none = subst (λ k. events_below s g.source.counts (suc n * k) ≡ []) len c.in_ok-odd.ensures.none in
     let bits = subst (λ k. c.make_frame.new.line.items ≡ c.loop-frame.line.items ++ map (line_bit s g.source) (range_with_len (n * k) k)) len c.in_ok-odd.ensures.bits in
     extending_more s g.source c.args.frames n c.loop-frame.tributaries.items c.make_frame.new.tributaries.items c.args.line.now c.loop-frame.line c.make_frame.new.line c.loop-frame.odd c.in_ok-odd.odd

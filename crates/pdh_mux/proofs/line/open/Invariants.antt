@@ -1,7 +1,7 @@
-use Rattle.std.proofs.Common.{◌≡◌}
-use Rattle.std.specs.Prelude.{replicate}
-use Rattle.pdh_mux.proofs.Tributaries.{opened}
+use Rattle.pdh_mux.specs.Making.{lists_of}
+use Rattle.pdh_mux.proofs.Tributaries.{Opening}
 use Rattle.pdh_mux.proofs.line.open.Given as goal
 
-abbrev pub invariant-loop : goal.invariant-loop
-invariant-loop g l = l.tributaries.items ≡ replicate l.counter opened
+-- the tributaries so far have their leads
+abbrev pub invariant-loop-trib : goal.invariant-loop-trib
+invariant-loop-trib g l = Opening (lists_of l.inputs) l.trib l.tributaries.items

@@ -3,4 +3,4 @@ use Rattle.pdh_mux.proofs.line.take_arrivals.Given as goal
 
 -- the tributaries so far have taken what arrives
 abbrev pub invariant-loop-trib : goal.invariant-loop-trib
-invariant-loop-trib g l = Arriving g.S.Shape.shape g.source.counts l.frame l.slot l.trib l.tributaries.items
+invariant-loop-trib g l = Arriving g.S.Shape.shape g.source l.frame l.slot l.trib l.tributaries.items

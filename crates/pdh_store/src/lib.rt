@@ -1,0 +1,9 @@
+//! The elastic store of a tributary: bits that wait between their arrival and the line.
+#![tactic(auto)]
+
+mod store;
+
+pub use store::{Overflow, Store, Underflow};
+
+#[cfg(test)]
+mod tests;

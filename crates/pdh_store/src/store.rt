@@ -1,0 +1,87 @@
+ghost use Rattle.std.specs.Prelude.{◌≡◌, ◌<◌, ◌≤◌, ◌↔◌, [], ◌∷◌, ◌++◌, length, nat_le, IsErr, IfOk, OnOk, OnErr};
+ghost use Rattle.pdh_line.specs.Sending.{threshold, store_size};
+
+use circular_buffer::HeapCircularBuffer;
+use std::alloc::{AllocError, Global};
+use std::marker::Model;
+
+const STORE_SIZE: usize = 48;
+
+const THRESHOLD: u32 = 24;
+
+/// The refusal of a store that holds as many bits as it may.
+#[derive(Clone, Copy, Debug, PartialEq, Eq)]
+pub struct Overflow;
+
+/// The refusal of a store that holds no bit.
+#[derive(Clone, Copy, Debug, PartialEq, Eq)]
+pub struct Underflow;
+
+/// The elastic store of one tributary, as positive justification needs it (ITU-T G.742, 5): at most
+/// 48 bits, which leave in the order of their arrival. The size and the threshold of 24 bits are
+/// this project's own. Only `open` takes memory.
+#[derive(Drop)]
+pub struct Store {
+    ring: HeapCircularBuffer<bool>,
+}
+
+impl Model for Store {
+    ghost use Rattle.std.specs.Prelude.{◌≡◌, ◌≤◌, Bool, List, length};
+    ghost use Rattle.pdh_line.specs.Sending.{store_size};
+
+    // the bits, from the oldest to the newest
+    ghost Value = { List Bool };
+
+    ghost view = { λ s. s.ring.items };
+
+    ghost invariant = { λ s. (s.ring.capacity ≡ store_size) × (length s.ring.items ≤ store_size) };
+}
+
+impl Store {
+    /// An empty store with room for 48 bits, or the refusal of memory for it.
+    pub fn open(alloc: Global) -> Result<Store, AllocError>
+        ensures { IfOk result (λ store. store ≡ []) }
+    {
+        let ring = HeapCircularBuffer::with_capacity(alloc, STORE_SIZE)?;
+        Ok(Store { ring })
+    }
+
+    /// Appends a bit that arrives, or refuses it where 48 bits are held, and then keeps them all.
+    pub fn arrive(&mut self, bit: bool) -> Result<(), Overflow>
+        ensures full { IsErr result ↔ (length self.old ≡ store_size) }
+        ensures room { OnOk result (length self.old < store_size) }
+        ensures ok { OnOk result (self.new ≡ self.old ++ bit ∷ []) }
+        ensures err { OnErr result (self.new ≡ self.old) }
+    {
+        if self.ring.is_full() {
+            return Err(Overflow);
+        }
+        self.ring.push_back(bit);
+        Ok(())
+    }
+
+    /// Takes out the oldest bit, or refuses where no bit is held.
+    pub fn leave(&mut self) -> Result<bool, Underflow>
+        ensures empty { IsErr result ↔ (self.old ≡ []) }
+        ensures ok { IfOk result (λ bit. self.old ≡ bit ∷ self.new) }
+        ensures err { OnErr result (self.new ≡ self.old) }
+    {
+        self.ring.pop_front().ok_or(Underflow)
+    }
+
+    /// How many bits are held, from 0 to 48.
+    pub fn fill(&self) -> u32
+        ensures count { result ≡ length self.now }
+        ensures bounded { length self.now ≤ store_size }
+    {
+        self.ring.len() as u32
+    }
+
+    /// Whether a frame that begins now carries an additional bit, so that its justifiable slot isn't
+    /// justified (ITU-T G.742, 5): exactly where 24 bits or more are held.
+    pub fn carries_more(&self) -> bool
+        ensures { result ≡ nat_le threshold (length self.now) }
+    {
+        self.fill() >= THRESHOLD
+    }
+}
