@@ -26,7 +26,7 @@ none_below : (steps : List ℕ) → flat_map {X = ℕ} {A = List ℕ} (λ step. 
 none_below [] = refl
 none_below (step ∷ steps) = none_below steps
 
-one_node : (level : Level) → nodes_of (level ∷ []) ≡ [] ∷ []
+pub one_node : (level : Level) → nodes_of (level ∷ []) ≡ [] ∷ []
 one_node level = ap (λ nodes. [] ∷ nodes) (none_below (range_with_len 1 level.tribs))
 
 found_top : (short : List ℕ → Bool) (shown : List ℕ → Shortage)
@@ -52,7 +52,7 @@ never : (b : Bool) → IsSome (cond {A = Option Level} b None None) → ⊥
 never true some = false≢true some
 never false some = false≢true some
 
-none_deeper : (level : Level) (step : ℕ) (steps : List ℕ) → IsSome (level_at (level ∷ []) (step ∷ steps)) → ⊥
+pub none_deeper : (level : Level) (step : ℕ) (steps : List ℕ) → IsSome (level_at (level ∷ []) (step ∷ steps)) → ⊥
 none_deeper level step steps some = never (nat_le 1 step && nat_le step level.tribs) some
 
 depth_top : (level : Level) (depth first second : ℕ) → IsSome (level_at (level ∷ []) (take depth (first ∷ second ∷ []))) → depth ≡ 0

@@ -51,7 +51,7 @@ row_read levels number line lines front row kept judged =
     ∙ ap (λ answer. with_front front (reads answer)) (sym judged)
     ∙ ap (λ b. with_front front (cond b passed (reads (row_judged levels number line)))) (sym kept)
 
-count_small : (counts : List ℕ) (len : ℕ) → len ≤ 4760 → All (λ count. count ≤ len) counts → (trib : ℕ)
+pub count_small : (counts : List ℕ) (len : ℕ) → len ≤ 4760 → All (λ count. count ≤ len) counts → (trib : ℕ)
     → slice_index counts trib ≤ 4760
 count_small counts len l each trib = elim (cases_lt trib (length counts)) [
   | inl within ↦ omega (arith, All-get_or (λ count. count ≤ len) counts trib 0 within each)

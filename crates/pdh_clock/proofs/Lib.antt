@@ -9,3 +9,15 @@ pub mod Growing
 pub mod Beginning
 pub mod Worked
 pub mod Laws
+pub mod OutsideLaws
+pub mod MadeLaws
+pub mod Rising
+pub mod FirstBreaks
+pub mod Parts
+pub mod RatesLaws
+pub mod OneLevel
+pub mod MadeRows
+pub mod MadeRuns
+pub mod WrittenRows
+pub mod ReadBack
+pub mod WorkedSchedules

@@ -16,7 +16,7 @@ use Rattle.pdh_clock.proofs.Storing.{length-stored_rows, frames_of-stored_rows, 
 pub length-rows_of : (t : Table) → length (rows_of t) ≡ length t.repeats.items
 length-rows_of t = length-stored_rows t.tribs t.repeats.items t.counts.items
 
-frames_of-rows_of : (t : Table) → frames_of (rows_of t) [] ≡ joined (rows_of t)
+pub frames_of-rows_of : (t : Table) → frames_of (rows_of t) [] ≡ joined (rows_of t)
 frames_of-rows_of t = frames_of-stored_rows t.tribs t.repeats.items t.counts.items
 
 -- the k-th row
@@ -43,7 +43,7 @@ last_before t trib h m =
     ∙ ap (λ rows. row_bits rows trib) (take_all (length t.repeats.items) (rows_of t) (omega (arith, length-rows_of t)))
 
 -- the next row begins behind the frames of this one
-next_first : (t : Table) (k : ℕ) → IsTable t → k < length t.repeats.items
+pub next_first : (t : Table) (k : ℕ) → IsTable t → k < length t.repeats.items
     → slice_index t.firsts.items (k + 1) ≡ slice_index t.firsts.items k + (row_at t k).repeat
 next_first t k h l =
     h.firsts (k + 1) (omega arith) ∙ sum_by_more (λ row. row.repeat) (rows_of t) k no_row (omega (arith, length-rows_of t))

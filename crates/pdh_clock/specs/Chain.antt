@@ -46,6 +46,10 @@ stores_at levels path = option_map_or stores_of (level_at levels path) 0
 abbrev pub len_at : List Level → List ℕ → ℕ
 len_at levels path = option_map_or (λ level. level.len) (level_at levels path) 0
 
+-- the least bits of a tributary that a frame of the node at a path carries, or 0 where there is none
+abbrev pub low_at : List Level → List ℕ → ℕ
+low_at levels path = option_map_or (λ level. level.low) (level_at levels path) 0
+
 -- the nodes in order: a node, and then those below each of its tributaries
 abbrev pub nodes_of : List Level → List (List ℕ)
 nodes_of [] = []

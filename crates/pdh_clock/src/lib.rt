@@ -13,15 +13,23 @@
 //! For now a chain has one level, so its top is its one node.
 #![tactic(auto)]
 
+mod bias;
 mod fault;
 mod judge;
+mod made;
+mod outside;
 mod reading;
 mod row;
 mod schedule;
 mod table;
 #[cfg(test)]
 mod tests;
+mod tolerance;
 mod words;
+mod writing;
 
+pub use bias::Bias;
 pub use fault::ScheduleFault;
+pub use outside::Outside;
 pub use schedule::{MOST_BYTES, Schedule, Short};
+pub use words::number;

@@ -1,10 +1,15 @@
 //! Schedules.
 
+use crate::bias::Bias;
 use crate::fault::ScheduleFault;
+use crate::made::made_table;
+use crate::outside::Outside;
 use crate::reading::read_rows;
 use crate::table::Table;
+use crate::tolerance::within_tolerance;
+use crate::writing::write_rows;
 use pdh_shape::{Level, Path};
-use std::alloc::Global;
+use std::alloc::{AllocError, Global};
 use std::marker::Model;
 
 /// The most bytes that a schedule's text may have.
@@ -41,13 +46,20 @@ pub struct Short {
 }
 
 impl Schedule {
-    ghost use Rattle.std.specs.Prelude.{◌≡◌, ◌<◌, ◌≤◌, ◌*◌, [], All, IsNone, IsSome, IfOk, option_map, length};
+    ghost use Rattle.std.specs.Prelude.{◌≡◌, ℕ, ◌<◌, ◌≤◌, ◌*◌, List, [], All, IsNone, IsSome, IfOk, Ok, Some, option_map, length};
+    ghost use Rattle.pdh_shape.specs.Frame.{FrameShape};
+    ghost use Rattle.pdh_shape.specs.declared.place.Level.{Level};
     ghost use Rattle.pdh_line.specs.Sending.{arrived};
-    ghost use Rattle.pdh_clock.specs.Chain.{AreLevels, steps_of, level_at, stores_at, len_at};
+    ghost use Rattle.pdh_line.specs.Tolerance.{IsWithin};
+    ghost use Rattle.pdh_clock.specs.Chain.{AreLevels, steps_of, level_at, stores_at, len_at, low_at};
     ghost use Rattle.pdh_clock.specs.Judged.{Gives, schedule_of};
-    ghost use Rattle.pdh_clock.specs.Contents.{IsRowOf, counts, frame_count};
+    ghost use Rattle.pdh_clock.specs.Contents.{IsRowOf, frames_of, counts, frame_count};
     ghost use Rattle.pdh_clock.specs.Stored.{IsTable, rows_of};
     ghost use Rattle.pdh_clock.specs.Begun.{frames_begun, shortage, shortage_of};
+    ghost use Rattle.pdh_clock.specs.Outside.{first_outside, run_in};
+    ghost use Rattle.pdh_clock.specs.Made.{IsRated, made};
+    ghost use Rattle.pdh_clock.specs.Rates.{IsWithinRates};
+    ghost use Rattle.pdh_clock.specs.Written.{text_of, ReadsBack};
 
     /// Reads a schedule's text. Faults are those of the first line that has one, and memory may run out besides.
     #[tactic(auto, unfolding(crate::specs::Judged::schedule_of))]
@@ -109,6 +121,18 @@ impl Schedule {
         self.table_of(node).total(frames, usize::from(trib))
     }
 
+    /// Whether a tributary, counted from 0, is within the tolerance over all frames of its node; else the run of frames
+    /// that breaks it with the least end, and for this the least first frame.
+    pub fn within(&self, node: &Path, trib: u8) -> Result<(), Outside>
+        requires in_range { trib < stores_at self.now.levels (steps_of node.now) }
+        ensures run { run_in result ≡ first_outside (low_at self.now.levels (steps_of node.now)) (counts self.now.rows (steps_of node.now) trib) (frame_count self.now.rows (steps_of node.now)) }
+        ensures inside { (shape : FrameShape) → shape.low ≡ low_at self.now.levels (steps_of node.now) → result ≡ Ok tt → IsWithin shape (counts self.now.rows (steps_of node.now) trib) (frame_count self.now.rows (steps_of node.now)) }
+        ensures outside { (shape : FrameShape) → shape.low ≡ low_at self.now.levels (steps_of node.now) → IsWithin shape (counts self.now.rows (steps_of node.now) trib) (frame_count self.now.rows (steps_of node.now)) → result ≡ Ok tt }
+        ensures rates { (level : Level) → level_at self.now.levels (steps_of node.now) ≡ Some level → IsRated level → IsWithinRates level (counts self.now.rows (steps_of node.now) trib) (frame_count self.now.rows (steps_of node.now)) → result ≡ Ok tt }
+    {
+        within_tolerance(self.table_of(node), usize::from(trib), self.level.low)
+    }
+
     /// The first node that has fewer frames than it begins while the top makes so many. A node comes before those
     /// below it.
     pub fn short(&self, top_frames: u64) -> Option<Short>
@@ -140,5 +164,34 @@ impl Schedule {
         let _ = &self.level;
         prove!(node.depth == 0);
         top_frames
+    }
+
+    /// Makes the schedule of so many frames in which every tributary brings the whole bits of its own clock, which is off
+    /// by as many parts per million as its level says, as the line's is.
+    pub fn from_ppm(
+        alloc: Global,
+        levels: &[Level],
+        frames: u64,
+        bias: Bias,
+    ) -> Result<Schedule, AllocError>
+        requires levels { AreLevels levels.now }
+        requires rated { All IsRated levels.now }
+        requires few { frames ≤ 16384 }
+        ensures levels { IfOk result (λ schedule. schedule.levels ≡ levels.now) }
+        ensures frames { IfOk result (λ schedule. (path : List ℕ) → frames_of schedule.rows path ≡ made levels.now bias frames path) }
+        ensures sound { IfOk result (λ schedule. All (IsRowOf levels.now) schedule.rows) }
+        ensures within { IfOk result (λ schedule. (path : List ℕ) (trib : ℕ) (shape : FrameShape) → trib < stores_at levels.now path → shape.low ≡ low_at levels.now path → IsWithin shape (counts schedule.rows path trib) (frame_count schedule.rows path)) }
+    {
+        let level = levels[0];
+        let table = made_table(alloc, &level, frames, bias)?;
+        Ok(Schedule { level, table })
+    }
+
+    /// Writes the schedule: the nodes in order, a node before those below it, and one row for each longest run of equal frames.
+    pub fn text(&self, alloc: Global) -> Result<Vec<u8>, AllocError>
+        ensures text { IfOk result (λ text. text.items ≡ text_of self.now) }
+        ensures read_back { IfOk result (λ text. ReadsBack self.now text.items) }
+    {
+        write_rows(alloc, &self.table)
     }
 }

@@ -4,6 +4,7 @@ ghost use Rattle.std.specs.Prelude.{◌≡◌, ◌≤◌, ◌<◌, ◌*◌, ◌+
 ghost use Rattle.std.specs.List.Sorted.{IsNonDecreasing};
 ghost use Rattle.pdh_clock.specs.Stored.{IsTable, top_row, rows_of, row_frames, row_bits, sum_with};
 ghost use Rattle.pdh_clock.specs.Contents.{frame_count, counts};
+ghost use Rattle.pdh_clock.specs.Bounds.{IsTribRow};
 ghost use Rattle.pdh_line.specs.Sending.{arrived};
 
 use std::alloc::{AllocError, Global};
@@ -21,6 +22,19 @@ pub struct Table {
     pub counts: Vec<u32>,
     /// For each row the bits of each tributary in the rows before it, and then those in all rows.
     pub before: Vec<u64>,
+}
+
+/// A row as it is for one of its tributaries.
+#[derive(Clone, Copy)]
+pub struct TribRow {
+    /// The number of its first frame.
+    pub first: u64,
+    /// Of how many frames it is.
+    pub frames: u32,
+    /// The tributary's bits in the rows before it.
+    pub before: u64,
+    /// The tributary's bits in each of its frames.
+    pub count: u32,
 }
 
 /// Adds to the end, for each tributary, its bits in all rows before a row and in that row.
@@ -124,5 +138,23 @@ impl Table {
         let place = row * self.tribs + trib;
         let before = self.before.as_slice();
         before[place] + (frames - self.firsts[row]) * u64::from(self.counts[place])
+    }
+
+    /// The row of that number, for a tributary.
+    pub fn trib_row(&self, row: usize, trib: usize) -> TribRow
+        requires table { IsTable self.now }
+        requires row { row < length self.now.repeats.items }
+        requires in_range { trib < self.now.tribs }
+        ensures row { IsTribRow (counts (rows_of self.now) [] trib) (slice_index self.now.firsts.items row) (slice_index self.now.firsts.items (row + 1)) result }
+        ensures fits { result.first + result.frames < 2 ^ 64 }
+    {
+        let place = row * self.tribs + trib;
+        let firsts = self.firsts.as_slice();
+        TribRow {
+            first: firsts[row],
+            frames: self.repeats[row],
+            before: self.before[place],
+            count: self.counts[place],
+        }
     }
 }

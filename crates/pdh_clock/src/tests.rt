@@ -1,6 +1,8 @@
 //! Worked schedules.
 
-use crate::{MOST_BYTES, Schedule, ScheduleFault};
+ghost use Rattle.std.specs.Prelude.{◌<◌};
+
+use crate::{Bias, MOST_BYTES, Outside, Schedule, ScheduleFault};
 use pdh_shape::{Level, Path};
 use std::alloc::Global;
 use std::test::Fail;
@@ -29,6 +31,12 @@ const E12: Level = Level {
 fn frames_of(alloc: Global, text: &[u8]) -> Result<u64, ScheduleFault> {
     let schedule = Schedule::read(alloc, &[E12], text)?;
     Ok(schedule.frames(&TOP))
+}
+
+/// What a text is written as, or the text's fault.
+fn written(alloc: Global, text: &[u8]) -> Result<Vec<u8>, ScheduleFault> {
+    let schedule = Schedule::read(alloc, &[E12], text)?;
+    Ok(schedule.text(alloc)?)
 }
 
 #[test]
@@ -137,4 +145,193 @@ fn finds_counts_and_totals(rt: HostRuntime) -> Result<(), Fail> {
     assert!(rt; schedule.short(5).is_none());
     assert_eq!(rt; schedule.begun(&TOP, 5), 5);
     Ok(())
+}
+
+#[test]
+fn writes_longest_rows(rt: HostRuntime) -> Result<(), Fail> {
+    let rows: [(&str, &str); 7] = [
+        ("", ""),
+        ("# none\n\n", ""),
+        ("/ 1 0 10 205 848", "/ 1 0 10 205 848\n"),
+        (
+            "/ 1 1 2 3 4\n/ 2 1 2 3 4\n# c\n\n/ 1 1 2 3 5",
+            "/ 3 1 2 3 4\n/ 1 1 2 3 5\n",
+        ),
+        // Rows that differ in their first or their last count, and equal ones that another stands between.
+        (
+            "/ 2 1 2 3 4\n/ 3 2 2 3 4\n/ 4 2 2 3 5\n/ 5 1 2 3 4\n",
+            "/ 2 1 2 3 4\n/ 3 2 2 3 4\n/ 4 2 2 3 5\n/ 5 1 2 3 4\n",
+        ),
+        (
+            "/ 1 5 5 5 5\n/ 9 6 6 6 6\n/ 1 6 6 6 6\n/ 90 6 6 6 6\n",
+            "/ 1 5 5 5 5\n/ 100 6 6 6 6\n",
+        ),
+        // More frames than a row that is read may have.
+        (
+            "/ 999999999 1 2 3 4\n/ 999999999 1 2 3 4\n",
+            "/ 1999999998 1 2 3 4\n",
+        ),
+    ];
+    for (text, expected) in rows {
+        let answer = written(rt.alloc(), text.as_bytes())?;
+        assert_eq!(rt; answer.as_slice(), expected.as_bytes(), "at {text}");
+    }
+    Ok(())
+}
+
+#[test]
+fn makes_nominal_counts(rt: HostRuntime) -> Result<(), Fail> {
+    let schedule = Schedule::from_ppm(rt.alloc(), &[E12], 3, Bias::Nominal)?;
+    assert_eq!(rt; schedule.frames(&TOP), 3);
+    for (frame, count) in [(0, 205), (1, 206), (2, 205)] {
+        assert!(rt; frame < schedule.frames(&TOP));
+        for trib in 0..4 {
+            assert_eq!(rt;
+                schedule.count(&TOP, frame, trib),
+                count,
+                "at {frame}, {trib}"
+            );
+        }
+    }
+    Ok(())
+}
+
+#[test]
+fn makes_biased_counts(rt: HostRuntime) -> Result<(), Fail> {
+    // A frame, the first and the second tributary's count in it, and the bits of both up to its end.
+    let rows: [(Bias, u64, [u32; 2], [u64; 2]); 12] = [
+        (Bias::Fast, 0, [205, 205], [205, 205]),
+        (Bias::Fast, 6, [206, 206], [1_439, 1_439]),
+        (Bias::Fast, 12, [205, 205], [2_672, 2_672]),
+        (Bias::Fast, 9_999, [206, 206], [2_055_922, 2_055_922]),
+        (Bias::Slow, 0, [205, 205], [205, 205]),
+        (Bias::Slow, 6, [205, 205], [1_438, 1_438]),
+        (Bias::Slow, 12, [206, 206], [2_672, 2_672]),
+        (Bias::Slow, 9_999, [206, 206], [2_055_593, 2_055_593]),
+        (Bias::Mixed, 0, [205, 205], [205, 205]),
+        (Bias::Mixed, 6, [206, 205], [1_439, 1_438]),
+        (Bias::Mixed, 12, [206, 206], [2_672, 2_672]),
+        (Bias::Mixed, 9_999, [205, 206], [2_055_798, 2_055_593]),
+    ];
+    for (bias, frame, counts, totals) in rows {
+        let schedule = Schedule::from_ppm(rt.alloc(), &[E12], 10_000, bias)?;
+        assert_eq!(rt; schedule.frames(&TOP), 10_000);
+        assert!(rt; frame < schedule.frames(&TOP));
+        for trib in 0..2 {
+            let at = usize::from(trib);
+            assert_eq!(rt;
+                schedule.count(&TOP, frame, trib),
+                counts[at],
+                "at {frame}, {trib}"
+            );
+            assert_eq!(rt;
+                schedule.total(&TOP, frame + 1, trib),
+                totals[at],
+                "at {frame}, {trib}"
+            );
+        }
+    }
+    Ok(())
+}
+
+/// Whether a tributary is within the tolerance in the schedule of a text, or the text's fault.
+fn within(alloc: Global, text: &[u8], trib: u8) -> Result<Result<(), Outside>, ScheduleFault>
+    requires { trib < 4 }
+{
+    let schedule = Schedule::read(alloc, &[E12], text)?;
+    Ok(schedule.within(&TOP, trib))
+}
+
+#[test]
+fn finds_the_first_run_outside(rt: HostRuntime) {
+    let outside = |from: u64, to: u64, sum: u64| Err(Outside { from, to, sum });
+    // A run of k frames may bring from 205 k - 8 to 206 k + 8 bits.
+    let rows: [(&str, u8, Result<(), Outside>); 25] = [
+        ("", 0, Ok(())),
+        ("/ 1 214 206 206 206\n/ 9 206 206 206 206", 0, Ok(())),
+        ("/ 1 214 206 206 206\n/ 9 206 206 206 206", 1, Ok(())),
+        ("/ 1 214 206 206 206\n/ 9 206 206 206 206", 2, Ok(())),
+        ("/ 1 214 206 206 206\n/ 9 206 206 206 206", 3, Ok(())),
+        (
+            "/ 1 215 206 206 206\n/ 9 206 206 206 206",
+            0,
+            outside(0, 1, 215),
+        ),
+        ("/ 1 215 206 206 206\n/ 9 206 206 206 206", 1, Ok(())),
+        // Each frame lacks one bit, so 8 frames are inside, and 9 aren't.
+        ("/ 8 204 206 206 206", 0, Ok(())),
+        ("/ 9 204 206 206 206", 0, outside(0, 9, 1_836)),
+        ("/ 9 206 206 206 204", 3, outside(0, 9, 1_836)),
+        // And with one bit too many in each.
+        ("/ 8 207 206 206 206", 0, Ok(())),
+        ("/ 999999999 207 206 206 206", 0, outside(0, 9, 1_863)),
+        // Frames of 206 bits leave what is above 206 as it is, so the first run begins with the first of them.
+        (
+            "/ 100 206 206 206 206\n/ 1 215 206 206 206",
+            0,
+            outside(0, 101, 20_815),
+        ),
+        // Each frame of 205 bits takes one away from what is above 206.
+        (
+            "/ 100 205 206 206 206\n/ 1 216 206 206 206",
+            0,
+            outside(99, 101, 421),
+        ),
+        // Each frame of 206 bits takes one away from what is below 205.
+        (
+            "/ 1000 206 206 206 206\n/ 50 203 206 206 206",
+            0,
+            outside(999, 1_005, 1_221),
+        ),
+        (
+            "/ 1000 205 206 206 206\n/ 50 203 206 206 206",
+            0,
+            outside(0, 1_005, 206_015),
+        ),
+        // Runs over several rows.
+        (
+            "/ 4 207 206 206 206\n/ 4 206 206 206 206\n/ 5 207 206 206 206",
+            0,
+            outside(0, 13, 2_687),
+        ),
+        (
+            "/ 4 207 206 206 206\n/ 4 205 206 206 206\n/ 8 207 206 206 206",
+            0,
+            Ok(()),
+        ),
+        (
+            "/ 4 207 206 206 206\n/ 4 205 206 206 206\n/ 9 207 206 206 206",
+            0,
+            outside(0, 17, 3_511),
+        ),
+        // First too many bits or too few, and too many after a few that lack, but not enough to be outside.
+        ("/ 1 300 0 0 0\n/ 1 0 400 400 400", 0, outside(0, 1, 300)),
+        ("/ 1 300 0 0 0\n/ 1 0 400 400 400", 1, outside(0, 1, 0)),
+        (
+            "/ 5 204 206 206 206\n/ 1 215 206 206 206",
+            0,
+            outside(5, 6, 215),
+        ),
+        // Long rows.
+        (
+            "/ 999999999 206 205 206 206\n/ 999999999 206 205 206 206",
+            1,
+            Ok(()),
+        ),
+        (
+            "/ 999999999 206 206 206 206\n/ 1 215 206 206 206",
+            0,
+            outside(0, 1_000_000_000, 206_000_000_009),
+        ),
+        (
+            "/ 999999999 205 206 206 206\n/ 1 216 206 206 206",
+            0,
+            outside(999_999_998, 1_000_000_000, 421),
+        ),
+    ];
+    for (text, trib, expected) in rows {
+        assert!(rt; trib < 4);
+        let answer = within(rt.alloc(), text.as_bytes(), trib);
+        assert_eq!(rt; answer, Ok(expected), "at {text}, {trib}");
+    }
 }

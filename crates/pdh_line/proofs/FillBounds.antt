@@ -1,5 +1,5 @@
 -- The bounds on a store's fill within the tolerance, at each frame's start and at each step inside a frame.
-use Rattle.std.proofs.Common.{◌≡◌, ℕ, zero, suc, ◌+◌, ◌-◌, ◌*◌, ◌/◌, ◌<◌, ◌≤◌, Bool, true, false, ◌&&◌, cond, leb, eqb, List, [], ◌∷◌, refl, sym, ap, ◌∙◌, subst, inl, inr, arith, zero-add}
+use Rattle.std.proofs.Common.{◌≡◌, ℕ, zero, suc, ◌+◌, ◌*◌, ◌/◌, ◌<◌, ◌≤◌, Bool, true, false, ◌&&◌, cond, leb, eqb, List, [], ◌∷◌, refl, sym, ap, ◌∙◌, subst, inl, inr, arith, zero-add}
 use Rattle.std.specs.Prelude.{count_by, sum_by}
 use Rattle.std.specs.List.{range_with_len}
 use Rattle.std.proofs.lemmas.Bool.{leb-true, leb-false, cases_Bool, cases_lt}
@@ -8,9 +8,10 @@ use Rattle.std.proofs.Math.Nat.{lt-div-mul-add, div-mul-le_self, mul-le-mul_righ
 use Rattle.pdh_shape.specs.declared.role.Role.{Role}
 use Rattle.pdh_shape.specs.declared.role.Role.TheVariants.{Align, Service, Control, Just, Info}
 use Rattle.pdh_shape.specs.Frame.{FrameShape, IsFrame, slots}
-use Rattle.pdh_shape.specs.Tributary.{reads_from, HasTributaries}
-use Rattle.pdh_line.specs.Sending.{lead, threshold, arrived, carried, sent, sends_more, reads_below, came_before, read_before}
-use Rattle.pdh_line.specs.Tolerance.{arrived_over, IsWithin, ReadsEvenly}
+use Rattle.pdh_shape.specs.Tributary.{reads_from, is_just, HasTributaries, reads_below, ReadsEvenly}
+use Rattle.pdh_shape.specs.Ranges.{count-range_grows}
+use Rattle.pdh_line.specs.Sending.{lead, threshold, arrived, carried, sent, sends_more, came_before, read_before, fill_before, fill_arrived}
+use Rattle.pdh_line.specs.Tolerance.{arrived_over, IsWithin}
 use Rattle.pdh_line.proofs.Ranges.{range_append}
 use Rattle.pdh_line.proofs.SendingLaws.{HasStores, arrived-zero, arrived-suc, sent-zero, sent-suc, sends_more-is, came_before-start, came_before-next, came_before_grows, read_before-start, read_before-next}
 
@@ -87,48 +88,36 @@ fill_at_start-most s counts frames n stores within h =
 
 -- ---- inside a frame
 
-is_justifiable : ℕ → Role → Bool
-is_justifiable j (Just i) = eqb i j
-is_justifiable j _ = false
-
-reads-justifiable : (j : ℕ) (r : Role) → cond (reads_from j true r) 1 0 ≡ cond (reads_from j false r) 1 0 + cond (is_justifiable j r) 1 0
-unfolding is_justifiable
-reads-justifiable j (Just i) = go (eqb i j)
+reads-just : (j : ℕ) (r : Role) → cond (reads_from j true r) 1 0 ≡ cond (reads_from j false r) 1 0 + cond (is_just j r) 1 0
+reads-just j (Just i) = go (eqb i j)
   where
     go : (b : Bool) → cond (b && true) 1 0 ≡ cond (b && false) 1 0 + cond b 1 0
     go true = refl
     go false = refl
-reads-justifiable j (Info i) = go (eqb i j)
+reads-just j (Info i) = go (eqb i j)
   where
     go : (b : Bool) → cond b 1 0 ≡ cond b 1 0 + 0
     go true = refl
     go false = refl
-reads-justifiable j (Align signal) = refl
-reads-justifiable j (Service number) = refl
-reads-justifiable j (Control i copy) = refl
+reads-just j (Align signal) = refl
+reads-just j (Service number) = refl
+reads-just j (Control i copy) = refl
 
-count-justifiable : (s : FrameShape) (j : ℕ) (xs : List ℕ)
-    → count_by (λ t. reads_from j true (s.role t)) xs ≡ count_by (λ t. reads_from j false (s.role t)) xs + count_by (λ t. is_justifiable j (s.role t)) xs
-count-justifiable s j [] = refl
-count-justifiable s j (x ∷ xs) =
-    let rest = count-justifiable s j xs in
+count-just : (s : FrameShape) (j : ℕ) (xs : List ℕ)
+    → count_by (λ t. reads_from j true (s.role t)) xs ≡ count_by (λ t. reads_from j false (s.role t)) xs + count_by (λ t. is_just j (s.role t)) xs
+count-just s j [] = refl
+count-just s j (x ∷ xs) =
+    let rest = count-just s j xs in
     let a = sum_by-cons (λ t. cond (reads_from j true (s.role t)) 1 0) x xs in
     let b = sum_by-cons (λ t. cond (reads_from j false (s.role t)) 1 0) x xs in
-    let c = sum_by-cons (λ t. cond (is_justifiable j (s.role t)) 1 0) x xs in
-    omega (arith, reads-justifiable j (s.role x), a, b, c, rest)
-
-count-range_grows : (p : ℕ → Bool) (n m : ℕ) → n ≤ m → count_by p (range_with_len 0 n) ≤ count_by p (range_with_len 0 m)
-count-range_grows p n m h =
-    let e : n + (m - n) ≡ m = omega arith in
-    let split : count_by p (range_with_len 0 (n + (m - n))) ≡ count_by p (range_with_len 0 n) + count_by p (range_with_len (0 + n) (m - n)) =
-    ap (count_by p) (range_append 0 n (m - n)) ∙ sum_by-append (λ x. cond (p x) 1 0) (range_with_len 0 n) (range_with_len (0 + n) (m - n)) in
-    subst (λ k. count_by p (range_with_len 0 n) ≤ count_by p (range_with_len 0 k)) e (omega arith)
+    let c = sum_by-cons (λ t. cond (is_just j (s.role t)) 1 0) x xs in
+    omega (arith, reads-just j (s.role x), a, b, c, rest)
 
 -- the justifiable slot adds at most one bit
 reads_below-more : (s : FrameShape) (j t : ℕ) → HasTributaries s → j < s.tribs → t ≤ s.len → reads_below s j true t ≤ reads_below s j false t + 1
 reads_below-more s j t has known h =
-    let all : count_by (λ t. is_justifiable j (s.role t)) (slots s) ≡ 1 = omega (arith, count-justifiable s j (slots s), has.low j known, has.high j known) in
-    omega (arith, count-justifiable s j (range_with_len 0 t), count-range_grows (λ t. is_justifiable j (s.role t)) t s.len h)
+    let all : count_by (λ t. is_just j (s.role t)) (slots s) ≡ 1 = omega (arith, count-just s j (slots s), has.low j known, has.high j known) in
+    omega (arith, count-just s j (range_with_len 0 t), count-range_grows (λ t. is_just j (s.role t)) t s.len h)
 
 -- within the tolerance a store holds at least 4 bits before each slot and at each frame's end
 pub fill-from : (s : FrameShape) (j : ℕ) (counts : ℕ → ℕ) (frames n t : ℕ) → IsFrame s → HasTributaries s → HasStores s → ReadsEvenly s → j < s.tribs
@@ -199,3 +188,28 @@ fill_after_arrivals s j counts frames n t frame has stores even known within sch
   omega (arith, came_before_grows s counts n t frame, fill-from s j counts frames n t frame has stores even known within scheduled (omega arith)),
   fill-upto s j counts frames n t frame has stores even known within scheduled h,
 )
+
+-- ---- as the fills themselves
+
+pub fill-start : (s : FrameShape) (j : ℕ) (counts : ℕ → ℕ) (frames n : ℕ) → IsFrame s → HasStores s → IsWithin s counts frames → n ≤ frames
+    → (15 ≤ fill_before s j counts n 0) × (fill_before s j counts n 0 ≤ 32)
+fill-start s j counts frames n frame stores within h =
+    let came : came_before s counts n 0 ≡ lead + arrived counts n = came_before-start s counts n frame in
+    let read : read_before s j counts n 0 ≡ sent s counts n = read_before-start s j counts n in
+    let least = fill_at_start-least s counts frames n stores within h in
+    let most = fill_at_start-most s counts frames n stores within h in
+    (omega (arith, came, read, least), omega (arith, came, read, most))
+
+pub fill-slot : (s : FrameShape) (j : ℕ) (counts : ℕ → ℕ) (frames n t : ℕ) → IsFrame s → HasTributaries s → HasStores s → ReadsEvenly s → j < s.tribs
+    → IsWithin s counts frames → n < frames → t ≤ s.len
+    → (4 ≤ fill_before s j counts n t) × (fill_before s j counts n t ≤ 45)
+fill-slot s j counts frames n t frame has stores even known within scheduled h =
+    let bounds = fill_before_slot s j counts frames n t frame has stores even known within scheduled h in
+    (omega (arith, bounds.0), omega (arith, bounds.1))
+
+pub fill-arrivals : (s : FrameShape) (j : ℕ) (counts : ℕ → ℕ) (frames n t : ℕ) → IsFrame s → HasTributaries s → HasStores s → ReadsEvenly s → j < s.tribs
+    → IsWithin s counts frames → n < frames → t < s.len
+    → (4 ≤ fill_arrived s j counts n t) × (fill_arrived s j counts n t ≤ 45)
+fill-arrivals s j counts frames n t frame has stores even known within scheduled h =
+    let bounds = fill_after_arrivals s j counts frames n t frame has stores even known within scheduled h in
+    (omega (arith, bounds.0), omega (arith, bounds.1))

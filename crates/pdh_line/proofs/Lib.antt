@@ -8,4 +8,3 @@ pub mod SentFrames
 pub mod EventLaws
 pub mod FillBounds
 pub mod WithinTolerance
-pub mod EvenReading

@@ -5,12 +5,9 @@ use Rattle.std.specs.List.{range_with_len, list_all, list_any}
 use Rattle.std.proofs.lemmas.List.{map-append, append-nil}
 use Rattle.std.proofs.lemmas.List.Elements.{filter-append}
 use Rattle.std.proofs.lemmas.List.Folds.{list_all-append, list_any-append}
-use Rattle.std.proofs.lemmas.List.Sums.{fold-append, sum_by-cons, sum_by-append}
+use Rattle.std.proofs.lemmas.List.Sums.{fold-append, sum_by-cons}
 use Rattle.std.proofs.lemmas.Bool.{cases_Bool, cases_eq}
-
-pub and_true : (a b : Bool) → (a && b) ≡ true → (a ≡ true) × (b ≡ true)
-and_true true b h = (refl, h)
-and_true false b h = cc
+pub use Rattle.pdh_shape.specs.Ranges.{and_true, list_all-at, count_push}
 
 pub range_push : (a n : ℕ) → range_with_len a (suc n) ≡ range_with_len a n ++ (a + n) ∷ []
 range_push a zero = ap (λ x. x ∷ []) (omega arith)
@@ -66,15 +63,7 @@ count_none [] = refl
 count_none (x ∷ xs) = sum_by-cons (λ x. 0) x xs ∙ ap (λ n. 0 + n) (count_none xs)
 
 pub count-range_push : (p : ℕ → Bool) (n : ℕ) → count_by p (range_with_len 0 (suc n)) ≡ count_by p (range_with_len 0 n) + cond (p n) 1 0
-count-range_push p n =
-    let e : 0 + n ≡ n = omega arith in
-    ap (count_by p) (range_push 0 n) ∙ sum_by-append (λ x. cond (p x) 1 0) (range_with_len 0 n) ((0 + n) ∷ []) ∙ ap (λ k. count_by p (range_with_len 0 n) + k) (one (0 + n) ∙ ap (λ k. cond (p k) 1 0) e)
-  where
-    one : (k : ℕ) → count_by p (k ∷ []) ≡ cond (p k) 1 0
-    one k = sum_by-cons (λ x. cond (p x) 1 0) k [] ∙ omega arith
-
-pub count_push : (p : ℕ → Bool) (n : ℕ) → count_by p (range_with_len 0 (n + 1)) ≡ count_by p (range_with_len 0 n) + cond (p n) 1 0
-count_push p n = ap (λ k. count_by p (range_with_len 0 k)) (add-one n) ∙ count-range_push p n
+count-range_push p n = ap (λ k. count_by p (range_with_len 0 k)) (sym (add-one n)) ∙ count_push p n
 
 filter_one : (p : ℕ → Bool) (k : ℕ) (b : Bool) → p k ≡ b → filter p (k ∷ []) ≡ cond b (k ∷ []) []
 filter_one p k b h = ap (λ b. cond b (k ∷ []) []) h
@@ -110,15 +99,6 @@ list_all_push p n before here =
     let last : p (0 + n) ≡ true = ap p (zero-add n) ∙ here in
     ap (λ k. list_all p (range_with_len 0 k)) (add-one n) ∙ ap (list_all p) (range_push 0 n) ∙ list_all-append p (range_with_len 0 n) ((0 + n) ∷ [])
     ∙ ap (λ b. b && (p (0 + n) && true)) before ∙ ap (λ b. b && true) last
-
-pub list_all-at : (p : ℕ → Bool) (a n k : ℕ) → list_all p (range_with_len a n) ≡ true → a ≤ k → k < a + n → p k ≡ true
-list_all-at p a zero k all h h' = absurd (omega arith)
-list_all-at p a (suc n) k all h h' =
-    let parts = and_true (p a) (list_all p (range_with_len (a + 1) n)) all in
-    elim (cases_eq k a) [
-      | inl same ↦ ap p same ∙ parts.0
-      | inr other ↦ list_all-at p (a + 1) n k parts.1 (omega arith) (omega arith)
-    ]
 
 pub list_all_fails : (p : ℕ → Bool) (a n k : ℕ) → a ≤ k → k < a + n → p k ≡ false → list_all p (range_with_len a n) ≡ false
 list_all_fails p a zero k h h' fails = absurd (omega arith)

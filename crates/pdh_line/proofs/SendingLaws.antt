@@ -8,13 +8,17 @@ use Rattle.std.proofs.Math.Nat.{div-mul-le_self}
 use Rattle.std.proofs.lemmas.List.Sums.{sum_by-cons, sum_by-append}
 use Rattle.std.proofs.Math.Dec.{eqb-suc-zero}
 use Rattle.pdh_shape.specs.Frame.{FrameShape, IsFrame}
-use Rattle.pdh_shape.specs.Tributary.{reads_from, HasTributaries}
-use Rattle.pdh_line.specs.Sending.{lead, threshold, arrived, arrived_in, arrives_at, carried, sent, sends_more, reads_below, came_before, read_before, begun, taken, entered}
+use Rattle.pdh_shape.specs.Tributary.{reads_from, HasTributaries, reads_below}
+use Rattle.pdh_line.specs.Sending.{lead, threshold, arrived, arrived_in, arrives_at, carried, sent, sends_more, came_before, read_before, begun, taken, entered}
 use Rattle.pdh_line.proofs.Ranges.{range_push, count-range_push}
 
 -- a shape whose nodes have stores
 abbrev pub HasStores : FrameShape → Type 0
 HasStores s = eqb s.copies 0 ≡ false
+
+pub has_stores : (n : ℕ) → 0 < n → eqb n 0 ≡ false
+has_stores zero h = absurd (omega arith)
+has_stores (suc n) h = eqb-suc-zero n
 
 -- ---- frames
 

@@ -8,10 +8,10 @@ use Rattle.std.proofs.Math.Nat.{mul-le-mul_left}
 use Rattle.std.proofs.lemmas.List.Sums.{sum_by-cons}
 use Rattle.std.proofs.lemmas.Nat.{mod_below}
 use Rattle.pdh_shape.specs.Frame.{FrameShape, IsFrame}
-use Rattle.pdh_shape.specs.Tributary.{reads_from, HasTributaries}
+use Rattle.pdh_shape.specs.Tributary.{reads_from, HasTributaries, ReadsEvenly}
 use Rattle.pdh_line.specs.Sending.{lead, store_size, arrived, arrives_at, sent, sends_more, came_before, read_before, entered, given_back}
 use Rattle.pdh_line.specs.Events.{Event, overflows, underflows, overflow_at, underflow_at, events_at, events_in, events_below, first_event}
-use Rattle.pdh_line.specs.Tolerance.{allowance, arrived_over, IsWithin, IsOutside, ReadsEvenly}
+use Rattle.pdh_line.specs.Tolerance.{allowance, arrived_over, IsWithin, IsOutside}
 use Rattle.pdh_line.proofs.SendingLaws.{HasStores, arrived-zero, came_before_grows}
 use Rattle.pdh_line.proofs.EventLaws.{events_at_none, events_at-locked, first_event_none_from, overflows_of, underflows_of, first_of_either, first_of_all}
 use Rattle.pdh_line.proofs.FillBounds.{fill-from, fill-upto, fill_at_start-most, within-most}

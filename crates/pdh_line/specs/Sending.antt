@@ -1,13 +1,13 @@
 -- What a multiplexer with elastic stores sends: arrivals, positive justification, and every bit of its line.
 -- Positive justification is that of ITU-T G.742, 5; the lead, the size of a store and the even spread of a frame's
 -- arrivals are this project's own.
-use Rattle.std.specs.Prelude.{ℕ, zero, suc, ◌+◌, ◌*◌, ◌/◌, ◌%◌, Bool, true, false, not, nat_lt, ◌==◌, ◌||◌, if◌then◌else◌, List, [], map, sum_by, count_by}
+use Rattle.std.specs.Prelude.{ℕ, zero, suc, ◌+◌, ◌-◌, ◌*◌, ◌/◌, ◌%◌, Bool, true, false, not, nat_lt, ◌==◌, ◌||◌, if◌then◌else◌, List, [], map, sum_by, count_by}
 use Rattle.std.specs.List.{range_with_len, slice_index_or}
 use Rattle.pdh_shape.specs.declared.role.Role.{Role}
 use Rattle.pdh_shape.specs.declared.role.Role.TheVariants.{Align, Service, Control, Just, Info}
 use Rattle.pdh_shape.specs.declared.role.Service.{Service as Say}
 use Rattle.pdh_shape.specs.Frame.{FrameShape, slots}
-use Rattle.pdh_shape.specs.Tributary.{reads_from, turned}
+use Rattle.pdh_shape.specs.Tributary.{reads_below, turned}
 
 -- how many bits of each tributary are taken into its store before slot 0 of frame 0
 abbrev pub lead : ℕ
@@ -53,17 +53,21 @@ sent s counts (suc n) = let before = sent s counts n in before + carried s (not 
 abbrev pub sends_more : FrameShape → (ℕ → ℕ) → ℕ → Bool
 sends_more s counts n = not (justifies s (lead + arrived counts n) (sent s counts n))
 
--- how many of the slots below t carry a bit of tributary j, in a frame that carries an additional bit of it or doesn't
-abbrev pub reads_below : FrameShape → ℕ → Bool → ℕ → ℕ
-reads_below s j more t = count_by (λ slot. reads_from j more (s.role slot)) (range_with_len 0 t)
-
 -- how many bits came into the store before slot t of frame n, the lead among them
 abbrev pub came_before : FrameShape → (ℕ → ℕ) → ℕ → ℕ → ℕ
 came_before s counts n t = lead + arrived counts n + arrived_in s (counts n) t
 
--- how many bits of tributary j were read from its store before slot t of frame n; the fill is what came and wasn't read
+-- how many bits of tributary j were read from its store before slot t of frame n
 abbrev pub read_before : FrameShape → ℕ → (ℕ → ℕ) → ℕ → ℕ → ℕ
 read_before s j counts n t = sent s counts n + reads_below s j (sends_more s counts n) t
+
+-- the fill of tributary j's store before slot t of frame n: what came and wasn't read
+abbrev pub fill_before : FrameShape → ℕ → (ℕ → ℕ) → ℕ → ℕ → ℕ
+fill_before s j counts n t = came_before s counts n t - read_before s j counts n t
+
+-- its fill in that slot, after the slot's arrivals and before the slot is read
+abbrev pub fill_arrived : FrameShape → ℕ → (ℕ → ℕ) → ℕ → ℕ → ℕ
+fill_arrived s j counts n t = came_before s counts n (suc t) - read_before s j counts n t
 
 -- ---- the line
 

@@ -1,10 +1,9 @@
 -- The tolerance of a multiplexer with elastic stores: how many bits of a tributary may arrive over a run of frames.
 -- The rule and its allowance are this project's own; that a frame carries one bit more or less of a tributary, by
 -- positive justification, is that of ITU-T G.742, 5.
-use Rattle.std.specs.Prelude.{◌<◌, ◌≤◌, ℕ, suc, ◌+◌, ◌*◌, true, false, sum_by}
+use Rattle.std.specs.Prelude.{◌≤◌, ℕ, suc, ◌+◌, ◌*◌, sum_by}
 use Rattle.std.specs.List.{range_with_len}
 use Rattle.pdh_shape.specs.Frame.{FrameShape}
-use Rattle.pdh_line.specs.Sending.{reads_below}
 use Rattle.pdh_line.specs.Events.{Event}
 
 -- by how many bits the arrivals of a run may pass what its frames carry at least and at most
@@ -25,11 +24,3 @@ pub record IsWithin (s : FrameShape) (counts : ℕ → ℕ) (frames : ℕ) : Typ
 -- the tributary that an event names isn't within the tolerance over the frames up to the event's own
 abbrev pub IsOutside : FrameShape → (ℕ → ℕ → ℕ) → Event → Type 0
 IsOutside s counts event = IsWithin s (counts event.trib) (suc event.frame) → ⊥
-
--- A shape reads each tributary evenly: its slots are never far from an even spread over the frame. The two numbers are
--- this project's own.
-pub record ReadsEvenly (s : FrameShape) : Type 0 where
-  -- the information slots below slot t are at most two more than their share of the first t slots
-  pub ahead : (j t : ℕ) → j < s.tribs → t ≤ s.len → reads_below s j false t * s.len ≤ s.low * t + 2 * s.len
-  -- with the justifiable slot they are at most five fewer than their share of the slots up to slot t
-  pub behind : (j t : ℕ) → j < s.tribs → t < s.len → suc s.low * suc t ≤ (reads_below s j true t + 5) * s.len

@@ -3,4 +3,3 @@ pub mod Tributaries
 pub mod Inputs
 pub mod Frames
 pub mod Roles
-pub mod Shapes

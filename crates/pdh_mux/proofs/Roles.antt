@@ -1,27 +1,22 @@
 -- The tributary that a slot's role names.
 use Rattle.std.proofs.Common.{◌≡◌, ℕ, ◌<◌, Bool, true, false, ◌&&◌, cond, eqb, eq-eqb, refl, sym, ap, ◌∙◌, inl, inr, arith, List, slice_index_or, vec_len}
 use Rattle.std.specs.Global.{Vec}
-use Rattle.std.proofs.lemmas.Bool.{cases_Bool, eqb-true, ltb-true}
+use Rattle.std.proofs.lemmas.Bool.{cases_Bool, eqb-true}
 use Rattle.pdh_shape.specs.declared.role.Role.TheVariants.{Control, Just, Info}
 use Rattle.pdh_shape.specs.Frame.{FrameShape}
-use Rattle.pdh_shape.specs.Tributary.{reads_from}
+use Rattle.pdh_shape.specs.Tributary.{reads_from, HasTributaries}
 use Rattle.pdh_line.specs.Sending.{Source, sends_more, input_bit, slot_bit}
-use Rattle.pdh_line.proofs.Ranges.{list_all-at}
 use Rattle.pdh_mux.specs.declared.tributary.Tributary.{Tributary}
-use Rattle.pdh_mux.specs.Making.{names_below, names_tributaries, AreWithin}
+use Rattle.pdh_mux.specs.Making.{AreWithin}
 
-named : (s : FrameShape) (t : ℕ) → names_tributaries s ≡ true → t < s.len → names_below s.tribs (s.role t) ≡ true
-unfolding names_tributaries
-named s t all h = list_all-at (λ slot. names_below s.tribs (s.role slot)) 0 s.len t all (omega arith) (omega arith)
+pub control_known : (s : FrameShape) (t j copy : ℕ) → HasTributaries s → t < s.len → Control j copy ≡ s.role t → j < s.tribs
+control_known s t j copy has h is = (has.control_known t j copy h (sym is)).0
 
-pub control_known : (s : FrameShape) (t j copy : ℕ) → names_tributaries s ≡ true → t < s.len → Control j copy ≡ s.role t → j < s.tribs
-control_known s t j copy all h is = ltb-true _ _ (ap (names_below s.tribs) is ∙ named s t all h)
+pub just_known : (s : FrameShape) (t j : ℕ) → HasTributaries s → t < s.len → Just j ≡ s.role t → j < s.tribs
+just_known s t j has h is = has.just_known t j h (sym is)
 
-pub just_known : (s : FrameShape) (t j : ℕ) → names_tributaries s ≡ true → t < s.len → Just j ≡ s.role t → j < s.tribs
-just_known s t j all h is = ltb-true _ _ (ap (names_below s.tribs) is ∙ named s t all h)
-
-pub info_known : (s : FrameShape) (t j : ℕ) → names_tributaries s ≡ true → t < s.len → Info j ≡ s.role t → j < s.tribs
-info_known s t j all h is = ltb-true _ _ (ap (names_below s.tribs) is ∙ named s t all h)
+pub info_known : (s : FrameShape) (t j : ℕ) → HasTributaries s → t < s.len → Info j ≡ s.role t → j < s.tribs
+info_known s t j has h is = has.info_known t j h (sym is)
 
 -- it has its counters
 pub index_known : (s : FrameShape) (source : Source) (n came gone j : ℕ) (xs : Vec Tributary) → AreWithin s source n came gone xs.items → j < s.tribs → j < vec_len xs

@@ -1,11 +1,10 @@
 -- What a step does to one tributary: its counters and its store.
-use Rattle.std.proofs.Common.{◌≡◌, ℕ, zero, suc, ◌+◌, ◌-◌, ◌*◌, ◌%◌, ◌<◌, ◌≤◌, Bool, true, false, ◌&&◌, cond, leb, eqb, List, [], ◌∷◌, ◌++◌, length, map, refl, sym, ap, ◌∙◌, subst, inl, inr, arith, add-zero, nat_le, slice_index_or}
+use Rattle.std.proofs.Common.{◌≡◌, ℕ, suc, ◌+◌, ◌-◌, ◌*◌, ◌%◌, ◌<◌, ◌≤◌, Bool, true, false, ◌&&◌, cond, leb, List, [], ◌∷◌, ◌++◌, length, map, refl, sym, ap, ◌∙◌, subst, inl, inr, arith, add-zero, nat_le, slice_index_or}
 use Rattle.std.specs.Prelude.{◌↔◌, Result, Ok, Err, IsErr, OnOk}
 use Rattle.std.specs.List.{range_with_len}
 use Rattle.std.proofs.lemmas.List.{length_push}
 use Rattle.std.proofs.lemmas.List.FromFn.{length-map-range_with_len, map-range_with_len_more}
 use Rattle.std.proofs.lemmas.Bool.{lt-leb, le-leb, cases_lt}
-use Rattle.std.proofs.Math.Dec.{eqb-suc-zero}
 use Rattle.pdh_shape.specs.Frame.{FrameShape, IsFrame}
 use Rattle.pdh_shape.specs.Tributary.{reads_from, HasTributaries}
 use Rattle.pdh_line.specs.Sending.{Source, front, lead, threshold, store_size, arrives_at, sent, sends_more, came_before, read_before}
@@ -13,10 +12,6 @@ use Rattle.pdh_line.specs.Events.{overflows, underflows}
 use Rattle.pdh_line.proofs.SendingLaws.{HasStores, arrived-zero, sent-zero, sends_more-fill, arrives_at-is, remainder-suc, came_before-suc, came_before-start, came_before-next, read_before-suc, read_before-start, read_before-next}
 use Rattle.pdh_mux.specs.declared.tributary.Tributary.{Tributary}
 use Rattle.pdh_mux.specs.Making.{IsBefore, IsWithin}
-
-pub has_stores : (n : ℕ) → 0 < n → eqb n 0 ≡ false
-has_stores zero h = absurd (omega arith)
-has_stores (suc n) h = eqb-suc-zero n
 
 -- ---- frames
 

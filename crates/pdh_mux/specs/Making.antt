@@ -1,10 +1,10 @@
 -- What the state of a node in making stands for.
-use Rattle.std.specs.Prelude.{◌≡◌, ◌<◌, ◌≤◌, ℕ, ◌+◌, ◌*◌, ◌%◌, Bool, true, false, nat_lt, List, length, map, count_by, ◌==◌, slice_index_or}
-use Rattle.std.specs.List.{list_all, range_with_len}
+use Rattle.std.specs.Prelude.{◌≡◌, ◌<◌, ◌≤◌, ℕ, ◌+◌, ◌*◌, ◌%◌, Bool, true, false, List, length, map, count_by, ◌==◌, slice_index_or}
+use Rattle.std.specs.List.{range_with_len}
 use Rattle.std.specs.Global.{Vec}
 use Rattle.pdh_shape.specs.declared.role.Role.{Role}
-use Rattle.pdh_shape.specs.declared.role.Role.TheVariants.{Control, Just, Info}
-use Rattle.pdh_shape.specs.Frame.{FrameShape, slots}
+use Rattle.pdh_shape.specs.declared.role.Role.TheVariants.{Just, Info}
+use Rattle.pdh_shape.specs.Frame.{FrameShape}
 use Rattle.pdh_line.specs.Sending.{lead, store_size, arrived, sent, sends_more, came_before, read_before, entered, payload_bit, Source, bits_at}
 use Rattle.pdh_mux.specs.declared.tributary.Tributary.{Tributary}
 
@@ -13,19 +13,6 @@ use Rattle.pdh_mux.specs.declared.tributary.Tributary.{Tributary}
 -- the bits of each input
 abbrev pub lists_of : List (Vec Bool) → List (List Bool)
 lists_of inputs = map (λ input. input.items) inputs
-
--- ---- the shape
-
--- a slot of this role names no tributary, or one of so many
-abbrev pub names_below : ℕ → Role → Bool
-names_below tribs (Control j copy) = nat_lt j tribs
-names_below tribs (Just j) = nat_lt j tribs
-names_below tribs (Info j) = nat_lt j tribs
-names_below tribs _ = true
-
--- each tributary that a slot names is one of the shape's
-unfoldable pub names_tributaries : FrameShape → Bool
-names_tributaries s = list_all (λ slot. names_below s.tribs (s.role slot)) (slots s)
 
 -- ---- the tributaries
 

@@ -5,7 +5,7 @@ ghost use Rattle.pdh_shape.specs.Tributary.{reads_from, turned as turned_bit};
 ghost use Rattle.pdh_line.specs.Sending.{Source, source_of, bits_at, lead, sends_more, input_bit, slot_bit as slot_bit_of, odd_before, line_bit, front, entered};
 ghost use Rattle.pdh_line.specs.Events.{overflows, events_at, events_below, first_event};
 ghost use Rattle.pdh_mux.specs.Events.{event_of, IfStore};
-ghost use Rattle.pdh_mux.specs.Making.{AreBefore, AreWithin, AreInputs, AreLists, lists_of, names_tributaries, is_payload as is_payload_role};
+ghost use Rattle.pdh_mux.specs.Making.{AreBefore, AreWithin, AreInputs, AreLists, lists_of, is_payload as is_payload_role};
 
 use crate::tributary::Tributary;
 use crate::{Counts, Event, Kind, Stop};
@@ -101,7 +101,6 @@ fn slot_bit<S: Shape>(
 ) -> Result<bool, Event>
     ghost source: { Source }
     requires stores { 0 < S.COPIES }
-    requires roles { names_tributaries S.shape ≡ true }
     requires slot { slot < S.LEN }
     requires stand { AreWithin S.shape source frame (suc slot) slot tributaries.old.items }
     requires arrived { (j : ℕ) → j < S.TRIBS →
@@ -142,7 +141,6 @@ fn make_bit<S: Shape>(
 ) -> Result<bool, Event>
     ghost source: { Source }
     requires stores { 0 < S.COPIES }
-    requires roles { names_tributaries S.shape ≡ true }
     requires slot { slot < S.LEN }
     requires stand { AreWithin S.shape source frame slot slot tributaries.old.items }
     requires inputs { AreInputs S.shape source frame (suc slot) (lists_of inputs.now) }
@@ -180,7 +178,6 @@ fn make_frame<S: Shape>(
 ) -> Result<bool, Event>
     ghost source: { Source }
     requires stores { 0 < S.COPIES }
-    requires roles { names_tributaries S.shape ≡ true }
     requires stand { AreWithin S.shape source frame 0 0 tributaries.old.items }
     requires inputs { AreInputs S.shape source frame S.LEN (lists_of inputs.now) }
     requires says { source.says frame ≡ say.now }
@@ -243,7 +240,6 @@ fn make_frames<S: Shape, C: Counts>(
 ) -> Result<(), Event>
     ghost source: { Source }
     requires stores { 0 < S.COPIES }
-    requires roles { names_tributaries S.shape ≡ true }
     requires counts { source.counts ≡ C.counts counts.now }
     requires known { (j n : ℕ) → j < S.TRIBS → n < frames → C.can_count counts.now j n }
     requires fits { (j n : ℕ) → j < S.TRIBS → n < frames → source.counts j n ≤ S.LEN }
@@ -295,7 +291,6 @@ pub fn make_line<S: Shape, C: Counts>(
     line: &mut Vec<bool>,
 ) -> Result<(), Stop>
     requires stores { 0 < S.COPIES }
-    requires roles { names_tributaries S.shape ≡ true }
     requires known { (j n : ℕ) → j < S.TRIBS → n < frames → C.can_count counts.now j n }
     requires fits { (j n : ℕ) → j < S.TRIBS → n < frames → C.counts counts.now j n ≤ S.LEN }
     requires inputs { length inputs.now ≡ S.TRIBS }

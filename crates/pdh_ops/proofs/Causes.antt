@@ -5,11 +5,11 @@ use Rattle.pdh_edge.specs.Files.Told.{Known}
 use Rattle.pdh_ops.specs.Names.{line_name}
 use Rattle.pdh_ops.specs.Demux.{line_of}
 use Rattle.pdh_ops.specs.Answer.{Answer, and_then}
-use Rattle.pdh_ops.specs.Mux.{Files}
+use Rattle.pdh_ops.specs.Schedules.{Files}
 use Rattle.pdh_ops.specs.Commands.{AreTold, comes_to, IsOutput}
 use Rattle.pdh_ops.specs.Run.{HasCause, ChangesOnly, Performs, IsTold, Runs, Completes}
 use Rattle.pdh_ops.specs.Steps.{IsLineCause}
-use Rattle.pdh_ops.specs.declared.command.Command.{Command}
+use Rattle.pdh_words.specs.declared.commands.Command.{Command}
 use Rattle.pdh_ops.specs.declared.answer.Stop.{Stop}
 use Rattle.pdh_ops.specs.declared.answer.Stop.TheVariants.{Memory, Usage, Read, Write, Missing, LongSchedule, BadRow, UnknownNode, CountOver, Short, Overflow, Underflow, ManyFrames, NotYet}
 use Rattle.pdh_ops.proofs.Touching.{looks_same}

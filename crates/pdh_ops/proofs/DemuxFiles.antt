@@ -13,10 +13,10 @@ use Rattle.pdh_ops.specs.Names.{line_name, output_name, name_of}
 use Rattle.pdh_ops.specs.Demux.{frames_of, line_of, demuxed, output_of}
 use Rattle.pdh_ops.specs.Steps.{AreOutputs, IsFramesCause}
 use Rattle.pdh_ops.specs.Writing.{IsWriteStop}
-use Rattle.pdh_ops.specs.Mux.{Files}
+use Rattle.pdh_ops.specs.Schedules.{Files}
 use Rattle.pdh_ops.specs.Commands.{IsOutput, AreTold, output_bytes, comes_to}
 use Rattle.pdh_ops.specs.Run.{AreCut, ChangesOnly, Performs, GoesOn, reaches_outputs}
-use Rattle.pdh_ops.specs.declared.command.Command.TheVariants.{Demux}
+use Rattle.pdh_words.specs.declared.commands.Command.TheVariants.{Demux}
 use Rattle.pdh_ops.specs.declared.answer.Done.TheVariants.{Demuxed}
 use Rattle.pdh_ops.specs.declared.answer.Stop.{Stop}
 use Rattle.pdh_ops.specs.declared.answer.Stop.TheVariants.{Memory, Usage, Read, Write, Missing, LongSchedule, BadRow, UnknownNode, CountOver, Short, Overflow, Underflow, ManyFrames, NotYet}

@@ -4,9 +4,13 @@ pub mod LineComes
 pub mod Causes
 pub mod DemuxFiles
 pub mod Texts
+pub mod Refusing
+pub mod ScheduleComes
 pub mod MuxComes
 pub mod Lists
 pub mod MuxMade
+pub mod OneOutput
 pub mod MuxFiles
+pub mod ClockComes
 pub mod MuxGivesBack
 pub mod MuxTolerated

@@ -1,30 +1,29 @@
 -- What the steps of `mux` before its outputs come to.
-use Rattle.std.proofs.Common.{◌≡◌, ◌⊎◌, ℕ, zero, suc, ◌*◌, ◌<◌, nat_lt, List, [], Option, None, Some, Ok, Err, true, false, length, refl, ap, sym, ◌∙◌, inl, inr, subst, arith, lit<}
+use Rattle.std.proofs.Common.{◌≡◌, ℕ, zero, suc, ◌*◌, ◌<◌, nat_lt, List, [], Option, None, Some, Ok, Err, true, false, length, refl, ap, sym, ◌∙◌, inl, inr, subst, arith, lit<}
 use Rattle.std.specs.Prelude.{is_none, unwrap_or, slice_index}
 use Rattle.std.specs.Option.{option_map}
 use Rattle.std.proofs.lemmas.Bool.Decides.{nat_tests}
 use Rattle.pdh_bits.specs.Bits.{bits_of}
-use Rattle.pdh_edge.specs.Files.{ShelfState, Told, Looks, Holds, WhereTold, Rose, FailsToRead}
+use Rattle.pdh_edge.specs.Files.{ShelfState, Told, Looks, Holds}
 use Rattle.pdh_edge.specs.Files.Told.{Known}
 use Rattle.pdh_clock.specs.Row.{Row}
-use Rattle.pdh_clock.specs.Judged.{schedule_of, Fails}
-use Rattle.pdh_clock.specs.declared.fault.ScheduleFault.{ScheduleFault}
-use Rattle.pdh_clock.specs.declared.fault.ScheduleFault.TheVariants.{TooLong, BadRow as RowIsBad, UnknownNode as NodeIsUnknown, CountOver as CountIsOver, Memory as NoMemory}
-use Rattle.pdh_ops.specs.Names.{schedule_name, leaf_name, name_of}
+use Rattle.pdh_ops.specs.Names.{schedule_name, leaf_name}
 use Rattle.pdh_ops.specs.Answer.{Answer, and_then}
-use Rattle.pdh_ops.specs.Reading.{HasLength, IsSizeStop, IsReadStop}
-use Rattle.pdh_ops.specs.Mux.{Files, bytes_in, e12_levels, mux_inputs, all_held, rows_of, rows_or_stop, stop_of_fault, frames_in, leaf_bits, bits_held, bits_needed, short_leaf, muxed}
-use Rattle.pdh_ops.specs.Commands.{AreTold, IsOutput, comes_to}
-use Rattle.pdh_ops.specs.Run.{Comes, Performs}
-use Rattle.pdh_ops.specs.MuxSteps.{OfInputs, Refuses, AreSizes, AreHeld, HasRows, IsLong, IsShort, IsEnoughStop}
-use Rattle.pdh_ops.specs.declared.command.Command.TheVariants.{Mux}
-use Rattle.pdh_ops.specs.declared.file.File.{File}
+use Rattle.pdh_ops.specs.Reading.{HasLength, IsSizeStop}
+use Rattle.pdh_ops.specs.Schedules.{Files, bytes_in, rows_of, frames_in}
+use Rattle.pdh_ops.specs.Mux.{mux_inputs, all_held, leaf_bits, bits_held, bits_needed, short_leaf, muxed}
+use Rattle.pdh_ops.specs.Commands.{AreTold, comes_to}
+use Rattle.pdh_ops.specs.Refusing.{Refuses}
+use Rattle.pdh_ops.specs.ScheduleSteps.{RowsAre}
+use Rattle.pdh_ops.proofs.Refusing.{size_stop}
+use Rattle.pdh_ops.proofs.ScheduleComes.{Begins}
+use Rattle.pdh_ops.specs.MuxSteps.{OfInputs, AreSizes, AreHeld, HasRows, IsLong, IsShort, IsEnoughStop}
+use Rattle.pdh_words.specs.declared.commands.Command.TheVariants.{Mux}
 use Rattle.pdh_ops.specs.declared.file.File.TheVariants.{Line, Schedule, Leaf, Output}
 use Rattle.pdh_ops.specs.declared.mux.InputSizes.{InputSizes}
 use Rattle.pdh_ops.specs.declared.answer.Stop.{Stop}
 use Rattle.pdh_ops.specs.declared.answer.Stop.TheVariants.{Memory, Usage, Read, Write, Missing, LongSchedule, BadRow, UnknownNode, CountOver, Short, Overflow, Underflow, ManyFrames, NotYet}
 use Rattle.pdh_ops.proofs.Touching.{has_length_still}
-use Rattle.pdh_ops.proofs.Causes.{looks_others}
 
 -- ---- the inputs as they are told
 
@@ -37,45 +36,6 @@ leaf_told state files k low told = told (suc k) (omega arith)
 -- what holds of inputs as they were told holds of them as they are told now
 pub of_inputs_since : (P : Files → Type 0) (a b : ShelfState) → Looks a b → OfInputs a P → OfInputs b P
 of_inputs_since P a b looks holds files told = holds files (subst (λ (t : List ℕ → Told). AreTold Mux t files) looks.told told)
-
-comes_before : (a b : ShelfState) (answer : Answer) → Looks a b → Comes Mux b answer → Comes Mux a answer
-comes_before a b answer looks comes files told = comes files (subst (λ (t : List ℕ → Told). AreTold Mux t files) (sym looks.told) told)
-
--- ---- a step that refuses
-
--- a refusal, since an earlier state
-pub refuses_since : (a b c : ShelfState) (stop : Stop) → Looks a b → Refuses b c stop → Refuses a c stop
-refuses_since a b c Memory looks cause = tt
-refuses_since a b c Usage looks cause = absurd cause
-refuses_since a b c (Read file) looks cause = let risen = looks.read_faults in record { rose = omega (arith, cause.rose); last = cause.last }
-refuses_since a b c (Write file) looks cause = absurd cause
-refuses_since a b c (Missing file) looks cause = let risen = looks.misses in (omega (arith, cause.0), comes_before a b _ looks cause.1)
-refuses_since a b c LongSchedule looks cause = comes_before a b _ looks cause
-refuses_since a b c (BadRow l) looks cause = comes_before a b _ looks cause
-refuses_since a b c (UnknownNode l) looks cause = comes_before a b _ looks cause
-refuses_since a b c (CountOver l n m) looks cause = comes_before a b _ looks cause
-refuses_since a b c (Short f h n) looks cause = comes_before a b _ looks cause
-refuses_since a b c (Overflow p) looks cause = absurd cause
-refuses_since a b c (Underflow p) looks cause = absurd cause
-refuses_since a b c (ManyFrames n) looks cause = comes_before a b _ looks cause
-refuses_since a b c NotYet looks cause = comes_before a b _ looks cause
-
--- it ends the command
-pub refuses_performs : (a b : ShelfState) (stop : Stop) → Looks a b → Refuses a b stop → Performs Mux a b (Err stop)
-refuses_performs a b Memory looks cause = record { cause = tt; outputs = looks.told; others = looks_others (IsOutput Mux) a b looks }
-refuses_performs a b Usage looks cause = absurd cause
-refuses_performs a b (Read file) looks cause = record { cause = cause; outputs = inl looks.told; others = looks_others (IsOutput Mux) a b looks }
-refuses_performs a b (Write file) looks cause = absurd cause
-refuses_performs a b (Missing file) looks cause = record { cause = cause; outputs = looks.told; others = looks_others (IsOutput Mux) a b looks }
-refuses_performs a b LongSchedule looks cause = record { cause = cause; outputs = looks.told; others = looks_others (IsOutput Mux) a b looks }
-refuses_performs a b (BadRow l) looks cause = record { cause = cause; outputs = looks.told; others = looks_others (IsOutput Mux) a b looks }
-refuses_performs a b (UnknownNode l) looks cause = record { cause = cause; outputs = looks.told; others = looks_others (IsOutput Mux) a b looks }
-refuses_performs a b (CountOver l n m) looks cause = record { cause = cause; outputs = looks.told; others = looks_others (IsOutput Mux) a b looks }
-refuses_performs a b (Short f h n) looks cause = record { cause = cause; outputs = looks.told; others = looks_others (IsOutput Mux) a b looks }
-refuses_performs a b (Overflow p) looks cause = absurd cause
-refuses_performs a b (Underflow p) looks cause = absurd cause
-refuses_performs a b (ManyFrames n) looks cause = record { cause = cause; outputs = looks.told; others = looks_others (IsOutput Mux) a b looks }
-refuses_performs a b NotYet looks cause = record { cause = cause; outputs = looks.told; others = looks_others (IsOutput Mux) a b looks }
 
 -- ---- inputs that aren't held
 
@@ -111,103 +71,53 @@ every_leaf files first each = rw (first, each 0 (lit< tt), each 1 (lit< tt), eac
 comes_held : (files : Files) (stop : Stop) → all_held mux_inputs files ≡ Err stop → ◌≡◌ {A = Answer} (Err stop) (comes_to Mux files)
 comes_held files stop e = sym (ap (λ r. and_then r (λ _. and_then (rows_of (bytes_in files schedule_name)) (muxed files))) e)
 
--- ---- why a size isn't known, and why bytes aren't read
-
-size_stop : (file : File) (a b : ShelfState) (stop : Stop) → IsSizeStop file a b stop →
-    ((stop ≡ Missing file) × Rose a.misses b.misses × WhereTold (a.told (name_of file)) (λ held. held ≡ None)) ⊎ ((stop ≡ Read file) × FailsToRead (name_of file) a b)
-size_stop file a b (Missing missed) cause = inl (ap Missing cause.0, cause.1, cause.2)
-size_stop file a b (Read failed) cause = inr (ap Read cause.0, cause.1)
-size_stop file a b Memory cause = absurd cause
-size_stop file a b Usage cause = absurd cause
-size_stop file a b (Write f) cause = absurd cause
-size_stop file a b LongSchedule cause = absurd cause
-size_stop file a b (BadRow l) cause = absurd cause
-size_stop file a b (UnknownNode l) cause = absurd cause
-size_stop file a b (CountOver l n m) cause = absurd cause
-size_stop file a b (Short f h n) cause = absurd cause
-size_stop file a b (Overflow p) cause = absurd cause
-size_stop file a b (Underflow p) cause = absurd cause
-size_stop file a b (ManyFrames n) cause = absurd cause
-size_stop file a b NotYet cause = absurd cause
-
-pub read_refuses : (file : File) (a b : ShelfState) (stop : Stop) → IsReadStop file a b stop → Refuses a b stop
-read_refuses file a b Memory cause = tt
-read_refuses file a b (Read failed) cause = subst (λ f. FailsToRead (name_of f) a b) (sym cause.0) cause.1
-read_refuses file a b (Missing f) cause = absurd cause
-read_refuses file a b Usage cause = absurd cause
-read_refuses file a b (Write f) cause = absurd cause
-read_refuses file a b LongSchedule cause = absurd cause
-read_refuses file a b (BadRow l) cause = absurd cause
-read_refuses file a b (UnknownNode l) cause = absurd cause
-read_refuses file a b (CountOver l n m) cause = absurd cause
-read_refuses file a b (Short f h n) cause = absurd cause
-read_refuses file a b (Overflow p) cause = absurd cause
-read_refuses file a b (Underflow p) cause = absurd cause
-read_refuses file a b (ManyFrames n) cause = absurd cause
-read_refuses file a b NotYet cause = absurd cause
-
-pub schedule_size_refuses : (a b : ShelfState) (stop : Stop) → IsSizeStop Schedule a b stop → Refuses a b stop
+pub schedule_size_refuses : (a b : ShelfState) (stop : Stop) → IsSizeStop Schedule a b stop → Refuses Mux a b stop
 schedule_size_refuses a b stop cause = elim (size_stop Schedule a b stop cause) [
-  | inl missing ↦ subst (Refuses a b) (sym missing.0) (
+  | inl missing ↦ subst (Refuses Mux a b) (sym missing.0) (
     missing.1,
     λ files told.
         comes_held files (Missing Schedule) (no_schedule files (missing.2 (files schedule_name) (schedule_told a files told))),
   )
-  | inr fails ↦ subst (Refuses a b) (sym fails.0) fails.1
+  | inr fails ↦ subst (Refuses Mux a b) (sym fails.0) fails.1
 ]
 
 pub leaf_size_refuses : (a b : ShelfState) (schedule k : ℕ) (leaf : ℕ → ℕ) (stop : Stop) → k < 4 → HasLength schedule_name schedule a → ((i : ℕ) → i < k → HasLength (leaf_name i) (leaf i) a) →
-    IsSizeStop (Leaf k) a b stop → Refuses a b stop
+    IsSizeStop (Leaf k) a b stop → Refuses Mux a b stop
 leaf_size_refuses a b schedule k leaf stop low first before cause = elim (size_stop (Leaf k) a b stop cause) [
-  | inl missing ↦ subst (Refuses a b) (sym missing.0) (
+  | inl missing ↦ subst (Refuses Mux a b) (sym missing.0) (
     missing.1,
     λ files told.
         comes_held files (Missing (Leaf k)) (no_leaf files k low (is_held a schedule_name schedule (files schedule_name) first (schedule_told a files told))
         (λ i h. held_files a files (leaf i) i told (omega arith) (before i h)) (ap is_none (missing.2 (files (leaf_name k)) (leaf_told a files k low told)))),
   )
-  | inr fails ↦ subst (Refuses a b) (sym fails.0) fails.1
+  | inr fails ↦ subst (Refuses Mux a b) (sym fails.0) fails.1
 ]
 
 pub all_are_held : (sizes : InputSizes) (a : ShelfState) → AreSizes sizes a → AreHeld a
 all_are_held sizes a are files told = every_leaf files (is_held a schedule_name sizes.schedule (files schedule_name) are.schedule (schedule_told a files told))
     (λ i h. held_files a files (slice_index sizes.leaves i) i told h (are.leaf i h))
 
--- ---- the schedule is refused
+-- ---- the schedule
 
-comes_rows : (files : Files) (stop : Stop) → all_held mux_inputs files ≡ Ok tt → rows_of (bytes_in files schedule_name) ≡ Err stop → ◌≡◌ {A = Answer} (Err stop) (comes_to Mux files)
-comes_rows files stop held e =
-    sym (ap (λ r. and_then r (λ _. and_then (rows_of (bytes_in files schedule_name)) (muxed files))) held ∙ ap (λ r. and_then r (muxed files)) e)
+-- the file that is held has these bytes
+text_held : (held : Option (List ℕ)) (bytes : ℕ) → Some bytes ≡ option_map length held → (text : List ℕ) × (held ≡ Some text)
+text_held None bytes e = absurd (cc)
+text_held (Some text) bytes e = (text, refl)
 
-long_rows : (text : List ℕ) → 33554432 < length text → rows_of text ≡ Err LongSchedule
-unfolding rows_of schedule_of
-long_rows text h = let test : nat_lt 33554432 (length text) ≡ true = grind (arith, nat_tests) in rw test refl
+-- what `mux` comes to, by its schedule
+pub mux_begins : (a : ShelfState) (bytes : ℕ) → AreHeld a → HasLength schedule_name bytes a → Begins Mux muxed a
+mux_begins a bytes held known files told =
+    let t = text_held (files schedule_name) bytes (known.told (files schedule_name) (schedule_told a files told)) in (
+      t.0,
+      schedule_told a files told ∙ ap Known t.1,
+      ap (λ r. and_then r (λ _. and_then (rows_of (bytes_in files schedule_name)) (muxed files))) (held files told)
+          ∙ ap (λ (h : Option (List ℕ)). and_then (rows_of (unwrap_or h [])) (muxed files)) t.1,
+    )
 
-pub long_refuses : (a : ShelfState) (bytes : ℕ) → AreHeld a → HasLength schedule_name bytes a → 33554432 < bytes → Comes Mux a (Err LongSchedule)
-long_refuses a bytes held known long files told =
-    comes_rows files LongSchedule (held files told) (long_rows (bytes_in files schedule_name) (let e = length_is a schedule_name bytes files known (schedule_told a files told) in omega (arith, e)))
-
--- the text that was read is the schedule's
-pub text_is : (a : ShelfState) (text : List ℕ) (files : Files) → Holds (a.told schedule_name) text → AreTold Mux a.told files → bytes_in files schedule_name ≡ text
-text_is a text files holds told = ap (λ (h : Option (List ℕ)). unwrap_or h []) (holds (files schedule_name) (schedule_told a files told))
-
-rows_fail : (text : List ℕ) (fault : ScheduleFault) → schedule_of e12_levels text ≡ Err fault → rows_of text ≡ Err (stop_of_fault fault)
-unfolding rows_of
-rows_fail text fault e = ap rows_or_stop e
-
-pub rows_are : (text : List ℕ) (rows : List Row) → schedule_of e12_levels text ≡ Ok rows → rows_of text ≡ Ok rows
-unfolding rows_of
-rows_are text rows e = ap rows_or_stop e
-
-fault_comes : (a : ShelfState) (text : List ℕ) (fault : ScheduleFault) → AreHeld a → Holds (a.told schedule_name) text → schedule_of e12_levels text ≡ Err fault → Comes Mux a (Err (stop_of_fault fault))
-fault_comes a text fault held holds said files told =
-    comes_rows files (stop_of_fault fault) (held files told) (ap rows_of (text_is a text files holds told) ∙ rows_fail text fault said)
-
-pub fault_refuses : (a b : ShelfState) (text : List ℕ) (fault : ScheduleFault) → AreHeld a → Holds (a.told schedule_name) text → Fails fault (schedule_of e12_levels text) → Refuses a b (stop_of_fault fault)
-fault_refuses a b text NoMemory held holds said = tt
-fault_refuses a b text (TooLong len) held holds said = fault_comes a text (TooLong len) held holds said
-fault_refuses a b text (RowIsBad line) held holds said = fault_comes a text (RowIsBad line) held holds said
-fault_refuses a b text (NodeIsUnknown line) held holds said = fault_comes a text (NodeIsUnknown line) held holds said
-fault_refuses a b text (CountIsOver line count most) held holds said = fault_comes a text (CountIsOver line count most) held holds said
+pub has_rows : (a : ShelfState) (bytes : ℕ) (rows : List Row) → HasLength schedule_name bytes a → RowsAre a (Ok rows) → HasRows a rows
+has_rows a bytes rows known are files told =
+    let t = text_held (files schedule_name) bytes (known.told (files schedule_name) (schedule_told a files told)) in
+    ap (λ (h : Option (List ℕ)). rows_of (unwrap_or h [])) t.1 ∙ are t.0 (schedule_told a files told ∙ ap Known t.1)
 
 -- ---- too many frames, or a leaf that is too short
 
@@ -248,7 +158,7 @@ short_comes sizes a rows k have need files are told short =
 many_comes : (rows : List Row) (files : Files) → 16384 < frames_in rows → muxed files rows ≡ Err (ManyFrames (frames_in rows))
 many_comes rows files h = let many : nat_lt 16384 (frames_in rows) ≡ true = grind (arith, nat_tests) in rw many refl
 
-pub enough_refuses : (sizes : InputSizes) (rows : List Row) (a b : ShelfState) (stop : Stop) → AreSizes sizes a → HasRows a rows → IsEnoughStop rows sizes stop → Refuses a b stop
+pub enough_refuses : (sizes : InputSizes) (rows : List Row) (a b : ShelfState) (stop : Stop) → AreSizes sizes a → HasRows a rows → IsEnoughStop rows sizes stop → Refuses Mux a b stop
 enough_refuses sizes rows a b (ManyFrames n) are has cause = λ files told.
     ap (λ m. Err (ManyFrames m)) cause.0 ∙ sym (comes_muxed a rows files (all_are_held sizes a are) has told ∙ many_comes rows files (subst (λ m. 16384 < m) cause.0 cause.1))
 enough_refuses sizes rows a b (Short (Leaf k) have need) are has cause = λ files told.

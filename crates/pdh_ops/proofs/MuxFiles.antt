@@ -1,5 +1,5 @@
 -- What the steps of `mux` leave of the files, and what the whole command comes to.
-use Rattle.std.proofs.Common.{◌≡◌, ℕ, zero, suc, ◌*◌, ◌<◌, ◌≤◌, nat_lt, List, [], ◌∷◌, Bool, true, false, Vec, Option, None, Some, Ok, Err, length, map, refl, ap, sym, subst, ◌∙◌, inl, inr, arith, lit<}
+use Rattle.std.proofs.Common.{◌≡◌, ℕ, ◌*◌, ◌<◌, ◌≤◌, nat_lt, List, [], ◌∷◌, Bool, true, false, Vec, Option, None, Some, Ok, Err, length, map, refl, ap, sym, subst, ◌∙◌, arith}
 use Rattle.std.specs.Option.{option_map_or}
 use Rattle.std.specs.Result.{result_unwrap_or}
 use Rattle.std.specs.List.{range_with_len}
@@ -7,7 +7,7 @@ use Rattle.std.specs.declared.alloc.Global.{Global}
 use Rattle.std.proofs.lemmas.Bool.Decides.{nat_tests}
 use Rattle.std.proofs.lemmas.List.{same_lists, length-map, get_or-map}
 use Rattle.std.proofs.lemmas.List.FromFn.{get_or-map-range_with_len}
-use Rattle.pdh_edge.specs.Files.{ShelfState, Told, Looks, Touches, Holds, HoldsPrefix, Starts, Appends}
+use Rattle.pdh_edge.specs.Files.{ShelfState, Told, Looks, Touches, Starts, Appends}
 use Rattle.pdh_bits.specs.Bits.{bytes_of}
 use Rattle.pdh_shape.specs.Sets.{e2}
 use Rattle.pdh_shape.specs.Frame.{idle}
@@ -20,18 +20,19 @@ use Rattle.pdh_clock.specs.Row.{Row}
 use Rattle.pdh_ops.specs.Names.{line_name}
 use Rattle.pdh_ops.specs.Answer.{Answer}
 use Rattle.pdh_ops.specs.Writing.{IsStartStop, IsAppendStop}
-use Rattle.pdh_ops.specs.Mux.{Files, rows_in, counts_of, frames_in, leaf_bits, bits_held, bits_needed, stop_of_kind, stop_of_event, place_of, event_of, muxed, frames_made, line_bytes}
+use Rattle.pdh_ops.specs.Schedules.{Files, rows_in, counts_of, frames_in}
+use Rattle.pdh_ops.specs.Mux.{leaf_bits, bits_held, bits_needed, stop_of_kind, stop_of_event, place_of, event_of, muxed, frames_made, line_bytes}
 use Rattle.pdh_ops.specs.Commands.{IsOutput, AreTold, output_bytes, comes_to}
 use Rattle.pdh_ops.specs.Run.{Comes, AreWhole, ChangesOnly, Performs, GoesOn, reaches_outputs}
 use Rattle.pdh_ops.specs.MuxSteps.{AreSizes, HasRows, AreEnough, AreLeaves, IsEnd, IsMade}
-use Rattle.pdh_ops.specs.declared.command.Command.TheVariants.{Mux}
+use Rattle.pdh_words.specs.declared.commands.Command.TheVariants.{Mux}
 use Rattle.pdh_ops.specs.declared.file.File.TheVariants.{Line}
 use Rattle.pdh_ops.specs.declared.mux.InputSizes.{InputSizes}
 use Rattle.pdh_ops.specs.declared.mux.Made.{Made}
 use Rattle.pdh_ops.specs.declared.answer.Done.TheVariants.{Muxed}
 use Rattle.pdh_ops.specs.declared.answer.Stop.{Stop}
-use Rattle.pdh_ops.proofs.Touching.{fails_since, touches_then, looks_then}
-use Rattle.pdh_ops.proofs.DemuxFiles.{grows_holds, grows_part_holds}
+use Rattle.pdh_ops.proofs.Touching.{looks_then}
+use Rattle.pdh_ops.proofs.OneOutput.{HasOutput, Writes, touches_again, others, start_refused, append_refused, whole, writing_done}
 use Rattle.pdh_ops.proofs.MuxComes.{all_are_held, sizes_since, of_inputs_since, comes_muxed, no_short_leaf, long_enough}
 
 -- what the steps before the outputs have found
@@ -108,60 +109,33 @@ ready_line a b sizes rows frames leaves made files ready is told =
 
 -- ---- the files
 
-first_output : (i : ℕ) → i < 1 → i ≡ 0
-first_output zero h = refl
-first_output (suc i) h = absurd (omega arith)
+mux_output : HasOutput Mux Line
+mux_output = record { count = refl; name = refl }
 
-others : (a b d : ShelfState) → Looks a b → Touches line_name b d → ChangesOnly (IsOutput Mux) a d
-others a b d looks touches = record {
-  told = λ name out. touches.told name (λ e. out (0, lit< tt, e)) ∙ ap (λ (t : List ℕ → Told). t name) looks.told;
-  read_faults = omega arith;
-  write_faults = omega arith;
-  misses = omega arith;
+-- what it is to write, and that no step before refuses
+ready_writes : (a b : ShelfState) (sizes : InputSizes) (rows : List Row) (frames : ℕ) (leaves : List (Vec Bool Global)) (made : Made) (bytes : List ℕ) → IsReady a b sizes rows frames leaves → IsMade rows leaves made →
+    bytes ≡ made.bytes.items → Writes Mux a b bytes
+ready_writes a b sizes rows frames leaves made bytes ready is same = record {
+  looks = ready.looks;
+  goes_on = ready_goes_on a b sizes rows frames leaves ready;
+  content = λ files told. same ∙ ready_line a b sizes rows frames leaves made files ready is told;
 }
 
-pub touches_again : (b c d : ShelfState) → Touches line_name b c → Touches line_name c d → Touches line_name b d
-touches_again b c d first then_ = touches_then (λ other. other ≡ line_name) line_name b c d refl first then_
-
-pub start_refused : (a b c : ShelfState) (sizes : InputSizes) (rows : List Row) (frames : ℕ) (leaves : List (Vec Bool Global)) (stop : Stop) → IsReady a b sizes rows frames leaves → Touches line_name b c →
+pub mux_start_refused : (a b c : ShelfState) (sizes : InputSizes) (rows : List Row) (frames : ℕ) (leaves : List (Vec Bool Global)) (stop : Stop) → IsReady a b sizes rows frames leaves → Touches line_name b c →
     IsStartStop Line b c stop → Performs Mux a c (Err stop)
-start_refused a b c sizes rows frames leaves stop ready touches cause = subst (λ stop. Performs Mux a c (Err stop)) (sym cause.0) (record {
-  cause = (fails_since line_name a b c (let e = ready.looks.write_faults in omega arith) cause.1.fails, ready_goes_on a b sizes rows frames leaves ready);
-  outputs = record {
-    started = 0;
-    begun = λ files i told lt low. absurd (omega arith);
-    next = λ low. elim cause.1.told [ inl same ↦ inl (same ∙ ap (λ (t : List ℕ → Told). t line_name) ready.looks.told) | inr empty ↦ inr empty ];
-    later = λ i lt low. absurd (omega arith);
-  };
-  others = others a b c ready.looks touches;
-})
+mux_start_refused a b c sizes rows frames leaves stop ready touches cause =
+    start_refused Mux Line a b c stop mux_output ready.looks (ready_goes_on a b sizes rows frames leaves ready) touches cause
 
-pub append_refused : (a b c d : ShelfState) (sizes : InputSizes) (rows : List Row) (frames : ℕ) (leaves : List (Vec Bool Global)) (made : Made) (bytes : List ℕ) (stop : Stop) → IsReady a b sizes rows frames leaves →
+pub mux_append_refused : (a b c d : ShelfState) (sizes : InputSizes) (rows : List Row) (frames : ℕ) (leaves : List (Vec Bool Global)) (made : Made) (bytes : List ℕ) (stop : Stop) → IsReady a b sizes rows frames leaves →
     IsMade rows leaves made → bytes ≡ made.bytes.items → Touches line_name b c → Starts line_name b c → Touches line_name c d → IsAppendStop Line bytes c d stop → Performs Mux a d (Err stop)
-append_refused a b c d sizes rows frames leaves made bytes stop ready is same starts started appends cause = subst (λ stop. Performs Mux a d (Err stop)) (sym cause.0) (record {
-  cause = (fails_since line_name a c d (let e = ready.looks.write_faults in let f = starts.write_faults in omega arith) cause.1.fails, ready_goes_on a b sizes rows frames leaves ready);
-  outputs = record {
-    started = 1;
-    begun = λ files i told lt low. subst (HoldsPrefix (d.told line_name)) (same ∙ ready_line a b sizes rows frames leaves made files ready is told) (grows_part_holds _ _ bytes cause.1.told started.told);
-    next = λ low. absurd (omega arith);
-    later = λ i lt low. absurd (omega arith);
-  };
-  others = others a b d ready.looks (touches_again b c d starts appends);
-})
+mux_append_refused a b c d sizes rows frames leaves made bytes stop ready is same starts started appends cause =
+    append_refused Mux Line a b c d bytes stop mux_output (ready_writes a b sizes rows frames leaves made bytes ready is same) starts started appends cause
 
--- the whole output stands
-whole : (a b c d : ShelfState) (sizes : InputSizes) (rows : List Row) (frames : ℕ) (leaves : List (Vec Bool Global)) (made : Made) (bytes : List ℕ) → IsReady a b sizes rows frames leaves → IsMade rows leaves made →
-    bytes ≡ made.bytes.items → Starts line_name b c → Appends line_name bytes c d → AreWhole Mux a d
-whole a b c d sizes rows frames leaves made bytes ready is same started appends files i told low =
-    subst (Holds (d.told line_name)) (same ∙ ready_line a b sizes rows frames leaves made files ready is told) (grows_holds _ _ bytes [] appends.told started.told)
-
-pub done : (a b c d : ShelfState) (sizes : InputSizes) (rows : List Row) (frames : ℕ) (leaves : List (Vec Bool Global)) (made : Made) (bytes : List ℕ) → IsReady a b sizes rows frames leaves → IsMade rows leaves made →
+pub mux_done : (a b c d : ShelfState) (sizes : InputSizes) (rows : List Row) (frames : ℕ) (leaves : List (Vec Bool Global)) (made : Made) (bytes : List ℕ) → IsReady a b sizes rows frames leaves → IsMade rows leaves made →
     bytes ≡ made.bytes.items → Touches line_name b c → Starts line_name b c → Touches line_name c d → Appends line_name bytes c d → made.end ≡ None → Performs Mux a d (Ok (Muxed frames))
-done a b c d sizes rows frames leaves made bytes ready is same starts started touches appends ends = record {
-  cause = λ files told. sym (ready_comes a b sizes rows frames leaves files ready told ∙ no_event (event_of rows) made.end is.end ends);
-  outputs = whole a b c d sizes rows frames leaves made bytes ready is same started appends;
-  others = others a b d ready.looks (touches_again b c d starts touches);
-}
+mux_done a b c d sizes rows frames leaves made bytes ready is same starts started touches appends ends =
+    writing_done Mux Line a b c d bytes (Muxed frames) mux_output (ready_writes a b sizes rows frames leaves made bytes ready is same) starts started touches appends
+    (λ files told. sym (ready_comes a b sizes rows frames leaves files ready told ∙ no_event (event_of rows) made.end is.end ends))
   where
     no_event : (event : Option Event) (end : Option Stop) → IsEnd event end → end ≡ None → ◌≡◌ {A = Answer} (option_map_or (λ event. Err (stop_of_event event)) event (Ok (Muxed (frames_in rows)))) (Ok (Muxed frames))
     no_event None end e f = ap (λ n. Ok (Muxed n)) (sym ready.enough.frames_are)
@@ -182,6 +156,7 @@ event_ends a b c d sizes rows frames leaves made bytes stop ready is same starts
         let some : made.end ≡ Some (stop_of_event event) = subst (λ event. IsEnd event made.end) e is.end in
         let both : Some stop ≡ Some (stop_of_event event) = sym ends ∙ some in
         let is_stop : stop ≡ stop_of_event event = cc in
+        let writes = ready_writes a b sizes rows frames leaves made bytes ready is same in
         subst (λ stop. Performs Mux a d (Err stop)) (sym is_stop) (event_performs a d event.kind (place_of event)
         (λ files told. sym (ready_comes a b sizes rows frames leaves files ready told ∙ ap (λ (o : Option Event). option_map_or (λ event. Err (stop_of_event event)) o (Ok (Muxed (frames_in rows)))) e))
-        (whole a b c d sizes rows frames leaves made bytes ready is same started appends) (others a b d ready.looks (touches_again b c d starts touches)))
+        (whole Mux Line a b c d bytes mux_output writes started appends) (others Mux Line a b d mux_output ready.looks (touches_again line_name b c d starts touches)))

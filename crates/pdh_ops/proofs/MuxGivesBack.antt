@@ -19,12 +19,13 @@ use Rattle.pdh_line.proofs.EventLaws.{received-prefix_of_list}
 use Rattle.pdh_clock.specs.Row.{Row}
 use Rattle.pdh_ops.specs.Names.{schedule_name, leaf_name}
 use Rattle.pdh_ops.specs.Answer.{Answer, and_then, status_of}
-use Rattle.pdh_ops.specs.Mux.{Files, bytes_in, mux_inputs, all_held, rows_of, rows_in, counts_of, frames_in, leaf_bits, mux_source, bits_held, bits_needed, short_leaf, event_of, muxed, frames_made, line_bytes, stop_of_event}
+use Rattle.pdh_ops.specs.Schedules.{Files, bytes_in, rows_of, rows_in, counts_of, frames_in}
+use Rattle.pdh_ops.specs.Mux.{mux_inputs, all_held, leaf_bits, mux_source, bits_held, bits_needed, short_leaf, event_of, muxed, frames_made, line_bytes, stop_of_event}
 use Rattle.pdh_ops.specs.Commands.{comes_to}
 use Rattle.pdh_ops.specs.Run.{Performs, IsTold, Runs}
 use Rattle.pdh_ops.specs.GivesBack.{GivesBack}
-use Rattle.pdh_ops.specs.declared.command.Command.{Command}
-use Rattle.pdh_ops.specs.declared.command.Command.TheVariants.{Demux, Mux}
+use Rattle.pdh_words.specs.declared.commands.Command.{Command}
+use Rattle.pdh_words.specs.declared.commands.Command.TheVariants.{Demux, Mux, ClockCheck, ClockMake}
 use Rattle.pdh_ops.specs.declared.answer.Done.{Done}
 use Rattle.pdh_ops.specs.declared.answer.Done.TheVariants.{Muxed}
 use Rattle.pdh_ops.specs.declared.answer.Stop.{Stop}
@@ -134,4 +135,6 @@ answer_gives_back a b k l status (Ok done) performs tells files line leaf n told
 pub gives_back : (command : Option Command) (a b : ShelfState) (k l : SinkState) (status : ℕ) → Runs command a b k l status → GivesBack command a b status
 gives_back None a b k l status runs = tt
 gives_back (Some Demux) a b k l status runs = tt
+gives_back (Some ClockCheck) a b k l status runs = tt
+gives_back (Some (ClockMake frames bias)) a b k l status runs = tt
 gives_back (Some Mux) a b k l status runs = answer_gives_back a b k l status runs.answer runs.does runs.told

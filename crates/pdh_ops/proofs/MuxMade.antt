@@ -1,22 +1,19 @@
 -- What making the line of `mux` comes to.
-use Rattle.std.proofs.Common.{◌≡◌, ℕ, ◌*◌, ◌<◌, Bool, true, List, [], ◌++◌, Vec, length, refl, ap, sym, ◌∙◌}
+use Rattle.std.proofs.Common.{◌≡◌, ℕ, ◌*◌, ◌<◌, Bool, List, [], ◌++◌, Vec, length, refl, ap, sym, ◌∙◌}
 use Rattle.std.specs.Prelude.{Option, Some, None, slice_index_or}
 use Rattle.std.specs.declared.alloc.Global.{Global}
 use Rattle.std.proofs.lemmas.List.{get_or-map}
 use Rattle.pdh_bits.specs.Bits.{bytes_of}
-use Rattle.pdh_shape.specs.Sets.{e2, set_role}
+use Rattle.pdh_shape.specs.Sets.{e2}
 use Rattle.pdh_shape.specs.Frame.{idle}
 use Rattle.pdh_line.specs.Sending.{front, line_bit, source_of, bits_at}
 use Rattle.pdh_line.specs.Events.{Event, first_event}
-use Rattle.pdh_mux.specs.Making.{names_tributaries, lists_of}
+use Rattle.pdh_mux.specs.Making.{lists_of}
 use Rattle.pdh_clock.specs.Row.{Row}
-use Rattle.pdh_ops.specs.Mux.{counts_of, frames_in, event_of, frames_made, stop_of_event}
+use Rattle.pdh_ops.specs.Schedules.{counts_of, frames_in}
+use Rattle.pdh_ops.specs.Mux.{event_of, frames_made, stop_of_event}
 use Rattle.pdh_ops.specs.MuxSteps.{IsMade}
 use Rattle.pdh_ops.specs.declared.answer.Stop.{Stop}
-
-pub e2_names_tributaries : names_tributaries e2 ≡ true
-unfolding names_tributaries set_role
-e2_names_tributaries = refl
 
 -- the bits of a list's element
 pub bits_at-is : (leaves : List (Vec Bool Global)) (j : ℕ) (d : Vec Bool Global) → j < length leaves → bits_at (lists_of leaves) j ≡ (slice_index_or leaves j d).items

@@ -6,12 +6,11 @@ use Rattle.std.specs.Result.{result_unwrap_or}
 use Rattle.pdh_bits.specs.Bits.{bits_of}
 use Rattle.pdh_edge.specs.Files.{ShelfState, SinkState}
 use Rattle.pdh_shape.specs.Sets.{e2}
-use Rattle.pdh_shape.specs.E2Laws.{e2_is_frame, e2_has_tributaries}
+use Rattle.pdh_shape.specs.E2Laws.{e2_is_frame, e2_has_tributaries, e2_reads_evenly}
 use Rattle.pdh_line.specs.Receiving.{received}
 use Rattle.pdh_line.specs.Sending.{entered, given_back}
 use Rattle.pdh_line.specs.Tolerance.{IsWithin}
 use Rattle.pdh_line.proofs.EventLaws.{entered-grows}
-use Rattle.pdh_line.proofs.EvenReading.{e2_reads_evenly}
 use Rattle.pdh_line.proofs.WithinTolerance.{no_event, received-behind}
 use Rattle.pdh_clock.specs.Row.{Row}
 use Rattle.pdh_clock.specs.Judged.{schedule_of}
@@ -19,12 +18,13 @@ use Rattle.pdh_clock.specs.declared.fault.ScheduleFault.{ScheduleFault}
 use Rattle.pdh_clock.specs.declared.fault.ScheduleFault.TheVariants.{TooLong, BadRow as RowIsBad, UnknownNode as NodeIsUnknown, CountOver as CountIsOver, Memory as NoMemory}
 use Rattle.pdh_ops.specs.Names.{name_of, schedule_name}
 use Rattle.pdh_ops.specs.Answer.{Answer, and_then, status_of}
-use Rattle.pdh_ops.specs.Mux.{Files, bytes_in, e12_levels, mux_inputs, rows_of, rows_or_stop, rows_in, counts_of, frames_in, leaf_bits, bits_held, bits_needed, short_leaf, event_of, muxed, line_bytes, stop_of_fault}
+use Rattle.pdh_ops.specs.Schedules.{Files, bytes_in, e12_levels, rows_of, rows_or_stop, rows_in, counts_of, frames_in, stop_of_fault}
+use Rattle.pdh_ops.specs.Mux.{mux_inputs, leaf_bits, bits_held, bits_needed, short_leaf, event_of, muxed, line_bytes}
 use Rattle.pdh_ops.specs.Commands.{AreTold, comes_to}
 use Rattle.pdh_ops.specs.Run.{IsCause, Performs, IsTold, Runs}
 use Rattle.pdh_ops.specs.Tolerated.{AreWithin, HasNoEvent, IsDelayed}
-use Rattle.pdh_ops.specs.declared.command.Command.{Command}
-use Rattle.pdh_ops.specs.declared.command.Command.TheVariants.{Demux, Mux}
+use Rattle.pdh_words.specs.declared.commands.Command.{Command}
+use Rattle.pdh_words.specs.declared.commands.Command.TheVariants.{Demux, Mux, ClockCheck, ClockMake}
 use Rattle.pdh_ops.specs.declared.file.File.{File}
 use Rattle.pdh_ops.specs.declared.file.File.TheVariants.{Leaf}
 use Rattle.pdh_ops.specs.declared.answer.Done.TheVariants.{Muxed}
@@ -97,6 +97,8 @@ answer_no_event a b k l status (Err stop) performs tells files told within eight
 pub has_no_event : (command : Option Command) (a b : ShelfState) (k l : SinkState) (status : ℕ) → Runs command a b k l status → HasNoEvent command a status
 has_no_event None a b k l status runs = tt
 has_no_event (Some Demux) a b k l status runs = tt
+has_no_event (Some ClockCheck) a b k l status runs = tt
+has_no_event (Some (ClockMake frames bias)) a b k l status runs = tt
 has_no_event (Some Mux) a b k l status runs = answer_no_event a b k l status runs.answer runs.does runs.told
 
 -- ---- the delay
@@ -120,4 +122,6 @@ answer_delayed a b k l status (Ok done) performs tells files line leaf n told wi
 pub is_delayed : (command : Option Command) (a b : ShelfState) (k l : SinkState) (status : ℕ) → Runs command a b k l status → IsDelayed command a b status
 is_delayed None a b k l status runs = tt
 is_delayed (Some Demux) a b k l status runs = tt
+is_delayed (Some ClockCheck) a b k l status runs = tt
+is_delayed (Some (ClockMake frames bias)) a b k l status runs = tt
 is_delayed (Some Mux) a b k l status runs = answer_delayed a b k l status runs.answer runs.does runs.told

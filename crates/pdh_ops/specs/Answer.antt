@@ -4,7 +4,8 @@ use Rattle.pdh_shape.specs.declared.place.Place.{Place}
 use Rattle.pdh_words.specs.Paths.{path_text}
 use Rattle.pdh_ops.specs.Names.{name_of}
 use Rattle.pdh_ops.specs.declared.answer.Done.{Done}
-use Rattle.pdh_ops.specs.declared.answer.Done.TheVariants.{Demuxed, Muxed}
+use Rattle.pdh_ops.specs.declared.answer.Done.TheVariants.{Demuxed, Muxed, ClockInside, ClockOutside, ClockMade}
+use Rattle.pdh_ops.specs.declared.answer.OutOfTolerance.{OutOfTolerance}
 use Rattle.pdh_ops.specs.declared.answer.Stop.{Stop}
 use Rattle.pdh_ops.specs.declared.answer.Stop.TheVariants.{Memory, Usage, Read, Write, Missing, LongSchedule, BadRow, UnknownNode, CountOver, Short, Overflow, Underflow, ManyFrames, NotYet}
 
@@ -38,10 +39,18 @@ abbrev pub place_text : Place → List ℕ
 place_text place =
     path_text place.path ++ codes " tributary " ++ decimal place.trib ++ codes " frame " ++ decimal place.frame ++ codes " slot " ++ decimal place.slot
 
+-- a tributary that isn't within the tolerance, and the run of frames that shows it: the frame behind the run is named
+abbrev pub outside_text : OutOfTolerance → List ℕ
+outside_text out =
+    path_text out.node ++ codes " tributary " ++ decimal out.trib ++ codes " frames " ++ decimal out.run.from ++ codes " to " ++ decimal out.run.to ++ codes " sum " ++ decimal out.run.sum
+
 -- each text is one line
 abbrev pub done_text : Done → List ℕ
 done_text (Demuxed frames) = codes "demux e12: frames " ++ decimal frames ++ codes "\n"
 done_text (Muxed frames) = codes "mux e12: frames " ++ decimal frames ++ codes "\n"
+done_text ClockInside = codes "clock e12: inside\n"
+done_text (ClockOutside out) = codes "clock e12: outside " ++ outside_text out ++ codes "\n"
+done_text (ClockMade rows) = codes "clock e12: rows " ++ decimal rows ++ codes "\n"
 
 abbrev pub stop_text : Stop → List ℕ
 stop_text Memory = codes "memory\n"

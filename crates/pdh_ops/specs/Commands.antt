@@ -1,22 +1,16 @@
--- The commands: their words, what they read and write, and what they come to. Each definition has one equation for
+-- The commands: what they read and write, and what they come to. Each definition has one equation for
 -- each command.
-use Rattle.std.specs.Prelude.{◌≡◌, ℕ, zero, suc, ◌<◌, ◌&&◌, List, [], ◌∷◌, codes, Option, Some, None, if◌then◌else◌}
-use Rattle.std.specs.Str.{bytes_eq}
+use Rattle.std.specs.Prelude.{◌≡◌, ℕ, zero, suc, ◌<◌, List, [], Ok}
 use Rattle.pdh_edge.specs.Files.{Told}
 use Rattle.pdh_edge.specs.Files.Told.{Known}
 use Rattle.pdh_ops.specs.Names.{line_name, schedule_name, leaf_name, output_name}
 use Rattle.pdh_ops.specs.Answer.{Answer, and_then}
 use Rattle.pdh_ops.specs.Demux.{line_of, demuxed, output_of}
-use Rattle.pdh_ops.specs.Mux.{Files, bytes_in, mux_inputs, all_held, rows_of, rows_in, muxed, line_bytes}
-use Rattle.pdh_ops.specs.declared.command.Command.{Command}
-use Rattle.pdh_ops.specs.declared.command.Command.TheVariants.{Demux, Mux}
-
--- the command of these words, if they are a row of the table
-abbrev pub command_of : List (List ℕ) → Option Command
-command_of (a ∷ b ∷ []) =
-    (if bytes_eq b (codes "e12") && bytes_eq a (codes "demux") then Some Demux
-    else (if bytes_eq b (codes "e12") && bytes_eq a (codes "mux") then Some Mux else None))
-command_of _ = None
+use Rattle.pdh_ops.specs.Schedules.{Files, bytes_in, rows_of, rows_in}
+use Rattle.pdh_ops.specs.Mux.{mux_inputs, all_held, muxed, line_bytes}
+use Rattle.pdh_ops.specs.Clock.{check_inputs, checked, made_text, clock_made}
+use Rattle.pdh_words.specs.declared.commands.Command.{Command}
+use Rattle.pdh_words.specs.declared.commands.Command.TheVariants.{Demux, Mux, ClockCheck, ClockMake}
 
 -- so many names, in order
 pub record Names : Type 0 where
@@ -32,21 +26,29 @@ mux_input (suc leaf) = leaf_name leaf
 abbrev pub inputs : Command → Names
 inputs Demux = record { count = 1; name = λ _. line_name }
 inputs Mux = record { count = 5; name = mux_input }
+inputs ClockCheck = record { count = 1; name = λ _. schedule_name }
+inputs (ClockMake frames bias) = record { count = 0; name = λ _. schedule_name }
 
 -- what it writes, in the order in which it starts them
 abbrev pub outputs : Command → Names
 outputs Demux = record { count = 4; name = output_name }
 outputs Mux = record { count = 1; name = λ _. line_name }
+outputs ClockCheck = record { count = 0; name = λ _. schedule_name }
+outputs (ClockMake frames bias) = record { count = 1; name = λ _. schedule_name }
 
 -- what its outputs hold in the end
 abbrev pub output_bytes : Command → Files → ℕ → List ℕ
 output_bytes Demux files leaf = output_of (bytes_in files line_name) leaf
 output_bytes Mux files _ = line_bytes files (rows_in files)
+output_bytes ClockCheck files _ = []
+output_bytes (ClockMake frames bias) files _ = made_text frames bias
 
 -- its work, or the first refusal in the order of its steps, where no memory is wanting and no device fails
 abbrev pub comes_to : Command → Files → Answer
 comes_to Demux files = and_then (line_of (files line_name)) demuxed
 comes_to Mux files = and_then (all_held mux_inputs files) (λ _. and_then (rows_of (bytes_in files schedule_name)) (muxed files))
+comes_to ClockCheck files = and_then (all_held check_inputs files) (λ _. and_then (rows_of (bytes_in files schedule_name)) (λ rows. Ok (checked rows)))
+comes_to (ClockMake frames bias) files = clock_made frames bias
 
 -- the inputs of a command are told, as these files
 abbrev pub AreTold : Command → (List ℕ → Told) → Files → Type 0

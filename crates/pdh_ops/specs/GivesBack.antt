@@ -1,15 +1,16 @@
 -- What `mux` wrote, `demux` gives back in order.
-use Rattle.std.specs.Prelude.{◌≡◌, ℕ, ◌*◌, ◌<◌, ◌≤◌, List, ⊤, Bool, Option, Some, None, length, take}
+use Rattle.std.specs.Prelude.{◌≡◌, ℕ, ◌*◌, ◌<◌, ◌≤◌, List, ⊤, Bool, Option, Some, length, take}
 use Rattle.pdh_bits.specs.Bits.{bits_of}
 use Rattle.pdh_edge.specs.Files.{ShelfState}
 use Rattle.pdh_edge.specs.Files.Told.{Known}
 use Rattle.pdh_shape.specs.Sets.{e2}
 use Rattle.pdh_line.specs.Receiving.{received}
 use Rattle.pdh_ops.specs.Names.{line_name}
-use Rattle.pdh_ops.specs.Mux.{Files, leaf_bits}
+use Rattle.pdh_ops.specs.Schedules.{Files}
+use Rattle.pdh_ops.specs.Mux.{leaf_bits}
 use Rattle.pdh_ops.specs.Commands.{AreTold}
-use Rattle.pdh_ops.specs.declared.command.Command.{Command}
-use Rattle.pdh_ops.specs.declared.command.Command.TheVariants.{Demux, Mux}
+use Rattle.pdh_words.specs.declared.commands.Command.{Command}
+use Rattle.pdh_words.specs.declared.commands.Command.TheVariants.{Mux}
 
 -- the one list is a prefix of the other
 abbrev pub IsPrefix : List Bool → List Bool → Type 0
@@ -18,8 +19,7 @@ IsPrefix front bits = (m : ℕ) × (front ≡ take m bits)
 -- After status 0 of `mux`, of whose line a receiver has the first n frames: what it received of each leaf is a prefix of
 -- the bits of that leaf's file.
 abbrev pub GivesBack : Option Command → ShelfState → ShelfState → ℕ → Type 0
-GivesBack None old new status = ⊤
-GivesBack (Some Demux) old new status = ⊤
 GivesBack (Some Mux) old new status =
     (files : Files) (line : List ℕ) (leaf n : ℕ) → AreTold Mux old.told files → new.told line_name ≡ Known (Some line) → status ≡ 0
     → leaf < 4 → 848 * n ≤ length (bits_of line) → IsPrefix (received e2 leaf (take (n * 848) (bits_of line))) (leaf_bits files leaf)
+GivesBack _ old new status = ⊤

@@ -1,12 +1,16 @@
 pub mod Names
 pub mod Answer
 pub mod Demux
+pub mod Schedules
 pub mod Mux
+pub mod Clock
 pub mod Commands
 pub mod Run
 pub mod Reading
+pub mod Refusing
 pub mod Writing
 pub mod Steps
+pub mod ScheduleSteps
 pub mod MuxSteps
 pub mod GivesBack
 pub mod Tolerated

@@ -1,75 +1,23 @@
 -- What `mux e12` comes to, and what its output holds.
-use Rattle.std.specs.Prelude.{ℕ, ◌+◌, ◌*◌, Bool, false, nat_lt, List, [], ◌∷◌, length, map, find, Option, is_none, unwrap_or, Result, Ok, Err, if◌then◌else◌}
+use Rattle.std.specs.Prelude.{ℕ, ◌+◌, ◌*◌, Bool, nat_lt, List, ◌∷◌, length, map, find, Option, is_none, Result, Ok, Err, if◌then◌else◌}
 use Rattle.std.specs.List.{range_with_len}
 use Rattle.std.specs.Option.{option_map_or}
-use Rattle.std.specs.Result.{result_unwrap_or}
 use Rattle.pdh_bits.specs.Bits.{bits_of, bytes_of}
 use Rattle.pdh_shape.specs.Frame.{idle}
 use Rattle.pdh_shape.specs.Sets.{e2}
-use Rattle.pdh_shape.specs.declared.place.Level.{Level}
 use Rattle.pdh_shape.specs.declared.place.Place.{Place}
 use Rattle.pdh_line.specs.Sending.{Source, front, line_bit, entered, source_of}
 use Rattle.pdh_line.specs.Events.{Event, Kind, first_event}
 use Rattle.pdh_line.specs.Events.Kind.{Overflow as StoreOverflow, Underflow as StoreUnderflow}
-use Rattle.pdh_clock.specs.declared.fault.ScheduleFault.{ScheduleFault}
-use Rattle.pdh_clock.specs.declared.fault.ScheduleFault.TheVariants.{TooLong, BadRow as RowIsBad, UnknownNode as NodeIsUnknown, CountOver as CountIsOver, Memory as NoMemory}
 use Rattle.pdh_clock.specs.Row.{Row}
-use Rattle.pdh_clock.specs.Judged.{schedule_of}
-use Rattle.pdh_clock.specs.Contents.{counts, frame_count}
-use Rattle.pdh_ops.specs.Names.{schedule_name, leaf_name, name_of}
+use Rattle.pdh_ops.specs.Names.{leaf_name, name_of}
+use Rattle.pdh_ops.specs.Schedules.{Files, bytes_in, counts_of, frames_in}
 use Rattle.pdh_ops.specs.Answer.{Answer}
 use Rattle.pdh_ops.specs.declared.file.File.{File}
 use Rattle.pdh_ops.specs.declared.file.File.TheVariants.{Schedule, Leaf}
 use Rattle.pdh_ops.specs.declared.answer.Done.TheVariants.{Muxed}
 use Rattle.pdh_ops.specs.declared.answer.Stop.{Stop}
-use Rattle.pdh_ops.specs.declared.answer.Stop.TheVariants.{Missing, LongSchedule, BadRow, UnknownNode, CountOver, Short, Overflow, Underflow, ManyFrames, Memory}
-
--- the bytes of each file that is held
-abbrev pub Files : Type 0
-Files = List ℕ → Option (List ℕ)
-
--- the bytes of a file, or none
-abbrev pub bytes_in : Files → List ℕ → List ℕ
-bytes_in files name = unwrap_or (files name) []
-
--- the one level of the chain: a G.742 multiplexer of four streams of 2048 kbit/s (the offsets are this project's own)
-abbrev pub e12_levels : List Level
-e12_levels = record {
-  len = 848;
-  tribs = 4;
-  low = 205;
-  locked = false;
-  rate = 8448000;
-  per = 1;
-  ppm = 30;
-  trib_rate = 2048000;
-  trib_per = 1;
-  trib_ppm = 50;
-} ∷ []
-
--- how a fault of the schedule's text ends the command
-abbrev pub stop_of_fault : ScheduleFault → Stop
-stop_of_fault (TooLong len) = LongSchedule
-stop_of_fault (RowIsBad line) = BadRow line
-stop_of_fault (NodeIsUnknown line) = UnknownNode line
-stop_of_fault (CountIsOver line count most) = CountOver line count most
-stop_of_fault NoMemory = Memory
-
--- the rows of a schedule's text, or why it is refused
-abbrev pub rows_or_stop : Result (List Row) ScheduleFault → Result (List Row) Stop
-rows_or_stop (Ok rows) = Ok rows
-rows_or_stop (Err fault) = Err (stop_of_fault fault)
-
-unfoldable pub rows_of : List ℕ → Result (List Row) Stop
-rows_of text = rows_or_stop (schedule_of e12_levels text)
-
--- how many bits of each tributary arrive in each frame
-abbrev pub counts_of : List Row → ℕ → ℕ → ℕ
-counts_of rows leaf frame = counts rows [] leaf frame
-
--- the frames of the line
-abbrev pub frames_in : List Row → ℕ
-frames_in rows = frame_count rows []
+use Rattle.pdh_ops.specs.declared.answer.Stop.TheVariants.{Missing, Short, Overflow, Underflow, ManyFrames}
 
 -- the bits of the leaves
 abbrev pub leaf_bits : Files → ℕ → List Bool
@@ -128,7 +76,3 @@ frames_made rows = option_map_or (λ event. event.frame) (event_of rows) (frames
 -- what the line's file holds
 unfoldable pub line_bytes : Files → List Row → List ℕ
 line_bytes files rows = bytes_of (front (line_bit e2 (mux_source files rows)) (frames_made rows * 848))
-
--- the schedule's rows, where its text has no fault
-abbrev pub rows_in : Files → List Row
-rows_in files = result_unwrap_or (rows_of (bytes_in files schedule_name)) []

@@ -1,40 +1,29 @@
 -- The steps of `mux e12`: what each finds, and why it stops.
-use Rattle.std.specs.Prelude.{◌≡◌, ℕ, ◌*◌, ◌<◌, ◌≤◌, List, ⊤, Bool, Option, Some, None, Ok, Err, length, Vec, slice_index, slice_index_or}
+use Rattle.std.specs.Prelude.{◌≡◌, ℕ, ◌*◌, ◌<◌, ◌≤◌, List, Bool, Option, Some, None, Ok, length, Vec, slice_index, slice_index_or}
 use Rattle.std.specs.declared.alloc.Global.{Global}
 use Rattle.pdh_bits.specs.Bits.{bytes_of}
-use Rattle.pdh_edge.specs.Files.{ShelfState, Rose, FailsToRead}
+use Rattle.pdh_edge.specs.Files.{ShelfState}
 use Rattle.pdh_shape.specs.Frame.{idle}
 use Rattle.pdh_shape.specs.Sets.{e2}
 use Rattle.pdh_line.specs.Sending.{front, line_bit, source_of}
 use Rattle.pdh_line.specs.Events.{Event}
 use Rattle.pdh_mux.specs.Making.{lists_of}
 use Rattle.pdh_clock.specs.Row.{Row}
-use Rattle.pdh_ops.specs.Names.{schedule_name, leaf_name, name_of}
+use Rattle.pdh_ops.specs.Names.{schedule_name, leaf_name}
 use Rattle.pdh_ops.specs.Reading.{HasLength}
-use Rattle.pdh_ops.specs.Mux.{Files, bytes_in, mux_inputs, all_held, rows_of, counts_of, frames_in, leaf_bits, bits_needed, event_of, frames_made, stop_of_event}
+use Rattle.pdh_ops.specs.Schedules.{Files, bytes_in, rows_of, counts_of, frames_in}
+use Rattle.pdh_ops.specs.Mux.{mux_inputs, all_held, leaf_bits, bits_needed, event_of, frames_made, stop_of_event}
 use Rattle.pdh_ops.specs.Commands.{AreTold}
-use Rattle.pdh_ops.specs.Run.{Comes}
-use Rattle.pdh_ops.specs.declared.command.Command.TheVariants.{Mux}
+use Rattle.pdh_words.specs.declared.commands.Command.TheVariants.{Mux}
 use Rattle.pdh_ops.specs.declared.file.File.TheVariants.{Leaf}
 use Rattle.pdh_ops.specs.declared.mux.InputSizes.{InputSizes}
 use Rattle.pdh_ops.specs.declared.mux.Made.{Made}
 use Rattle.pdh_ops.specs.declared.answer.Stop.{Stop}
-use Rattle.pdh_ops.specs.declared.answer.Stop.TheVariants.{Memory, Usage, Read, Write, Missing, Short, Overflow, Underflow, ManyFrames}
+use Rattle.pdh_ops.specs.declared.answer.Stop.TheVariants.{Short, ManyFrames}
 
 -- where the inputs of `mux` are told, this holds of them
 abbrev pub OfInputs : ShelfState → (Files → Type 0) → Type 0
 OfInputs state P = (files : Files) → AreTold Mux state.told files → P files
-
--- why a step before the outputs stops: memory is wanting, a call failed to read, or the inputs come to this stop
-abbrev pub Refuses : ShelfState → ShelfState → Stop → Type 0
-Refuses old new Memory = ⊤
-Refuses old new Usage = ⊥
-Refuses old new (Read file) = FailsToRead (name_of file) old new
-Refuses old new (Write file) = ⊥
-Refuses old new (Missing file) = Rose old.misses new.misses × Comes Mux old (Err (Missing file))
-Refuses old new (Overflow place) = ⊥
-Refuses old new (Underflow place) = ⊥
-Refuses old new stop = Comes Mux old (Err stop)
 
 -- the sizes of the inputs
 pub record AreSizes (sizes : InputSizes) (state : ShelfState) : Type 0 where

@@ -3,10 +3,10 @@ use Rattle.std.specs.Prelude.{◌≡◌, ◌⊎◌, ℕ, ◌<◌, ◌≤◌, Lis
 use Rattle.pdh_edge.specs.Files.{ShelfState, SinkState, Rose, FailsToRead, FailsToWrite, Holds, HoldsPrefix, Sends, FailsToSend}
 use Rattle.pdh_edge.specs.Files.Told.{Known}
 use Rattle.pdh_ops.specs.Names.{name_of}
-use Rattle.pdh_ops.specs.Mux.{Files}
+use Rattle.pdh_ops.specs.Schedules.{Files}
 use Rattle.pdh_ops.specs.Answer.{Answer, status_of, done_text, stop_text}
 use Rattle.pdh_ops.specs.Commands.{outputs, output_bytes, comes_to, AreTold, IsOutput}
-use Rattle.pdh_ops.specs.declared.command.Command.{Command}
+use Rattle.pdh_words.specs.declared.commands.Command.{Command}
 use Rattle.pdh_ops.specs.declared.answer.Stop.{Stop}
 use Rattle.pdh_ops.specs.declared.answer.Stop.TheVariants.{Memory, Usage, Read, Write, Missing, Overflow, Underflow}
 

@@ -1,7 +1,18 @@
 use crate::file::File;
-use pdh_clock::ScheduleFault;
-use pdh_shape::Place;
+use pdh_clock::{Outside, ScheduleFault};
+use pdh_shape::{Path, Place};
 use std::alloc::AllocError;
+
+/// A tributary that isn't within the tolerance.
+#[derive(Clone, Copy, Debug, PartialEq, Eq)]
+pub struct OutOfTolerance {
+    /// Its node.
+    pub node: Path,
+    /// Its number, from 1.
+    pub trib: u8,
+    /// The first run of frames that breaks the tolerance.
+    pub run: Outside,
+}
 
 /// What a command did, with the numbers of its text.
 #[derive(Clone, Copy, Debug, PartialEq, Eq)]
@@ -10,6 +21,12 @@ pub enum Done {
     Demuxed(u64),
     /// `mux e12`, with the frames of the line.
     Muxed(u64),
+    /// `clock check e12`, where every tributary is within the tolerance.
+    ClockInside,
+    /// `clock check e12`, with the first tributary that isn't.
+    ClockOutside(OutOfTolerance),
+    /// `clock make e12`, with the rows of the schedule.
+    ClockMade(u64),
 }
 
 /// Why a command ended early. Lines of a text are counted from 1.
@@ -85,7 +102,7 @@ impl From<AllocError> for Stop {
 
 impl From<ScheduleFault> for Stop {
     ghost use Rattle.std.specs.Prelude.{◌≡◌};
-    ghost use Rattle.pdh_ops.specs.Mux.{stop_of_fault};
+    ghost use Rattle.pdh_ops.specs.Schedules.{stop_of_fault};
 
     ghost from_gives = { λ fault e. e ≡ stop_of_fault fault };
 

@@ -8,7 +8,7 @@ ghost use Rattle.pdh_ops.specs.Names.{output_name};
 ghost use Rattle.pdh_ops.specs.Demux.{line_of, output_of};
 ghost use Rattle.pdh_ops.specs.Commands.{IsOutput};
 ghost use Rattle.pdh_ops.specs.Run.{AreCut, Performs};
-ghost use Rattle.pdh_ops.specs.declared.command.Command.TheVariants.{Demux};
+ghost use Rattle.pdh_words.specs.declared.commands.Command.TheVariants.{Demux};
 ghost use Rattle.pdh_ops.specs.Steps.{AreOutputs, IsFramesCause};
 ghost use Rattle.pdh_ops.specs.Writing.{IsWriteStop};
 

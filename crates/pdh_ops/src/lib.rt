@@ -2,7 +2,10 @@
 #![tactic(auto)]
 
 mod answer;
-mod command;
+mod chain;
+mod clock;
+#[cfg(test)]
+mod clock_tests;
 mod demux;
 mod file;
 mod files;
@@ -12,6 +15,7 @@ mod mux;
 mod mux_tests;
 mod program;
 mod report;
+mod schedule;
 #[cfg(test)]
 mod tests;
 

@@ -5,13 +5,11 @@ ghost use Rattle.pdh_ops.specs.Demux.{line_of};
 ghost use Rattle.pdh_ops.specs.Steps.{IsLineCause};
 
 use crate::answer::Stop;
+use crate::chain::MOST_FRAMES;
 use crate::file::File;
 use crate::files::{read, size};
 use pdh_edge::Shelf;
 use std::alloc::Global;
-
-/// The most frames of a line.
-pub const MOST_FRAMES: u64 = 16_384;
 
 // The bytes of the line, if it has a number of frames that can be demultiplexed yet.
 pub fn read_line<S: Shelf>(alloc: Global, shelf: &mut S) -> Result<Vec<u8>, Stop>

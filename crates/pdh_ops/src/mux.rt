@@ -6,20 +6,23 @@ ghost use Rattle.pdh_mux.specs.Events.{event_of as store_event};
 ghost use Rattle.pdh_clock.specs.Contents.{IsRowOf};
 ghost use Rattle.pdh_ops.specs.Names.{schedule_name};
 ghost use Rattle.pdh_ops.specs.Reading.{HasLength};
-ghost use Rattle.pdh_ops.specs.Mux.{e12_levels, counts_of, frames_in, bits_needed, stop_of_event};
+ghost use Rattle.pdh_ops.specs.Schedules.{e12_levels, counts_of, frames_in};
+ghost use Rattle.pdh_ops.specs.Mux.{bits_needed, stop_of_event};
 ghost use Rattle.pdh_ops.specs.Run.{Performs};
-ghost use Rattle.pdh_ops.specs.MuxSteps.{Refuses, AreSizes, AreHeld, HasRows, AreEnough, IsEnoughStop, AreLeaves, IsMade};
-ghost use Rattle.pdh_ops.specs.declared.command.Command.TheVariants.{Mux};
+ghost use Rattle.pdh_ops.specs.Refusing.{Refuses};
+ghost use Rattle.pdh_ops.specs.MuxSteps.{AreSizes, AreHeld, HasRows, AreEnough, IsEnoughStop, AreLeaves, IsMade};
+ghost use Rattle.pdh_words.specs.declared.commands.Command.TheVariants.{Mux};
 
 use crate::answer::{Done, Stop};
+use crate::chain::{MOST_FRAMES, TOP};
 use crate::file::File;
 use crate::files::{append, read, size, start};
-use crate::line::MOST_FRAMES;
+use crate::schedule::read_schedule;
 use pdh_bits::{bits_of, bytes_of};
-use pdh_clock::{MOST_BYTES, Schedule};
+use pdh_clock::Schedule;
 use pdh_edge::Shelf;
 use pdh_mux::{Event, Kind, make_line};
-use pdh_shape::{E2, Level, Path, Place, Service};
+use pdh_shape::{E2, Place, Service};
 use std::alloc::Global;
 
 // The sizes of the inputs, in bytes.
@@ -36,36 +39,12 @@ struct Made {
     end: Option<Stop>,
 }
 
-const TOP: Path = Path {
-    depth: 0,
-    first: 0,
-    second: 0,
-};
-
-// The multiplexer of the chain: four streams of 2048 kbit/s into one of 8448 kbit/s.
-fn level() -> Level
-    ensures { e12_levels ≡ result ∷ [] }
-{
-    Level {
-        len: 848,
-        tribs: 4,
-        low: 205,
-        locked: false,
-        rate: 8_448_000,
-        per: 1,
-        ppm: 30,
-        trib_rate: 2_048_000,
-        trib_per: 1,
-        trib_ppm: 50,
-    }
-}
-
 // The sizes of the inputs, in order.
 fn read_sizes<S: Shelf>(shelf: &mut S) -> Result<InputSizes, Stop>
     ensures looks { Looks (S.state shelf.old) (S.state shelf.new) }
     ensures ok { IfOk result (λ sizes. AreSizes sizes (S.state shelf.new)) }
     ensures held { OnOk result (AreHeld (S.state shelf.new)) }
-    ensures err { IfErr result (Refuses (S.state shelf.old) (S.state shelf.new)) }
+    ensures err { IfErr result (Refuses Mux (S.state shelf.old) (S.state shelf.new)) }
 {
     let schedule = size(shelf, File::Schedule)?;
     let mut leaves = [0u64; 4];
@@ -73,23 +52,6 @@ fn read_sizes<S: Shelf>(shelf: &mut S) -> Result<InputSizes, Stop>
         leaves[leaf as usize] = size(shelf, File::Leaf(leaf))?;
     }
     Ok(InputSizes { schedule, leaves })
-}
-
-// The schedule of the text, of so many bytes.
-fn read_schedule<S: Shelf>(alloc: Global, shelf: &mut S, bytes: u64) -> Result<Schedule, Stop>
-    requires size { HasLength schedule_name bytes (S.state shelf.old) }
-    requires held { AreHeld (S.state shelf.old) }
-    ensures looks { Looks (S.state shelf.old) (S.state shelf.new) }
-    ensures rows { IfOk result (λ clock. HasRows (S.state shelf.new) clock.rows) }
-    ensures levels { IfOk result (λ clock. clock.levels ≡ e12_levels) }
-    ensures sound { IfOk result (λ clock. All (IsRowOf e12_levels) clock.rows) }
-    ensures err { IfErr result (Refuses (S.state shelf.old) (S.state shelf.new)) }
-{
-    if bytes > MOST_BYTES as u64 {
-        return Err(Stop::LongSchedule);
-    }
-    let text = read(alloc, shelf, File::Schedule, bytes)?;
-    Ok(Schedule::read(alloc, &[level()], &text)?)
 }
 
 // How many bits of a leaf enter by the end of so many frames.
@@ -136,7 +98,7 @@ fn read_leaves<S: Shelf>(
     requires { AreSizes sizes.now (S.state shelf.old) }
     ensures looks { Looks (S.state shelf.old) (S.state shelf.new) }
     ensures ok { IfOk result (λ leaves. AreLeaves sizes.now (S.state shelf.new) leaves.items) }
-    ensures err { IfErr result (Refuses (S.state shelf.old) (S.state shelf.new)) }
+    ensures err { IfErr result (Refuses Mux (S.state shelf.old) (S.state shelf.new)) }
 {
     let mut leaves = Vec::new(alloc);
     for leaf in 0..4u8 {

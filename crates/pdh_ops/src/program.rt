@@ -1,16 +1,17 @@
 ghost use Rattle.std.specs.Prelude.{◌≡◌, map};
 ghost use Rattle.std.specs.String.{string_bytes};
-ghost use Rattle.pdh_ops.specs.Commands.{command_of};
+ghost use Rattle.pdh_words.specs.Commands.{command_of};
 ghost use Rattle.pdh_ops.specs.Run.{Performs, Does, Runs, Completes};
 ghost use Rattle.pdh_ops.specs.GivesBack.{GivesBack};
 ghost use Rattle.pdh_ops.specs.Tolerated.{HasNoEvent, IsDelayed};
 
 use crate::answer::{Done, Stop};
-use crate::command::Command;
+use crate::clock::{check, make};
 use crate::demux::demux;
 use crate::mux::mux;
 use crate::report::report;
 use pdh_edge::{Shelf, Sink};
+use pdh_words::{Command, command};
 use std::alloc::Global;
 
 /// What a run answers: the program's status, and the shelf and the sink that it was handed.
@@ -21,27 +22,14 @@ pub struct Ran<S, K> {
     pub out: K,
 }
 
-// The command of the words, if they are a row of the table.
-fn command(words: &[String]) -> Option<Command>
-    ensures { result ≡ command_of (map string_bytes words.now) }
-{
-    match words {
-        [first, second] if second.as_str() == "e12" && first.as_str() == "demux" => {
-            Some(Command::Demux)
-        }
-        [first, second] if second.as_str() == "e12" && first.as_str() == "mux" => {
-            Some(Command::Mux)
-        }
-        _ => None,
-    }
-}
-
 fn perform<S: Shelf>(alloc: Global, command: Command, shelf: &mut S) -> Result<Done, Stop>
     ensures { Performs command (S.state shelf.old) (S.state shelf.new) result }
 {
     match command {
         Command::Demux => demux(alloc, shelf),
         Command::Mux => mux(alloc, shelf),
+        Command::ClockCheck => check(alloc, shelf),
+        Command::ClockMake { frames, bias } => make(alloc, frames, bias, shelf),
     }
 }
 
@@ -61,8 +49,8 @@ fn answer<S: Shelf>(alloc: Global, words: &[String], shelf: &mut S) -> Result<Do
 /// table; 3, a call of the shelf failed to read; 4, a call of the shelf failed to write, or the
 /// sink failed to take the text of status 0; 5, an input isn't held; 6, the schedule's text has a
 /// fault; 7, a leaf's file has too few bits; 8, an elastic store overflows or underflows, and the line
-/// ends before that frame; 10, the line has too many frames; 13, the line is of a form that isn't
-/// demultiplexed yet.
+/// ends before that frame; 10, the line, or the schedule that is asked for, has too many frames; 13, the
+/// line is of a form that isn't demultiplexed yet.
 pub fn run<S: Shelf, K: Sink>(
     alloc: Global,
     words: &[String],

@@ -1,9 +1,9 @@
 ghost use Rattle.std.specs.Prelude.{◌≡◌, ◌≤◌, ◌++◌, length, decimal, codes};
 ghost use Rattle.pdh_ops.specs.Names.{name_of};
-ghost use Rattle.pdh_ops.specs.Answer.{text_of, done_text as done_of, stop_text as stop_of, place_text as place_of};
+ghost use Rattle.pdh_ops.specs.Answer.{text_of, done_text as done_of, stop_text as stop_of, place_text as place_of, outside_text as outside_of};
 ghost use Rattle.pdh_ops.specs.Run.{IsTold};
 
-use crate::answer::{Done, Stop};
+use crate::answer::{Done, OutOfTolerance, Stop};
 use crate::file::File;
 use pdh_edge::Sink;
 use pdh_shape::Place;
@@ -49,6 +49,26 @@ fn placed(part: &str, place: Place) -> Text
     text.number(place.frame);
     text.text(" slot ");
     text.number(u64::from(place.slot));
+    text.text("\n");
+    text
+}
+
+// The line of a tributary that isn't within the tolerance.
+#[tactic(auto, using(crate::proofs::Texts::digits, crate::proofs::Texts::path_len))]
+fn outside(out: OutOfTolerance) -> Text
+    ensures { result ≡ codes "clock e12: outside " ++ outside_of out ++ codes "\n" }
+{
+    let mut text = Text::new();
+    text.text("clock e12: outside ");
+    text.path(&out.node);
+    text.text(" tributary ");
+    text.number(u64::from(out.trib));
+    text.text(" frames ");
+    text.number(out.run.from);
+    text.text(" to ");
+    text.number(out.run.to);
+    text.text(" sum ");
+    text.number(out.run.sum);
     text.text("\n");
     text
 }
@@ -116,6 +136,9 @@ fn done_text(done: Done) -> Text
     match done {
         Done::Demuxed(frames) => counted("demux e12: frames ", frames),
         Done::Muxed(frames) => counted("mux e12: frames ", frames),
+        Done::ClockInside => plain("clock e12: inside"),
+        Done::ClockOutside(out) => outside(out),
+        Done::ClockMade(rows) => counted("clock e12: rows ", rows),
     }
 }
 

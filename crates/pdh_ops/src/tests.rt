@@ -195,7 +195,7 @@ fn answers(rt: HostRuntime) -> Result<(), Fail> {
 #[test]
 fn refuses_words(rt: HostRuntime) -> Result<(), Fail> {
     let alloc = rt.alloc();
-    let rows: [&[&str]; 8] = [
+    let rows: [&[&str]; 15] = [
         &[],
         &["demux"],
         &["demux", "e15"],
@@ -204,6 +204,13 @@ fn refuses_words(rt: HostRuntime) -> Result<(), Fail> {
         &["mux", "e12", "feac", "3"],
         &["demux", "e12", "bent"],
         &["--help"],
+        &["clock", "e12"],
+        &["clock", "check", "e15"],
+        &["clock", "make", "e12", "3"],
+        &["clock", "make", "e12", "3", "quick"],
+        &["clock", "make", "e12", "03", "fast"],
+        &["clock", "make", "e12", "1000000000", "fast"],
+        &["clock", "check", "e12", "3", "fast"],
     ];
     for words in rows {
         let given = Given { words, ..FINE };

@@ -1,35 +1,24 @@
 -- The laws of the E2 frame, computed over its slots.
-use Rattle.std.specs.Prelude.{◌≡◌, ◌<◌, ℕ, zero, suc, refl, count_by, true, false}
-use Rattle.std.proofs.Common.{arith, lit<, lit≤, inr}
-use Rattle.pdh_shape.specs.Frame.{IsFrame, slots}
-use Rattle.pdh_shape.specs.Tributary.{HasTributaries, controls, reads_from}
-use Rattle.pdh_shape.specs.Sets.{e2, set_role, four_wrong}
+use Rattle.std.specs.Prelude.{◌≡◌, true, refl}
+use Rattle.pdh_shape.specs.Sets.{e2, set_role, set_mark, four_wrong}
+use Rattle.pdh_shape.specs.Frame.{IsFrame, HasMarks}
+use Rattle.pdh_shape.specs.Tributary.{HasTributaries, ReadsEvenly}
+use Rattle.pdh_shape.specs.Walk.{walk}
+use Rattle.pdh_shape.specs.KeptLaws.{keeps_laws, keeps_laws_by}
+use Rattle.pdh_shape.specs.LawsOfTest.{laws-is_frame, laws-has_marks, laws-has_tributaries, laws-reads_evenly}
+
+pub e2_keeps_laws : keeps_laws e2 ≡ true
+unfolding keeps_laws_by walk set_role set_mark four_wrong
+e2_keeps_laws = refl
 
 pub e2_is_frame : IsFrame e2
-unfolding four_wrong
-e2_is_frame = record { some_slots = lit< tt; few_slots = lit≤ tt; no_loss = refl }
+e2_is_frame = laws-is_frame e2 e2_keeps_laws
+
+pub e2_has_marks : HasMarks e2
+e2_has_marks = laws-has_marks e2 e2_keeps_laws
 
 pub e2_has_tributaries : HasTributaries e2
-unfolding set_role
-e2_has_tributaries = record { odd = inr refl; copies = copies; low = low; high = high }
-  where
-    copies : (j : ℕ) → j < 4 → count_by (λ slot. controls j (e2.role slot)) (slots e2) ≡ 3
-    copies zero h = refl
-    copies (suc zero) h = refl
-    copies (suc (suc zero)) h = refl
-    copies (suc (suc (suc zero))) h = refl
-    copies (suc (suc (suc (suc j)))) h = absurd (omega arith)
+e2_has_tributaries = laws-has_tributaries e2 e2_keeps_laws
 
-    low : (j : ℕ) → j < 4 → count_by (λ slot. reads_from j false (e2.role slot)) (slots e2) ≡ 205
-    low zero h = refl
-    low (suc zero) h = refl
-    low (suc (suc zero)) h = refl
-    low (suc (suc (suc zero))) h = refl
-    low (suc (suc (suc (suc j)))) h = absurd (omega arith)
-
-    high : (j : ℕ) → j < 4 → count_by (λ slot. reads_from j true (e2.role slot)) (slots e2) ≡ 206
-    high zero h = refl
-    high (suc zero) h = refl
-    high (suc (suc zero)) h = refl
-    high (suc (suc (suc zero))) h = refl
-    high (suc (suc (suc (suc j)))) h = absurd (omega arith)
+pub e2_reads_evenly : ReadsEvenly e2
+e2_reads_evenly = laws-reads_evenly e2 e2_keeps_laws

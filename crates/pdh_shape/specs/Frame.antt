@@ -1,10 +1,10 @@
 -- A frame shape, as a value that definitions take, and the alignment signal in a frame.
-use Rattle.std.specs.Prelude.{◌≡◌, ◌<◌, ◌≤◌, ℕ, ◌^◌, Bool, true, false, not, ◌&&◌, List, [], ◌∷◌, sum_by}
+use Rattle.std.specs.Prelude.{◌≡◌, ◌<◌, ◌≤◌, ℕ, ◌^◌, Bool, true, false, not, ◌&&◌, List, [], ◌∷◌, sum_by, count_by}
 use Rattle.std.specs.List.{range_with_len, list_all, list_any, slice_index_or}
 use Rattle.pdh_shape.specs.declared.role.Role.{Role}
 use Rattle.pdh_shape.specs.declared.role.Role.TheVariants.{Align}
 use Rattle.pdh_shape.specs.declared.role.Mark.{Mark}
-use Rattle.pdh_shape.specs.declared.role.Mark.TheVariants.{Framing, Multi}
+use Rattle.pdh_shape.specs.declared.role.Mark.TheVariants.{Framing, Multi, Other}
 use Rattle.pdh_shape.specs.declared.role.Marks.{Marks}
 use Rattle.pdh_shape.specs.declared.role.Service.{Service}
 use Rattle.pdh_shape.specs.declared.role.Duty.{Duty}
@@ -74,8 +74,39 @@ clean = record { framing = 0; multi = false }
 abbrev pub idle : Service
 idle = record { alarm = false; feac = true; febe = true; link = true ∷ true ∷ true ∷ [] }
 
--- what holds of each shape's numbers and of its loss rule
+-- what holds of a shape's numbers and of its loss rule
 pub record IsFrame (s : FrameShape) : Type 0 where
+  -- a frame has a slot (G.742, Table 1)
   pub some_slots : 0 < s.len
+  -- and not more than this project's own limit
   pub few_slots : s.len ≤ 16384
+  -- a frame that is right doesn't complete a loss after three that are right (G.742, 4)
   pub no_loss : s.loses clean clean clean clean ≡ false
+
+-- a slot of this role is an alignment slot
+abbrev pub is_align : Role → Bool
+is_align (Align signal) = true
+is_align _ = false
+
+-- a slot of this mark is an alignment slot
+abbrev pub is_marked : Mark → Bool
+is_marked Other = false
+is_marked _ = true
+
+-- a slot of this mark is a framing slot
+abbrev pub is_framing : Mark → Bool
+is_framing (Framing number) = true
+is_framing _ = false
+
+-- how many framing slots stand before slot t
+abbrev pub framing_before : FrameShape → ℕ → ℕ
+framing_before s t = count_by (λ slot. is_framing (s.mark slot)) (range_with_len 0 t)
+
+-- what holds of the marks of a shape's slots
+pub record HasMarks (s : FrameShape) : Type 0 where
+  -- a slot is marked exactly where it carries a bit of the alignment signal (G.742, 4)
+  pub marked : (t : ℕ) → t < s.len → is_marked (s.mark t) ≡ is_align (s.role t)
+  -- the framing slots are numbered from 0 in slot order
+  pub numbered : (t number : ℕ) → t < s.len → s.mark t ≡ Framing number → number ≡ framing_before s t
+  -- and each number is below 64, so that the wrong ones fit a word
+  pub few : (t number : ℕ) → t < s.len → s.mark t ≡ Framing number → number < 64

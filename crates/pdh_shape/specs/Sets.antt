@@ -58,3 +58,37 @@ e2 = record {
   service = λ number say odd. set_service number say;
   loses = four_wrong;
 }
+
+-- the third-order multiplex of G.751, 34368 kbit/s: four sets of 384 slots, and the same signal
+abbrev pub e3 : FrameShape
+e3 = record {
+  len = 1536;
+  tribs = 4;
+  copies = 3;
+  low = 377;
+  role = set_role e2_signal 12 384 4;
+  mark = set_mark 10;
+  inverted = λ j. false;
+  duty = set_duty;
+  service = λ number say odd. set_service number say;
+  loses = four_wrong;
+}
+
+-- the alignment signal 111110100000
+abbrev pub e4_signal : List Bool
+e4_signal = true ∷ true ∷ true ∷ true ∷ true ∷ false ∷ true ∷ false ∷ false ∷ false ∷ false ∷ false ∷ []
+
+-- the fourth-order multiplex of G.751, 139264 kbit/s: six sets of 488 slots
+abbrev pub e4 : FrameShape
+e4 = record {
+  len = 2928;
+  tribs = 4;
+  copies = 5;
+  low = 722;
+  role = set_role e4_signal 16 488 6;
+  mark = set_mark 12;
+  inverted = λ j. false;
+  duty = set_duty;
+  service = λ number say odd. set_service number say;
+  loses = four_wrong;
+}

@@ -1,10 +1,12 @@
 -- Worked examples, computed by the checker.
-use Rattle.std.specs.Prelude.{◌≡◌, ℕ, zero, suc, Bool, true, false, List, [], ◌∷◌, ◌++◌, map, replicate, refl}
+use Rattle.std.specs.Prelude.{◌≡◌, ℕ, zero, suc, ◌-◌, ◌/◌, Bool, true, false, nat_lt, nat_le, ◌==◌, ◌&&◌, if◌then◌else◌, List, [], ◌∷◌, ◌++◌, map, replicate, refl}
 use Rattle.pdh_shape.specs.declared.role.Role.{Role}
 use Rattle.pdh_shape.specs.declared.role.Role.TheVariants.{Align, Service, Control, Just, Info}
 use Rattle.pdh_shape.specs.Frame.{slots, is_right, wrong, clean}
 use Rattle.pdh_shape.specs.Tributary.{stripped}
-use Rattle.pdh_shape.specs.Sets.{e2, e2_signal, set_role, set_mark}
+use Rattle.pdh_shape.specs.Sets.{e2, e2_signal, set_role, set_mark, four_wrong}
+use Rattle.pdh_shape.specs.Walk.{walk}
+use Rattle.pdh_shape.specs.KeptLaws.{keeps_laws, keeps_laws_by}
 
 -- the four tributaries in turn, so many times
 abbrev pub turns : ℕ → List Role
@@ -51,3 +53,34 @@ bad_frame = replicate 5 false ++ true ∷ replicate 4 false ++ false ∷ true �
 pub bad_wrong : wrong e2 bad_frame ≡ record { framing = 15; multi = false }
 unfolding bad_frame wrong set_role set_mark
 bad_wrong = refl
+
+-- ---- shapes that break a law
+
+-- the slot that stands in slot t where two slots change places
+abbrev pub swapped : ℕ → ℕ → ℕ → ℕ
+swapped a b t = (if t == a then b else (if t == b then a else t))
+
+-- a lower number than that of the information slots
+pub low_refused : keeps_laws (record e2 { low = 204 }) ≡ false
+unfolding keeps_laws_by walk set_role set_mark four_wrong
+low_refused = refl
+
+-- a tributary that only the slots name
+pub tributary_refused : keeps_laws (record e2 { tribs = 3 }) ≡ false
+unfolding keeps_laws_by walk set_role set_mark four_wrong
+tributary_refused = refl
+
+-- the framing slots in another order
+pub marks_refused : keeps_laws (record e2 { mark = λ t. set_mark 10 (swapped 0 1 t) }) ≡ false
+unfolding keeps_laws_by walk set_role set_mark four_wrong
+marks_refused = refl
+
+-- the justifiable slot of tributary 0 in the first set, before its control slots
+pub early_refused : keeps_laws (record e2 { role = λ t. e2.role (swapped 20 640 t) }) ≡ false
+unfolding keeps_laws_by walk set_role set_mark four_wrong
+early_refused = refl
+
+-- the first set's bits one tributary after another
+pub uneven_refused : keeps_laws (record e2 { role = λ t. (if nat_le 12 t && nat_lt t 212 then Info ((t - 12) / 50) else e2.role t) }) ≡ false
+unfolding keeps_laws_by walk set_role set_mark four_wrong
+uneven_refused = refl

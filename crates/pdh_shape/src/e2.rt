@@ -8,7 +8,7 @@ pub struct E2;
 impl Shape for E2 {
     ghost use Rattle.std.specs.Prelude.{refl};
     ghost use Rattle.pdh_shape.specs.Sets.{e2};
-    ghost use Rattle.pdh_shape.specs.E2Laws.{e2_is_frame, e2_has_tributaries};
+    ghost use Rattle.pdh_shape.specs.E2Laws.{e2_is_frame, e2_has_marks, e2_has_tributaries, e2_reads_evenly};
 
     ghost shape = { e2 };
 
@@ -65,5 +65,9 @@ impl Shape for E2 {
 
     ghost is_frame = { e2_is_frame };
 
+    ghost has_marks = { e2_has_marks };
+
     ghost has_tributaries = { e2_has_tributaries };
+
+    ghost reads_evenly = { e2_reads_evenly };
 }

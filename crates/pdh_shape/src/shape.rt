@@ -1,6 +1,6 @@
 ghost use Rattle.std.specs.Prelude.{◌≡◌, ◌<◌, ◌≤◌, ◌⊎◌, ◌%◌, ℕ};
-ghost use Rattle.pdh_shape.specs.Frame.{FrameShape, IsFrame};
-ghost use Rattle.pdh_shape.specs.Tributary.{is_majority, HasTributaries};
+ghost use Rattle.pdh_shape.specs.Frame.{FrameShape, IsFrame, HasMarks};
+ghost use Rattle.pdh_shape.specs.Tributary.{is_majority, HasTributaries, ReadsEvenly};
 
 use crate::{Duty, Mark, Marks, Role, Service};
 
@@ -73,8 +73,15 @@ pub trait Shape {
     /// The frame has some slots and not too many, and frames that are right complete no loss.
     ghost is_frame: { IsFrame shape };
 
-    /// Each tributary has its information slots, its justifiable slot and its control copies.
+    /// The alignment slots are those that are marked, and the framing slots are numbered.
+    ghost has_marks: { HasMarks shape };
+
+    /// Each tributary has its information slots, its justifiable slot and before that its control
+    /// slots, and no slot names another tributary.
     ghost has_tributaries: { HasTributaries shape };
+
+    /// The slots of a tributary are spread evenly over the frame.
+    ghost reads_evenly: { ReadsEvenly shape };
 }
 
 /// Whether a frame carries the lower number of a tributary's bits, where so many of its control

@@ -1,4 +1,5 @@
 use super::*;
+use pdh_shape::E2;
 use std::test::Fail;
 
 #[test]
@@ -16,5 +17,13 @@ fn bits_leave_in_the_order_of_their_arrival(rt: HostRuntime) -> Result<(), Fail>
         assert_eq!(rt; store.leave(), Ok(place % 3 == 0), "at {place}");
     }
     assert_eq!(rt; store.leave(), Err(Underflow));
+    Ok(())
+}
+
+#[test]
+fn laws_hold_of_the_second_order_frame(_rt: HostRuntime) -> Result<(), Fail> {
+    laws::fill_at_frame_start::<E2>();
+    laws::fill_before_slot::<E2>();
+    laws::fill_after_arrivals::<E2>();
     Ok(())
 }

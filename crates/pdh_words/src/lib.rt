@@ -1,6 +1,10 @@
-//! The texts that the program prints.
+//! The words of the command line, and the texts that the program prints.
 #![tactic(auto)]
 
+mod commands;
 mod text;
+mod words;
 
+pub use commands::Command;
 pub use text::Text;
+pub use words::command;

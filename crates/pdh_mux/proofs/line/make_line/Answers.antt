@@ -15,7 +15,7 @@ make_frames-requires g c κs within =
     let lists = lists_are g.S.Shape.shape counts c.args.inputs.now c.args.say.now c.args.frames g.S.Shape.TRIBS g.met.S.Shape.tribs_is c.requires.inputs c.requires.entered in
     let some : 0 < c.args.frames = omega (arith, c.if-frames-eq0.false) in
     let room = subst (λ k. vec_len line + c.args.frames * k ≤ line.cap) c.LEN.ensures c.in_ok-reserve.ensures.ok in
-    (search rules, (search rules, (c.requires.stores, (c.requires.roles, (refl, (c.requires.known, (c.requires.fits, (c.in_ok-tributaries.ensures _ (lists_lead g.S.Shape.shape _ c.args.frames (lists_of c.args.inputs.now) g.met.S.Shape.is_frame lists some), (lists, (λ n. refl, room))))))))))
+    (search rules, (search rules, (c.requires.stores, (refl, (c.requires.known, (c.requires.fits, (c.in_ok-tributaries.ensures _ (lists_lead g.S.Shape.shape _ c.args.frames (lists_of c.args.inputs.now) g.met.S.Shape.is_frame lists some), (lists, (λ n. refl, room)))))))))
 
 pub returns-in_err-make_frames-clause-known : goal.returns-in_err-make_frames-clause-known
 returns-in_err-make_frames-clause-known g c =

@@ -1,5 +1,6 @@
 use Rattle.std.proofs.Common.{suc, arith}
-use Rattle.pdh_mux.proofs.TributarySteps.{has_stores, some_held}
+use Rattle.pdh_line.proofs.SendingLaws.{has_stores}
+use Rattle.pdh_mux.proofs.TributarySteps.{some_held}
 use Rattle.pdh_mux.proofs.Tributaries.{read_stands, read_none, read_stops}
 use Rattle.pdh_mux.proofs.line.read.Goals as goal
 

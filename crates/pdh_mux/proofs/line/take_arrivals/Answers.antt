@@ -2,7 +2,8 @@ use Rattle.std.proofs.Common.{◌<◌, ℕ, suc, subst, sym, ◌∙◌, arith}
 use Rattle.pdh_shape.specs.Frame.{FrameShape}
 use Rattle.pdh_line.proofs.EventLaws.{first_overflow}
 use Rattle.pdh_mux.specs.Making.{IsWithin}
-use Rattle.pdh_mux.proofs.TributarySteps.{has_stores, arrived_well, arrived_ill}
+use Rattle.pdh_line.proofs.SendingLaws.{has_stores}
+use Rattle.pdh_mux.proofs.TributarySteps.{arrived_well, arrived_ill}
 use Rattle.pdh_mux.proofs.Inputs.{input_is}
 use Rattle.pdh_mux.proofs.Tributaries.{arriving_none, arriving_more}
 use Rattle.pdh_mux.proofs.line.take_arrivals.Goals as goal

@@ -4,7 +4,6 @@ use Rattle.std.proofs.lemmas.Bool.{leb-true}
 use Rattle.pdh_line.proofs.Ranges.{and_true}
 use Rattle.pdh_line.proofs.SendingLaws.{entered-most}
 use Rattle.pdh_line.specs.Sending.{bits_at}
-use Rattle.pdh_mux.proofs.Shapes.{e2_names_tributaries}
 use Rattle.pdh_mux.proofs.tests.add_line.Goals as goal
 
 -- no count is above 848
@@ -20,9 +19,6 @@ four a b c d n (suc zero) ha hb hc hd h = omega arith
 four a b c d n (suc (suc zero)) ha hb hc hd h = omega arith
 four a b c d n (suc (suc (suc zero))) ha hb hc hd h = omega arith
 four a b c d n (suc (suc (suc (suc j)))) ha hb hc hd h = absurd (omega arith)
-
-pub make_line-requires-clause-roles : goal.make_line-requires-clause-roles
-make_line-requires-clause-roles c = e2_names_tributaries
 
 pub make_line-requires-clause-entered : goal.make_line-requires-clause-entered
 make_line-requires-clause-entered c j h =

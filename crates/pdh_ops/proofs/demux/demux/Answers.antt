@@ -4,7 +4,7 @@ use Rattle.std.proofs.lemmas.Result.{err_from_is_err_and}
 use Rattle.std.specs.declared.alloc.Global.{Global}
 use Rattle.pdh_ops.specs.Demux.{demuxed}
 use Rattle.pdh_ops.specs.Run.{Performs}
-use Rattle.pdh_ops.specs.declared.command.Command.TheVariants.{Demux}
+use Rattle.pdh_words.specs.declared.commands.Command.TheVariants.{Demux}
 use Rattle.pdh_ops.specs.declared.answer.Done.TheVariants.{Demuxed}
 use Rattle.pdh_ops.proofs.Causes.{line_stops}
 use Rattle.pdh_ops.proofs.DemuxFiles.{frames_refused, start_refused, append_refused, done}

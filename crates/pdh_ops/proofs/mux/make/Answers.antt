@@ -6,13 +6,11 @@ use Rattle.pdh_bits.specs.Bits.{bytes_of}
 use Rattle.pdh_mux.specs.Events.{event_of as store_event}
 use Rattle.pdh_mux.specs.Making.{lists_of}
 use Rattle.pdh_clock.proofs.Laws.{counts_most}
-use Rattle.pdh_ops.specs.Mux.{e12_levels, counts_of, bits_needed}
-use Rattle.pdh_ops.proofs.MuxMade.{e2_names_tributaries, bits_at-is, made_whole, made_until, event_in}
+use Rattle.pdh_ops.specs.Schedules.{e12_levels, counts_of}
+use Rattle.pdh_ops.specs.Mux.{bits_needed}
+use Rattle.pdh_ops.proofs.MuxMade.{bits_at-is, made_whole, made_until, event_in}
 use Rattle.pdh_ops.proofs.mux.make.Goals as goal
 use Rattle.pdh_ops.proofs.mux.make.Goals.{in-Ok, in-Err-Store}
-
-pub make_line-requires-clause-roles : goal.make_line-requires-clause-roles
-make_line-requires-clause-roles c = e2_names_tributaries
 
 pub make_line-requires-clause-fits : goal.make_line-requires-clause-fits
 make_line-requires-clause-fits c j n low h = counts_most e12_levels c.args.clock.now.rows [] j n c.requires.sound

@@ -9,8 +9,10 @@ use Rattle.pdh_edge.specs.Files.{Told, Holds}
 use Rattle.pdh_ops.specs.Names.{leaf_name}
 use Rattle.pdh_ops.specs.Mux.{leaf_bits}
 use Rattle.pdh_ops.specs.MuxSteps.{OfInputs}
+use Rattle.pdh_words.specs.declared.commands.Command.TheVariants.{Mux}
 use Rattle.pdh_ops.proofs.Touching.{has_length_still, looks_then, looks_none}
-use Rattle.pdh_ops.proofs.MuxComes.{refuses_since, read_refuses, bits_are, of_inputs_since}
+use Rattle.pdh_ops.proofs.Refusing.{refuses_since, read_refuses}
+use Rattle.pdh_ops.proofs.MuxComes.{bits_are, of_inputs_since}
 use Rattle.pdh_ops.proofs.Lists.{each_pushed}
 use Rattle.pdh_ops.proofs.mux.read_leaves.Goals as goal
 
@@ -33,7 +35,7 @@ returns-in_err-bytes-clause-looks g c = looks_then _ _ _ c.loop-leaf.invariant.l
 pub returns-in_err-bytes-clause-err : goal.returns-in_err-bytes-clause-err
 returns-in_err-bytes-clause-err g c =
     let p = err_from_is_err_and c.from_residual.result c.from_residual.ensures.1 in
-    rw (p.1, p.2) (refuses_since _ (g.S.Shelf.state c.loop-leaf.shelf) _ _ c.loop-leaf.invariant.looks (read_refuses _ _ _ _ c.in_err-bytes.ensures.err))
+    rw (p.1, p.2) (refuses_since Mux _ (g.S.Shelf.state c.loop-leaf.shelf) _ _ c.loop-leaf.invariant.looks (read_refuses Mux _ _ _ _ c.in_err-bytes.ensures.err))
 
 pub returns-in_err-bits-clause-looks : goal.returns-in_err-bits-clause-looks
 returns-in_err-bits-clause-looks g c = looks_then _ _ _ c.loop-leaf.invariant.looks c.read.ensures.looks

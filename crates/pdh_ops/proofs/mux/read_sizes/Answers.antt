@@ -4,8 +4,10 @@ use Rattle.std.proofs.lemmas.Result.{err_from_is_err_and}
 use Rattle.std.proofs.lemmas.List.{get_or-set_same, get_or-set_other, length-set}
 use Rattle.pdh_ops.specs.Names.{schedule_name, leaf_name}
 use Rattle.pdh_ops.specs.Reading.{HasLength}
+use Rattle.pdh_words.specs.declared.commands.Command.TheVariants.{Mux}
 use Rattle.pdh_ops.proofs.Touching.{has_length_still, looks_then, looks_none}
-use Rattle.pdh_ops.proofs.MuxComes.{refuses_since, leaf_size_refuses, all_are_held}
+use Rattle.pdh_ops.proofs.Refusing.{refuses_since}
+use Rattle.pdh_ops.proofs.MuxComes.{leaf_size_refuses, all_are_held}
 use Rattle.pdh_ops.proofs.mux.read_sizes.Goals as goal
 
 pub loop-leaf-init : goal.loop-leaf-init
@@ -19,7 +21,7 @@ returns-in_err-leaves-clause-err g c =
     let p = err_from_is_err_and c.from_residual-in_err-leaves.result c.from_residual-in_err-leaves.ensures.1 in
     let inv = c.loop-leaf.invariant in
     let here : c.loop-leaf.leaf < 4 = omega arith in
-    rw (p.1, p.2) (refuses_since _ (g.S.Shelf.state c.loop-leaf.shelf) _ _ (looks_then _ _ _ c.size.ensures.looks inv.looks)
+    rw (p.1, p.2) (refuses_since Mux _ (g.S.Shelf.state c.loop-leaf.shelf) _ _ (looks_then _ _ _ c.size.ensures.looks inv.looks)
     (leaf_size_refuses _ _ c.in_ok-schedule.schedule c.loop-leaf.leaf (slice_index c.loop-leaf.leaves) _ here inv.schedule inv.leaf c.in_err-leaves.ensures.err))
 
 pub loop-leaf-preserved : goal.loop-leaf-preserved

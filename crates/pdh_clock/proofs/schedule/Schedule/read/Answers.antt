@@ -1,18 +1,12 @@
-use Rattle.std.proofs.Common.{◌≡◌, List, [], ◌∷◌, length, get_or, All, refl, sym, subst, arith}
+use Rattle.std.proofs.Common.{All, sym, subst, arith}
 use Rattle.std.proofs.lemmas.List.Elements.{All-get_or}
-use Rattle.pdh_shape.specs.declared.place.Level.{Level}
 use Rattle.pdh_clock.specs.Text.{lines_of}
 use Rattle.pdh_clock.specs.Chain.{IsLevel}
 use Rattle.pdh_clock.specs.Stored.{rows_of}
 use Rattle.pdh_clock.specs.Contents.{IsRowOf}
 use Rattle.pdh_clock.proofs.Laws.{rows_judged_sound}
+use Rattle.pdh_clock.proofs.OneLevel.{one_level}
 use Rattle.pdh_clock.proofs.schedule.Schedule.read.Goals as goal
-
--- a list of one level
-one_level : (levels : List Level) (d : Level) → length levels ≡ 1 → levels ≡ get_or levels 0 d ∷ []
-one_level [] d h = absurd (omega arith)
-one_level (level ∷ []) d h = refl
-one_level (level ∷ next ∷ levels) d h = absurd (omega arith)
 
 pub invariant_of-result : goal.invariant_of-result
 invariant_of-result c = record {

@@ -1,0 +1,24 @@
+use Rattle.std.proofs.Common.{◌≡◌, ◌+◌, ◌≤◌, suc, ap, ◌∙◌, subst, sym, arith}
+use Rattle.pdh_clock.specs.Made.{made_arrived}
+use Rattle.pdh_clock.proofs.MadeLaws.{made_arrived-most, made_arrived-grows}
+use Rattle.pdh_clock.proofs.made.counts.Goals as goal
+
+pub overflow_sub-counts : goal.overflow_sub-counts
+overflow_sub-counts c =
+    let level = c.args.level.now in
+    let next : c.args.frame + 1 ≡ suc c.args.frame = omega arith in
+    let after : c.arrived-after.result ≡ made_arrived level c.args.bias c.loop-trib.trib (suc c.args.frame) = c.arrived-after.ensures ∙ ap (made_arrived level c.args.bias c.loop-trib.trib) next in
+    omega (arith, after, c.arrived-before.ensures, made_arrived-grows level c.args.bias c.loop-trib.trib c.args.frame c.requires.rated)
+
+pub overflow_cast-counts : goal.overflow_cast-counts
+overflow_cast-counts c =
+    let level = c.args.level.now in
+    let next : c.args.frame + 1 ≡ suc c.args.frame = omega arith in
+    let after : c.arrived-after.result ≡ made_arrived level c.args.bias c.loop-trib.trib (suc c.args.frame) = c.arrived-after.ensures ∙ ap (made_arrived level c.args.bias c.loop-trib.trib) next in
+    record { fits = omega (arith, after, c.arrived-before.ensures, c.requires.level.longest, made_arrived-most level c.args.bias c.loop-trib.trib c.args.frame c.requires.rated) }
+
+pub returns-clause-most : goal.returns-clause-most
+returns-clause-most c trib known =
+    let level = c.args.level.now in
+    let most = made_arrived-most level c.args.bias trib c.args.frame c.requires.rated in
+    subst (λ n. n ≤ level.len) (sym (c.loop-trib.invariant.made trib (omega arith))) (omega (arith, most))

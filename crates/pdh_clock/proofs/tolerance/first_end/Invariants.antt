@@ -1,0 +1,12 @@
+use Rattle.std.proofs.Common.{[]}
+use Rattle.std.specs.Prelude.{slice_index}
+use Rattle.pdh_clock.specs.Contents.{counts}
+use Rattle.pdh_clock.specs.Bounds.{gains, losses}
+use Rattle.pdh_clock.specs.Stored.{rows_of}
+use Rattle.pdh_clock.proofs.Rising.{IsRising}
+use Rattle.pdh_clock.proofs.tolerance.first_end.Given as goal
+
+abbrev pub invariant-loop-row : goal.invariant-loop-row
+invariant-loop-row l =
+    let counts = counts (rows_of l.table) [] l.trib in
+    IsRising (gains l.bound l.low counts) (losses l.bound l.low counts) (slice_index l.table.firsts.items l.row) l.rise
