@@ -2,6 +2,8 @@ pub mod Buffer
 pub mod Counts
 pub mod Files
 pub mod MemFiles
+pub mod MemLists
 pub mod MemOutput
 pub mod Plan
+pub mod Ports
 pub mod Untold

@@ -1,18 +1,24 @@
-//! The edge: files and output as traits, with counts of their faults.
+//! The edge: files, output and lists of bits as traits, with counts of their faults.
 #![tactic(auto)]
 
 mod buffer;
+mod mem_port;
 mod mem_shelf;
 mod mem_sink;
 mod plan;
+mod port;
+#[cfg(test)]
+mod port_tests;
 mod real;
 mod shelf;
 mod sink;
 #[cfg(test)]
 mod tests;
 
+pub use mem_port::MemPort;
 pub use mem_shelf::{Call, MemShelf};
 pub use mem_sink::MemSink;
+pub use port::{Drain, Feed, FeedStop, Port};
 pub use real::{Folder, Out};
 pub use shelf::{Failed, Shelf};
 pub use sink::Sink;

@@ -5,6 +5,7 @@ pub mod RightLines
 pub mod FrameLoops
 pub mod SendingLaws
 pub mod SentFrames
+pub mod SameLines
 pub mod EventLaws
 pub mod FillBounds
 pub mod WithinTolerance

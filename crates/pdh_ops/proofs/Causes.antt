@@ -13,44 +13,45 @@ use Rattle.pdh_words.specs.declared.commands.Command.{Command}
 use Rattle.pdh_ops.specs.declared.answer.Stop.{Stop}
 use Rattle.pdh_ops.specs.declared.answer.Stop.TheVariants.{Memory, Usage, Read, Write, Missing, LongSchedule, BadRow, UnknownNode, CountOver, Short, Overflow, Underflow, ManyFrames, NotYet}
 use Rattle.pdh_ops.proofs.Touching.{looks_same}
+use Rattle.pdh_chain.specs.declared.chain.Chain.{Chain}
 
 pub looks_others : (P : List ℕ → Type 0) (a b : ShelfState) → Looks a b → ChangesOnly P a b
 looks_others P a b looks = record { told = λ name out. looks_same a b name looks; read_faults = omega arith; write_faults = omega arith; misses = omega arith }
 
 -- a command that begins with the line is refused as the line is
-refused : (next : List ℕ → Answer) (a : ShelfState) (stop : Stop) → WhereTold (a.told line_name) (λ held. line_of held ≡ Err stop) →
-    (files : Files) → a.told line_name ≡ Known (files line_name) → ◌≡◌ {A = Answer} (Err stop) (and_then (line_of (files line_name)) next)
-refused next a stop refuses files told = sym (ap (λ (r : Result (List ℕ) Stop). and_then r next) (refuses (files line_name) told))
+refused : (chain : Chain) (next : List ℕ → Answer) (a : ShelfState) (stop : Stop) → WhereTold (a.told line_name) (λ held. line_of chain held ≡ Err stop) →
+    (files : Files) → a.told line_name ≡ Known (files line_name) → ◌≡◌ {A = Answer} (Err stop) (and_then (line_of chain (files line_name)) next)
+refused chain next a stop refuses files told = sym (ap (λ (r : Result (List ℕ) Stop). and_then r next) (refuses (files line_name) told))
 
 -- a command that begins with the line stops as the line does
-pub line_stops : (command : Command) (next : List ℕ → Answer) (a b : ShelfState) (stop : Stop) → ((files : Files) → comes_to command files ≡ and_then (line_of (files line_name)) next) →
-    ((files : Files) → AreTold command a.told files → a.told line_name ≡ Known (files line_name)) → Looks a b → IsLineCause a b stop → Performs command a b (Err stop)
-line_stops command next a b Memory comes tells looks cause = record { cause = tt; outputs = looks.told; others = looks_others (IsOutput command) a b looks }
-line_stops command next a b (Read file) comes tells looks cause = record { cause = cause; outputs = inl looks.told; others = looks_others (IsOutput command) a b looks }
-line_stops command next a b (Missing file) comes tells looks cause = record {
-  cause = (cause.0, λ files told. refused next a (Missing file) cause.1 files (tells files told) ∙ sym (comes files));
+pub line_stops : (chain : Chain) (command : Command) (next : List ℕ → Answer) (a b : ShelfState) (stop : Stop) → ((files : Files) → comes_to command files ≡ and_then (line_of chain (files line_name)) next) →
+    ((files : Files) → AreTold command a.told files → a.told line_name ≡ Known (files line_name)) → Looks a b → IsLineCause chain a b stop → Performs command a b (Err stop)
+line_stops chain command next a b Memory comes tells looks cause = record { cause = tt; outputs = looks.told; others = looks_others (IsOutput command) a b looks }
+line_stops chain command next a b (Read file) comes tells looks cause = record { cause = cause; outputs = inl looks.told; others = looks_others (IsOutput command) a b looks }
+line_stops chain command next a b (Missing file) comes tells looks cause = record {
+  cause = (cause.0, λ files told. refused chain next a (Missing file) cause.1 files (tells files told) ∙ sym (comes files));
   outputs = looks.told;
   others = looks_others (IsOutput command) a b looks;
 }
-line_stops command next a b NotYet comes tells looks cause = record {
-  cause = λ files told. refused next a NotYet cause files (tells files told) ∙ sym (comes files);
+line_stops chain command next a b NotYet comes tells looks cause = record {
+  cause = λ files told. refused chain next a NotYet cause files (tells files told) ∙ sym (comes files);
   outputs = looks.told;
   others = looks_others (IsOutput command) a b looks;
 }
-line_stops command next a b (ManyFrames n) comes tells looks cause = record {
-  cause = λ files told. refused next a (ManyFrames n) cause files (tells files told) ∙ sym (comes files);
+line_stops chain command next a b (ManyFrames n) comes tells looks cause = record {
+  cause = λ files told. refused chain next a (ManyFrames n) cause files (tells files told) ∙ sym (comes files);
   outputs = looks.told;
   others = looks_others (IsOutput command) a b looks;
 }
-line_stops command next a b Usage comes tells looks cause = absurd cause
-line_stops command next a b LongSchedule comes tells looks cause = absurd cause
-line_stops command next a b (BadRow l) comes tells looks cause = absurd cause
-line_stops command next a b (UnknownNode l) comes tells looks cause = absurd cause
-line_stops command next a b (CountOver l n m) comes tells looks cause = absurd cause
-line_stops command next a b (Short f h n) comes tells looks cause = absurd cause
-line_stops command next a b (Overflow p) comes tells looks cause = absurd cause
-line_stops command next a b (Underflow p) comes tells looks cause = absurd cause
-line_stops command next a b (Write file) comes tells looks cause = absurd cause
+line_stops chain command next a b Usage comes tells looks cause = absurd cause
+line_stops chain command next a b LongSchedule comes tells looks cause = absurd cause
+line_stops chain command next a b (BadRow l) comes tells looks cause = absurd cause
+line_stops chain command next a b (UnknownNode l) comes tells looks cause = absurd cause
+line_stops chain command next a b (CountOver l n m) comes tells looks cause = absurd cause
+line_stops chain command next a b (Short f h n) comes tells looks cause = absurd cause
+line_stops chain command next a b (Overflow p) comes tells looks cause = absurd cause
+line_stops chain command next a b (Underflow p) comes tells looks cause = absurd cause
+line_stops chain command next a b (Write file) comes tells looks cause = absurd cause
 
 -- where no fault rose, a command answers exactly what its inputs come to, or want of memory
 exact : (command : Command) (a b : ShelfState) (answer : Answer) (files : Files) → HasCause command a b answer → AreTold command a.told files →

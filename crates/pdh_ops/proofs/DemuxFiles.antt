@@ -7,7 +7,6 @@ use Rattle.std.specs.Prelude.{unwrap_or}
 use Rattle.pdh_edge.specs.Files.{ShelfState, Told, Looks, TouchesOnly, Touches, FailsToStart, FailsToAppend, Holds, HoldsPrefix, Grows, GrowsInPart}
 use Rattle.pdh_edge.specs.Files.Told.{Untold, Known}
 use Rattle.pdh_bits.specs.Bits.{bits_of}
-use Rattle.pdh_shape.specs.Sets.{e2}
 use Rattle.pdh_line.specs.Tracking.{every_right}
 use Rattle.pdh_ops.specs.Names.{line_name, output_name, name_of}
 use Rattle.pdh_ops.specs.Demux.{frames_of, line_of, demuxed, output_of}
@@ -24,6 +23,8 @@ use Rattle.pdh_ops.proofs.OutputNames.{output_name-differs}
 use Rattle.pdh_ops.proofs.Touching.{fails_since}
 use Rattle.pdh_ops.proofs.LineComes.{comes_of, demuxed-wrong, demuxed-right}
 use Rattle.pdh_ops.proofs.Causes.{looks_others}
+use Rattle.pdh_chain.specs.declared.chain.Chain.{Chain}
+use Rattle.pdh_chain.specs.Chains.{shape_of}
 
 -- ---- one file
 
@@ -56,10 +57,10 @@ grows_part_holds (Known (Some was)) new bytes grows holds =
 pub other_same : (b c : ShelfState) (k leaf : ℕ) → k < 4 → leaf < 4 → k ≢ leaf → Touches (output_name leaf) b c → c.told (output_name k) ≡ b.told (output_name k)
 other_same b c k leaf low here ne kept = kept.told (output_name k) (output_name-differs k leaf (omega arith) (omega arith) ne)
 
-pub start_fails : (a b c : ShelfState) (leaf : ℕ) → leaf < 4 →
+pub start_fails : (chain : Chain) (a b c : ShelfState) (leaf : ℕ) → leaf < 4 →
     ((k : ℕ) → k < leaf → Holds (b.told (output_name k)) []) → ((k : ℕ) → leaf ≤ k → k < 4 → b.told (output_name k) ≡ a.told (output_name k)) →
-    Touches (output_name leaf) b c → FailsToStart (output_name leaf) b c → AreCut Demux a c
-start_fails a b c leaf here empty later kept fails = record {
+    Touches (output_name leaf) b c → FailsToStart (output_name leaf) b c → AreCut (Demux chain) a c
+start_fails chain a b c leaf here empty later kept fails = record {
   started = leaf;
   begun = λ files i told lt low.
       let ne : i ≢ leaf = omega arith in
@@ -85,54 +86,54 @@ append_fails b c leaf bytes here whole empty kept fails k low = elim (cases_eq k
 -- ---- the whole command
 
 -- the line as it is told
-line_told : (a : ShelfState) (line : List ℕ) (files : Files) → Holds (a.told line_name) line → AreTold Demux a.told files → files line_name ≡ Some line
-line_told a line files holds told = holds (files line_name) (told 0 (lit< tt))
+line_told : (chain : Chain) (a : ShelfState) (line : List ℕ) (files : Files) → Holds (a.told line_name) line → AreTold (Demux chain) a.told files → files line_name ≡ Some line
+line_told chain a line files holds told = holds (files line_name) (told 0 (lit< tt))
 
-all_others : (a b c d : ShelfState) → Looks a b → TouchesOnly (IsOutput Demux) b c → TouchesOnly (IsOutput Demux) c d → ChangesOnly (IsOutput Demux) a d
-all_others a b c d looks starts appends = record {
+all_others : (chain : Chain) (a b c d : ShelfState) → Looks a b → TouchesOnly (IsOutput (Demux chain)) b c → TouchesOnly (IsOutput (Demux chain)) c d → ChangesOnly (IsOutput (Demux chain)) a d
+all_others chain a b c d looks starts appends = record {
   told = λ name out. appends.told name out ∙ starts.told name out ∙ ap (λ (t : List ℕ → Told). t name) looks.told;
   read_faults = omega arith;
   write_faults = omega arith;
   misses = omega arith;
 }
 
-bytes_of_line : (line : List ℕ) (files : Files) (leaf : ℕ) → files line_name ≡ Some line → output_of line leaf ≡ output_bytes Demux files leaf
-bytes_of_line line files leaf e = sym (ap (λ (h : Option (List ℕ)). output_of (unwrap_or h []) leaf) e)
+bytes_of_line : (chain : Chain) (line : List ℕ) (files : Files) (leaf : ℕ) → files line_name ≡ Some line → output_of chain line leaf ≡ output_bytes (Demux chain) files leaf
+bytes_of_line chain line files leaf e = sym (ap (λ (h : Option (List ℕ)). output_of chain (unwrap_or h []) leaf) e)
 
-comes_right : (a : ShelfState) (line : List ℕ) (files : Files) → Holds (a.told line_name) line → line_of (Some line) ≡ Ok line → every_right e2 (bits_of line) ≡ true →
-    AreTold Demux a.told files → comes_to Demux files ≡ Ok (Demuxed (frames_of line))
-comes_right a line files holds served right told = comes_of (files line_name) line demuxed (line_told a line files holds told) served ∙ demuxed-right line right
+comes_right : (chain : Chain) (a : ShelfState) (line : List ℕ) (files : Files) → Holds (a.told line_name) line → line_of chain (Some line) ≡ Ok line → every_right (shape_of chain) (bits_of line) ≡ true →
+    AreTold (Demux chain) a.told files → comes_to (Demux chain) files ≡ Ok (Demuxed chain (frames_of chain line))
+comes_right chain a line files holds served right told = comes_of chain (files line_name) line (demuxed chain) (line_told chain a line files holds told) served ∙ demuxed-right chain line right
 
-goes_on : (a : ShelfState) (line : List ℕ) → Holds (a.told line_name) line → line_of (Some line) ≡ Ok line → every_right e2 (bits_of line) ≡ true → GoesOn Demux a
-goes_on a line holds served right files told = ap reaches_outputs (comes_right a line files holds served right told)
+goes_on : (chain : Chain) (a : ShelfState) (line : List ℕ) → Holds (a.told line_name) line → line_of chain (Some line) ≡ Ok line → every_right (shape_of chain) (bits_of line) ≡ true → GoesOn (Demux chain) a
+goes_on chain a line holds served right files told = ap reaches_outputs (comes_right chain a line files holds served right told)
 
-pub frames_refused : (a b : ShelfState) (line bytes : List ℕ) (stop : Stop) → Looks a b → Holds (a.told line_name) line → line_of (Some line) ≡ Ok line → bytes ≡ line → IsFramesCause bytes stop → Performs Demux a b (Err stop)
-frames_refused a b line bytes Memory looks holds served same cause = record { cause = tt; outputs = looks.told; others = looks_others (IsOutput Demux) a b looks }
-frames_refused a b line bytes NotYet looks holds served same cause = record {
-  cause = λ files told. sym (comes_of (files line_name) line demuxed (line_told a line files holds told) served ∙ demuxed-wrong line (subst (λ l. every_right e2 (bits_of l) ≡ false) same cause));
+pub frames_refused : (chain : Chain) (a b : ShelfState) (line bytes : List ℕ) (stop : Stop) → Looks a b → Holds (a.told line_name) line → line_of chain (Some line) ≡ Ok line → bytes ≡ line → IsFramesCause chain bytes stop → Performs (Demux chain) a b (Err stop)
+frames_refused chain a b line bytes Memory looks holds served same cause = record { cause = tt; outputs = looks.told; others = looks_others (IsOutput (Demux chain)) a b looks }
+frames_refused chain a b line bytes NotYet looks holds served same cause = record {
+  cause = λ files told. sym (comes_of chain (files line_name) line (demuxed chain) (line_told chain a line files holds told) served ∙ demuxed-wrong chain line (subst (λ l. every_right (shape_of chain) (bits_of l) ≡ false) same cause));
   outputs = looks.told;
-  others = looks_others (IsOutput Demux) a b looks;
+  others = looks_others (IsOutput (Demux chain)) a b looks;
 }
-frames_refused a b line bytes Usage looks holds served same cause = absurd cause
-frames_refused a b line bytes (Read file) looks holds served same cause = absurd cause
-frames_refused a b line bytes (Write file) looks holds served same cause = absurd cause
-frames_refused a b line bytes (Missing file) looks holds served same cause = absurd cause
-frames_refused a b line bytes LongSchedule looks holds served same cause = absurd cause
-frames_refused a b line bytes (BadRow l) looks holds served same cause = absurd cause
-frames_refused a b line bytes (UnknownNode l) looks holds served same cause = absurd cause
-frames_refused a b line bytes (CountOver l n m) looks holds served same cause = absurd cause
-frames_refused a b line bytes (Short f h n) looks holds served same cause = absurd cause
-frames_refused a b line bytes (Overflow p) looks holds served same cause = absurd cause
-frames_refused a b line bytes (Underflow p) looks holds served same cause = absurd cause
-frames_refused a b line bytes (ManyFrames n) looks holds served same cause = absurd cause
+frames_refused chain a b line bytes Usage looks holds served same cause = absurd cause
+frames_refused chain a b line bytes (Read file) looks holds served same cause = absurd cause
+frames_refused chain a b line bytes (Write file) looks holds served same cause = absurd cause
+frames_refused chain a b line bytes (Missing file) looks holds served same cause = absurd cause
+frames_refused chain a b line bytes LongSchedule looks holds served same cause = absurd cause
+frames_refused chain a b line bytes (BadRow l) looks holds served same cause = absurd cause
+frames_refused chain a b line bytes (UnknownNode l) looks holds served same cause = absurd cause
+frames_refused chain a b line bytes (CountOver l n m) looks holds served same cause = absurd cause
+frames_refused chain a b line bytes (Short f h n) looks holds served same cause = absurd cause
+frames_refused chain a b line bytes (Overflow p) looks holds served same cause = absurd cause
+frames_refused chain a b line bytes (Underflow p) looks holds served same cause = absurd cause
+frames_refused chain a b line bytes (ManyFrames n) looks holds served same cause = absurd cause
 
-pub start_refused : (a b c : ShelfState) (line bytes : List ℕ) (stop : Stop) → Looks a b → TouchesOnly (IsOutput Demux) b c → Holds (a.told line_name) line → line_of (Some line) ≡ Ok line →
-    bytes ≡ line → every_right e2 (bits_of bytes) ≡ true → IsWriteStop b c stop → AreCut Demux b c → Performs Demux a c (Err stop)
-start_refused a b c line bytes (Write file) looks starts holds served same right cause cut =
+pub start_refused : (chain : Chain) (a b c : ShelfState) (line bytes : List ℕ) (stop : Stop) → Looks a b → TouchesOnly (IsOutput (Demux chain)) b c → Holds (a.told line_name) line → line_of chain (Some line) ≡ Ok line →
+    bytes ≡ line → every_right (shape_of chain) (bits_of bytes) ≡ true → IsWriteStop b c stop → AreCut (Demux chain) b c → Performs (Demux chain) a c (Err stop)
+start_refused chain a b c line bytes (Write file) looks starts holds served same right cause cut =
     let told : b.told ≡ a.told = looks.told in
     record {
-      cause = (fails_since (name_of file) a b c (omega arith) cause, goes_on a line holds served (subst (λ l. every_right e2 (bits_of l) ≡ true) same right));
-      outputs = subst (λ (t : List ℕ → Told). AreCut Demux (record a { told = t }) c) told (record {
+      cause = (fails_since (name_of file) a b c (omega arith) cause, goes_on chain a line holds served (subst (λ l. every_right (shape_of chain) (bits_of l) ≡ true) same right));
+      outputs = subst (λ (t : List ℕ → Told). AreCut (Demux chain) (record a { told = t }) c) told (record {
         started = cut.started;
         begun = cut.begun;
         next = cut.next;
@@ -145,52 +146,52 @@ start_refused a b c line bytes (Write file) looks starts holds served same right
         misses = omega arith;
       };
     }
-start_refused a b c line bytes Memory looks starts holds served same right cause cut = absurd cause
-start_refused a b c line bytes Usage looks starts holds served same right cause cut = absurd cause
-start_refused a b c line bytes (Read file) looks starts holds served same right cause cut = absurd cause
-start_refused a b c line bytes (Missing file) looks starts holds served same right cause cut = absurd cause
-start_refused a b c line bytes LongSchedule looks starts holds served same right cause cut = absurd cause
-start_refused a b c line bytes (BadRow l) looks starts holds served same right cause cut = absurd cause
-start_refused a b c line bytes (UnknownNode l) looks starts holds served same right cause cut = absurd cause
-start_refused a b c line bytes (CountOver l n m) looks starts holds served same right cause cut = absurd cause
-start_refused a b c line bytes (Short f h n) looks starts holds served same right cause cut = absurd cause
-start_refused a b c line bytes (Overflow p) looks starts holds served same right cause cut = absurd cause
-start_refused a b c line bytes (Underflow p) looks starts holds served same right cause cut = absurd cause
-start_refused a b c line bytes (ManyFrames n) looks starts holds served same right cause cut = absurd cause
-start_refused a b c line bytes NotYet looks starts holds served same right cause cut = absurd cause
+start_refused chain a b c line bytes Memory looks starts holds served same right cause cut = absurd cause
+start_refused chain a b c line bytes Usage looks starts holds served same right cause cut = absurd cause
+start_refused chain a b c line bytes (Read file) looks starts holds served same right cause cut = absurd cause
+start_refused chain a b c line bytes (Missing file) looks starts holds served same right cause cut = absurd cause
+start_refused chain a b c line bytes LongSchedule looks starts holds served same right cause cut = absurd cause
+start_refused chain a b c line bytes (BadRow l) looks starts holds served same right cause cut = absurd cause
+start_refused chain a b c line bytes (UnknownNode l) looks starts holds served same right cause cut = absurd cause
+start_refused chain a b c line bytes (CountOver l n m) looks starts holds served same right cause cut = absurd cause
+start_refused chain a b c line bytes (Short f h n) looks starts holds served same right cause cut = absurd cause
+start_refused chain a b c line bytes (Overflow p) looks starts holds served same right cause cut = absurd cause
+start_refused chain a b c line bytes (Underflow p) looks starts holds served same right cause cut = absurd cause
+start_refused chain a b c line bytes (ManyFrames n) looks starts holds served same right cause cut = absurd cause
+start_refused chain a b c line bytes NotYet looks starts holds served same right cause cut = absurd cause
 
-pub append_refused : (a b c d : ShelfState) (line bytes : List ℕ) (outs : List (Vec ℕ Global)) (e : Vec ℕ Global) (stop : Stop) → Looks a b → TouchesOnly (IsOutput Demux) b c → TouchesOnly (IsOutput Demux) c d →
-    Holds (a.told line_name) line → line_of (Some line) ≡ Ok line → bytes ≡ line → every_right e2 (bits_of bytes) ≡ true → AreOutputs bytes outs → IsWriteStop c d stop →
-    ((leaf : ℕ) → leaf < 4 → HoldsPrefix (d.told (output_name leaf)) (slice_index_or outs leaf e).items) → Performs Demux a d (Err stop)
-append_refused a b c d line bytes outs e (Write file) looks starts appends holds served same right are cause prefixes = record {
-  cause = (fails_since (name_of file) a c d (omega arith) cause, goes_on a line holds served (subst (λ l. every_right e2 (bits_of l) ≡ true) same right));
+pub append_refused : (chain : Chain) (a b c d : ShelfState) (line bytes : List ℕ) (outs : List (Vec ℕ Global)) (e : Vec ℕ Global) (stop : Stop) → Looks a b → TouchesOnly (IsOutput (Demux chain)) b c → TouchesOnly (IsOutput (Demux chain)) c d →
+    Holds (a.told line_name) line → line_of chain (Some line) ≡ Ok line → bytes ≡ line → every_right (shape_of chain) (bits_of bytes) ≡ true → AreOutputs chain bytes outs → IsWriteStop c d stop →
+    ((leaf : ℕ) → leaf < 4 → HoldsPrefix (d.told (output_name leaf)) (slice_index_or outs leaf e).items) → Performs (Demux chain) a d (Err stop)
+append_refused chain a b c d line bytes outs e (Write file) looks starts appends holds served same right are cause prefixes = record {
+  cause = (fails_since (name_of file) a c d (omega arith) cause, goes_on chain a line holds served (subst (λ l. every_right (shape_of chain) (bits_of l) ≡ true) same right));
   outputs = record {
     started = 4;
-    begun = λ files i told lt low. subst (HoldsPrefix (d.told (output_name i))) (are.each i e low ∙ ap (λ (l : List ℕ). output_of l i) same ∙ bytes_of_line line files i (line_told a line files holds told)) (prefixes i low);
+    begun = λ files i told lt low. subst (HoldsPrefix (d.told (output_name i))) (are.each i e low ∙ ap (λ (l : List ℕ). output_of chain l i) same ∙ bytes_of_line chain line files i (line_told chain a line files holds told)) (prefixes i low);
     next = λ low. absurd (omega arith);
     later = λ i lt low. absurd (omega arith);
   };
-  others = all_others a b c d looks starts appends;
+  others = all_others chain a b c d looks starts appends;
 }
-append_refused a b c d line bytes outs e Memory looks starts appends holds served same right are cause prefixes = absurd cause
-append_refused a b c d line bytes outs e Usage looks starts appends holds served same right are cause prefixes = absurd cause
-append_refused a b c d line bytes outs e (Read file) looks starts appends holds served same right are cause prefixes = absurd cause
-append_refused a b c d line bytes outs e (Missing file) looks starts appends holds served same right are cause prefixes = absurd cause
-append_refused a b c d line bytes outs e LongSchedule looks starts appends holds served same right are cause prefixes = absurd cause
-append_refused a b c d line bytes outs e (BadRow l) looks starts appends holds served same right are cause prefixes = absurd cause
-append_refused a b c d line bytes outs e (UnknownNode l) looks starts appends holds served same right are cause prefixes = absurd cause
-append_refused a b c d line bytes outs e (CountOver l n m) looks starts appends holds served same right are cause prefixes = absurd cause
-append_refused a b c d line bytes outs e (Short f h n) looks starts appends holds served same right are cause prefixes = absurd cause
-append_refused a b c d line bytes outs e (Overflow p) looks starts appends holds served same right are cause prefixes = absurd cause
-append_refused a b c d line bytes outs e (Underflow p) looks starts appends holds served same right are cause prefixes = absurd cause
-append_refused a b c d line bytes outs e (ManyFrames n) looks starts appends holds served same right are cause prefixes = absurd cause
-append_refused a b c d line bytes outs e NotYet looks starts appends holds served same right are cause prefixes = absurd cause
+append_refused chain a b c d line bytes outs e Memory looks starts appends holds served same right are cause prefixes = absurd cause
+append_refused chain a b c d line bytes outs e Usage looks starts appends holds served same right are cause prefixes = absurd cause
+append_refused chain a b c d line bytes outs e (Read file) looks starts appends holds served same right are cause prefixes = absurd cause
+append_refused chain a b c d line bytes outs e (Missing file) looks starts appends holds served same right are cause prefixes = absurd cause
+append_refused chain a b c d line bytes outs e LongSchedule looks starts appends holds served same right are cause prefixes = absurd cause
+append_refused chain a b c d line bytes outs e (BadRow l) looks starts appends holds served same right are cause prefixes = absurd cause
+append_refused chain a b c d line bytes outs e (UnknownNode l) looks starts appends holds served same right are cause prefixes = absurd cause
+append_refused chain a b c d line bytes outs e (CountOver l n m) looks starts appends holds served same right are cause prefixes = absurd cause
+append_refused chain a b c d line bytes outs e (Short f h n) looks starts appends holds served same right are cause prefixes = absurd cause
+append_refused chain a b c d line bytes outs e (Overflow p) looks starts appends holds served same right are cause prefixes = absurd cause
+append_refused chain a b c d line bytes outs e (Underflow p) looks starts appends holds served same right are cause prefixes = absurd cause
+append_refused chain a b c d line bytes outs e (ManyFrames n) looks starts appends holds served same right are cause prefixes = absurd cause
+append_refused chain a b c d line bytes outs e NotYet looks starts appends holds served same right are cause prefixes = absurd cause
 
-pub done : (a b c d : ShelfState) (line bytes : List ℕ) (outs : List (Vec ℕ Global)) (e : Vec ℕ Global) → Looks a b → TouchesOnly (IsOutput Demux) b c → TouchesOnly (IsOutput Demux) c d →
-    Holds (a.told line_name) line → line_of (Some line) ≡ Ok line → bytes ≡ line → every_right e2 (bits_of bytes) ≡ true → AreOutputs bytes outs →
-    ((leaf : ℕ) → leaf < 4 → Holds (d.told (output_name leaf)) (slice_index_or outs leaf e).items) → Performs Demux a d (Ok (Demuxed (frames_of line)))
-done a b c d line bytes outs e looks starts appends holds served same right are wholes = record {
-  cause = λ files told. sym (comes_right a line files holds served (subst (λ l. every_right e2 (bits_of l) ≡ true) same right) told);
-  outputs = λ files i told low. subst (Holds (d.told (output_name i))) (are.each i e low ∙ ap (λ (l : List ℕ). output_of l i) same ∙ bytes_of_line line files i (line_told a line files holds told)) (wholes i low);
-  others = all_others a b c d looks starts appends;
+pub done : (chain : Chain) (a b c d : ShelfState) (line bytes : List ℕ) (outs : List (Vec ℕ Global)) (e : Vec ℕ Global) → Looks a b → TouchesOnly (IsOutput (Demux chain)) b c → TouchesOnly (IsOutput (Demux chain)) c d →
+    Holds (a.told line_name) line → line_of chain (Some line) ≡ Ok line → bytes ≡ line → every_right (shape_of chain) (bits_of bytes) ≡ true → AreOutputs chain bytes outs →
+    ((leaf : ℕ) → leaf < 4 → Holds (d.told (output_name leaf)) (slice_index_or outs leaf e).items) → Performs (Demux chain) a d (Ok (Demuxed chain (frames_of chain line)))
+done chain a b c d line bytes outs e looks starts appends holds served same right are wholes = record {
+  cause = λ files told. sym (comes_right chain a line files holds served (subst (λ l. every_right (shape_of chain) (bits_of l) ≡ true) same right) told);
+  outputs = λ files i told low. subst (Holds (d.told (output_name i))) (are.each i e low ∙ ap (λ (l : List ℕ). output_of chain l i) same ∙ bytes_of_line chain line files i (line_told chain a line files holds told)) (wholes i low);
+  others = all_others chain a b c d looks starts appends;
 }

@@ -24,18 +24,19 @@ use Rattle.pdh_ops.specs.declared.mux.InputSizes.{InputSizes}
 use Rattle.pdh_ops.specs.declared.answer.Stop.{Stop}
 use Rattle.pdh_ops.specs.declared.answer.Stop.TheVariants.{Memory, Usage, Read, Write, Missing, LongSchedule, BadRow, UnknownNode, CountOver, Short, Overflow, Underflow, ManyFrames, NotYet}
 use Rattle.pdh_ops.proofs.Touching.{has_length_still}
+use Rattle.pdh_chain.specs.declared.chain.Chain.{Chain}
 
 -- ---- the inputs as they are told
 
-schedule_told : (state : ShelfState) (files : Files) → AreTold Mux state.told files → state.told schedule_name ≡ Known (files schedule_name)
-schedule_told state files told = told 0 (lit< tt)
+schedule_told : (chain : Chain) (state : ShelfState) (files : Files) → AreTold (Mux chain) state.told files → state.told schedule_name ≡ Known (files schedule_name)
+schedule_told chain state files told = told 0 (lit< tt)
 
-leaf_told : (state : ShelfState) (files : Files) (k : ℕ) → k < 4 → AreTold Mux state.told files → state.told (leaf_name k) ≡ Known (files (leaf_name k))
-leaf_told state files k low told = told (suc k) (omega arith)
+leaf_told : (chain : Chain) (state : ShelfState) (files : Files) (k : ℕ) → k < 4 → AreTold (Mux chain) state.told files → state.told (leaf_name k) ≡ Known (files (leaf_name k))
+leaf_told chain state files k low told = told (suc k) (omega arith)
 
 -- what holds of inputs as they were told holds of them as they are told now
-pub of_inputs_since : (P : Files → Type 0) (a b : ShelfState) → Looks a b → OfInputs a P → OfInputs b P
-of_inputs_since P a b looks holds files told = holds files (subst (λ (t : List ℕ → Told). AreTold Mux t files) looks.told told)
+pub of_inputs_since : (chain : Chain) (P : Files → Type 0) (a b : ShelfState) → Looks a b → OfInputs chain a P → OfInputs chain b P
+of_inputs_since chain P a b looks holds files told = holds files (subst (λ (t : List ℕ → Told). AreTold (Mux chain) t files) looks.told told)
 
 -- ---- inputs that aren't held
 
@@ -51,8 +52,8 @@ length_is state name bytes files known told = go (files name) (known.told (files
     go None e = absurd (cc)
     go (Some line) e = cc
 
-held_files : (state : ShelfState) (files : Files) (n k : ℕ) → AreTold Mux state.told files → k < 4 → HasLength (leaf_name k) n state → is_none (files (leaf_name k)) ≡ false
-held_files state files n k told low known = is_held state (leaf_name k) n (files (leaf_name k)) known (leaf_told state files k low told)
+held_files : (chain : Chain) (state : ShelfState) (files : Files) (n k : ℕ) → AreTold (Mux chain) state.told files → k < 4 → HasLength (leaf_name k) n state → is_none (files (leaf_name k)) ≡ false
+held_files chain state files n k told low known = is_held state (leaf_name k) n (files (leaf_name k)) known (leaf_told chain state files k low told)
 
 no_schedule : (files : Files) → files schedule_name ≡ None → all_held mux_inputs files ≡ Err (Missing Schedule)
 no_schedule files none = let e : is_none (files schedule_name) ≡ true = ap is_none none in rw e refl
@@ -68,34 +69,34 @@ no_leaf files (suc (suc (suc (suc k)))) low first before here = absurd (omega ar
 every_leaf : (files : Files) → is_none (files schedule_name) ≡ false → ((i : ℕ) → i < 4 → is_none (files (leaf_name i)) ≡ false) → all_held mux_inputs files ≡ Ok tt
 every_leaf files first each = rw (first, each 0 (lit< tt), each 1 (lit< tt), each 2 (lit< tt), each 3 (lit< tt)) refl
 
-comes_held : (files : Files) (stop : Stop) → all_held mux_inputs files ≡ Err stop → ◌≡◌ {A = Answer} (Err stop) (comes_to Mux files)
-comes_held files stop e = sym (ap (λ r. and_then r (λ _. and_then (rows_of (bytes_in files schedule_name)) (muxed files))) e)
+comes_held : (chain : Chain) (files : Files) (stop : Stop) → all_held mux_inputs files ≡ Err stop → ◌≡◌ {A = Answer} (Err stop) (comes_to (Mux chain) files)
+comes_held chain files stop e = sym (ap (λ r. and_then r (λ _. and_then (rows_of chain (bytes_in files schedule_name)) (muxed chain files))) e)
 
-pub schedule_size_refuses : (a b : ShelfState) (stop : Stop) → IsSizeStop Schedule a b stop → Refuses Mux a b stop
-schedule_size_refuses a b stop cause = elim (size_stop Schedule a b stop cause) [
-  | inl missing ↦ subst (Refuses Mux a b) (sym missing.0) (
+pub schedule_size_refuses : (chain : Chain) (a b : ShelfState) (stop : Stop) → IsSizeStop Schedule a b stop → Refuses (Mux chain) a b stop
+schedule_size_refuses chain a b stop cause = elim (size_stop Schedule a b stop cause) [
+  | inl missing ↦ subst (Refuses (Mux chain) a b) (sym missing.0) (
     missing.1,
     λ files told.
-        comes_held files (Missing Schedule) (no_schedule files (missing.2 (files schedule_name) (schedule_told a files told))),
+        comes_held chain files (Missing Schedule) (no_schedule files (missing.2 (files schedule_name) (schedule_told chain a files told))),
   )
-  | inr fails ↦ subst (Refuses Mux a b) (sym fails.0) fails.1
+  | inr fails ↦ subst (Refuses (Mux chain) a b) (sym fails.0) fails.1
 ]
 
-pub leaf_size_refuses : (a b : ShelfState) (schedule k : ℕ) (leaf : ℕ → ℕ) (stop : Stop) → k < 4 → HasLength schedule_name schedule a → ((i : ℕ) → i < k → HasLength (leaf_name i) (leaf i) a) →
-    IsSizeStop (Leaf k) a b stop → Refuses Mux a b stop
-leaf_size_refuses a b schedule k leaf stop low first before cause = elim (size_stop (Leaf k) a b stop cause) [
-  | inl missing ↦ subst (Refuses Mux a b) (sym missing.0) (
+pub leaf_size_refuses : (chain : Chain) (a b : ShelfState) (schedule k : ℕ) (leaf : ℕ → ℕ) (stop : Stop) → k < 4 → HasLength schedule_name schedule a → ((i : ℕ) → i < k → HasLength (leaf_name i) (leaf i) a) →
+    IsSizeStop (Leaf k) a b stop → Refuses (Mux chain) a b stop
+leaf_size_refuses chain a b schedule k leaf stop low first before cause = elim (size_stop (Leaf k) a b stop cause) [
+  | inl missing ↦ subst (Refuses (Mux chain) a b) (sym missing.0) (
     missing.1,
     λ files told.
-        comes_held files (Missing (Leaf k)) (no_leaf files k low (is_held a schedule_name schedule (files schedule_name) first (schedule_told a files told))
-        (λ i h. held_files a files (leaf i) i told (omega arith) (before i h)) (ap is_none (missing.2 (files (leaf_name k)) (leaf_told a files k low told)))),
+        comes_held chain files (Missing (Leaf k)) (no_leaf files k low (is_held a schedule_name schedule (files schedule_name) first (schedule_told chain a files told))
+        (λ i h. held_files chain a files (leaf i) i told (omega arith) (before i h)) (ap is_none (missing.2 (files (leaf_name k)) (leaf_told chain a files k low told)))),
   )
-  | inr fails ↦ subst (Refuses Mux a b) (sym fails.0) fails.1
+  | inr fails ↦ subst (Refuses (Mux chain) a b) (sym fails.0) fails.1
 ]
 
-pub all_are_held : (sizes : InputSizes) (a : ShelfState) → AreSizes sizes a → AreHeld a
-all_are_held sizes a are files told = every_leaf files (is_held a schedule_name sizes.schedule (files schedule_name) are.schedule (schedule_told a files told))
-    (λ i h. held_files a files (slice_index sizes.leaves i) i told h (are.leaf i h))
+pub all_are_held : (chain : Chain) (sizes : InputSizes) (a : ShelfState) → AreSizes sizes a → AreHeld chain a
+all_are_held chain sizes a are files told = every_leaf files (is_held a schedule_name sizes.schedule (files schedule_name) are.schedule (schedule_told chain a files told))
+    (λ i h. held_files chain a files (slice_index sizes.leaves i) i told h (are.leaf i h))
 
 -- ---- the schedule
 
@@ -105,28 +106,28 @@ text_held None bytes e = absurd (cc)
 text_held (Some text) bytes e = (text, refl)
 
 -- what `mux` comes to, by its schedule
-pub mux_begins : (a : ShelfState) (bytes : ℕ) → AreHeld a → HasLength schedule_name bytes a → Begins Mux muxed a
-mux_begins a bytes held known files told =
-    let t = text_held (files schedule_name) bytes (known.told (files schedule_name) (schedule_told a files told)) in (
+pub mux_begins : (chain : Chain) (a : ShelfState) (bytes : ℕ) → AreHeld chain a → HasLength schedule_name bytes a → Begins chain (Mux chain) (muxed chain) a
+mux_begins chain a bytes held known files told =
+    let t = text_held (files schedule_name) bytes (known.told (files schedule_name) (schedule_told chain a files told)) in (
       t.0,
-      schedule_told a files told ∙ ap Known t.1,
-      ap (λ r. and_then r (λ _. and_then (rows_of (bytes_in files schedule_name)) (muxed files))) (held files told)
-          ∙ ap (λ (h : Option (List ℕ)). and_then (rows_of (unwrap_or h [])) (muxed files)) t.1,
+      schedule_told chain a files told ∙ ap Known t.1,
+      ap (λ r. and_then r (λ _. and_then (rows_of chain (bytes_in files schedule_name)) (muxed chain files))) (held files told)
+          ∙ ap (λ (h : Option (List ℕ)). and_then (rows_of chain (unwrap_or h [])) (muxed chain files)) t.1,
     )
 
-pub has_rows : (a : ShelfState) (bytes : ℕ) (rows : List Row) → HasLength schedule_name bytes a → RowsAre a (Ok rows) → HasRows a rows
-has_rows a bytes rows known are files told =
-    let t = text_held (files schedule_name) bytes (known.told (files schedule_name) (schedule_told a files told)) in
-    ap (λ (h : Option (List ℕ)). rows_of (unwrap_or h [])) t.1 ∙ are t.0 (schedule_told a files told ∙ ap Known t.1)
+pub has_rows : (chain : Chain) (a : ShelfState) (bytes : ℕ) (rows : List Row) → HasLength schedule_name bytes a → RowsAre chain a (Ok rows) → HasRows chain a rows
+has_rows chain a bytes rows known are files told =
+    let t = text_held (files schedule_name) bytes (known.told (files schedule_name) (schedule_told chain a files told)) in
+    ap (λ (h : Option (List ℕ)). rows_of chain (unwrap_or h [])) t.1 ∙ are t.0 (schedule_told chain a files told ∙ ap Known t.1)
 
 -- ---- too many frames, or a leaf that is too short
 
-pub comes_muxed : (a : ShelfState) (rows : List Row) (files : Files) → AreHeld a → HasRows a rows → AreTold Mux a.told files → comes_to Mux files ≡ muxed files rows
-comes_muxed a rows files held are told =
-    ap (λ r. and_then r (λ _. and_then (rows_of (bytes_in files schedule_name)) (muxed files))) (held files told) ∙ ap (λ r. and_then r (muxed files)) (are files told)
+pub comes_muxed : (chain : Chain) (a : ShelfState) (rows : List Row) (files : Files) → AreHeld chain a → HasRows chain a rows → AreTold (Mux chain) a.told files → comes_to (Mux chain) files ≡ muxed chain files rows
+comes_muxed chain a rows files held are told =
+    ap (λ r. and_then r (λ _. and_then (rows_of chain (bytes_in files schedule_name)) (muxed chain files))) (held files told) ∙ ap (λ r. and_then r (muxed chain files)) (are files told)
 
-held_is : (sizes : InputSizes) (a : ShelfState) (files : Files) (k : ℕ) → k < 4 → AreSizes sizes a → AreTold Mux a.told files → bits_held files k ≡ 8 * slice_index sizes.leaves k
-held_is sizes a files k low are told = ap (λ n. 8 * n) (length_is a (leaf_name k) (slice_index sizes.leaves k) files (are.leaf k low) (leaf_told a files k low told))
+held_is : (chain : Chain) (sizes : InputSizes) (a : ShelfState) (files : Files) (k : ℕ) → k < 4 → AreSizes sizes a → AreTold (Mux chain) a.told files → bits_held files k ≡ 8 * slice_index sizes.leaves k
+held_is chain sizes a files k low are told = ap (λ n. 8 * n) (length_is a (leaf_name k) (slice_index sizes.leaves k) files (are.leaf k low) (leaf_told chain a files k low told))
 
 -- leaf k is the first that is too short
 pub is_short_leaf : (files : Files) (rows : List Row) (k : ℕ) → k < 4 → ((i : ℕ) → i < k → nat_lt (bits_held files i) (bits_needed rows i) ≡ false) → nat_lt (bits_held files k) (bits_needed rows k) ≡ true →
@@ -142,46 +143,46 @@ pub no_short_leaf : (files : Files) (rows : List Row) → ((i : ℕ) → i < 4 �
 unfolding short_leaf
 no_short_leaf files rows each = rw (each 0 (lit< tt), each 1 (lit< tt), each 2 (lit< tt), each 3 (lit< tt)) refl
 
-pub long_enough : (sizes : InputSizes) (a : ShelfState) (rows : List Row) (files : Files) (k : ℕ) → k < 4 → AreSizes sizes a → AreTold Mux a.told files → IsLong rows sizes k → nat_lt (bits_held files k) (bits_needed rows k) ≡ false
-long_enough sizes a rows files k low are told long = let e = held_is sizes a files k low are told in grind (arith, nat_tests)
+pub long_enough : (chain : Chain) (sizes : InputSizes) (a : ShelfState) (rows : List Row) (files : Files) (k : ℕ) → k < 4 → AreSizes sizes a → AreTold (Mux chain) a.told files → IsLong rows sizes k → nat_lt (bits_held files k) (bits_needed rows k) ≡ false
+long_enough chain sizes a rows files k low are told long = let e = held_is chain sizes a files k low are told in grind (arith, nat_tests)
 
-short_comes : (sizes : InputSizes) (a : ShelfState) (rows : List Row) (k have need : ℕ) (files : Files) → AreSizes sizes a → AreTold Mux a.told files → IsShort rows sizes k have need →
-    muxed files rows ≡ Err (Short (Leaf k) have need)
-short_comes sizes a rows k have need files are told short =
+short_comes : (chain : Chain) (sizes : InputSizes) (a : ShelfState) (rows : List Row) (k have need : ℕ) (files : Files) → AreSizes sizes a → AreTold (Mux chain) a.told files → IsShort rows sizes k have need →
+    muxed chain files rows ≡ Err (Short (Leaf k) have need)
+short_comes chain sizes a rows k have need files are told short =
     let few : nat_lt 16384 (frames_in rows) ≡ false = let f = short.few in grind (arith, nat_tests) in
-    let e = held_is sizes a files k short.leaf are told in
+    let e = held_is chain sizes a files k short.leaf are told in
     let have_is : bits_held files k ≡ have = e ∙ sym short.have_is in
     let here : nat_lt (bits_held files k) (bits_needed rows k) ≡ true = let f = short.short in let n = short.need_is in grind (arith, nat_tests) in
-    let first = is_short_leaf files rows k short.leaf (λ i h. long_enough sizes a rows files i (omega (arith, short.leaf)) are told (short.before i h)) here in
+    let first = is_short_leaf files rows k short.leaf (λ i h. long_enough chain sizes a rows files i (omega (arith, short.leaf)) are told (short.before i h)) here in
     rw (few, first) (ap (λ n. Err (Short (Leaf k) n (bits_needed rows k))) have_is ∙ ap (λ n. Err (Short (Leaf k) have n)) (sym short.need_is))
 
-many_comes : (rows : List Row) (files : Files) → 16384 < frames_in rows → muxed files rows ≡ Err (ManyFrames (frames_in rows))
-many_comes rows files h = let many : nat_lt 16384 (frames_in rows) ≡ true = grind (arith, nat_tests) in rw many refl
+many_comes : (chain : Chain) (rows : List Row) (files : Files) → 16384 < frames_in rows → muxed chain files rows ≡ Err (ManyFrames (frames_in rows))
+many_comes chain rows files h = let many : nat_lt 16384 (frames_in rows) ≡ true = grind (arith, nat_tests) in rw many refl
 
-pub enough_refuses : (sizes : InputSizes) (rows : List Row) (a b : ShelfState) (stop : Stop) → AreSizes sizes a → HasRows a rows → IsEnoughStop rows sizes stop → Refuses Mux a b stop
-enough_refuses sizes rows a b (ManyFrames n) are has cause = λ files told.
-    ap (λ m. Err (ManyFrames m)) cause.0 ∙ sym (comes_muxed a rows files (all_are_held sizes a are) has told ∙ many_comes rows files (subst (λ m. 16384 < m) cause.0 cause.1))
-enough_refuses sizes rows a b (Short (Leaf k) have need) are has cause = λ files told.
-    sym (comes_muxed a rows files (all_are_held sizes a are) has told ∙ short_comes sizes a rows k have need files are told cause)
-enough_refuses sizes rows a b (Short Line have need) are has cause = absurd cause
-enough_refuses sizes rows a b (Short Schedule have need) are has cause = absurd cause
-enough_refuses sizes rows a b (Short (Output k) have need) are has cause = absurd cause
-enough_refuses sizes rows a b Memory are has cause = absurd cause
-enough_refuses sizes rows a b Usage are has cause = absurd cause
-enough_refuses sizes rows a b (Read f) are has cause = absurd cause
-enough_refuses sizes rows a b (Write f) are has cause = absurd cause
-enough_refuses sizes rows a b (Missing f) are has cause = absurd cause
-enough_refuses sizes rows a b LongSchedule are has cause = absurd cause
-enough_refuses sizes rows a b (BadRow l) are has cause = absurd cause
-enough_refuses sizes rows a b (UnknownNode l) are has cause = absurd cause
-enough_refuses sizes rows a b (CountOver l n m) are has cause = absurd cause
-enough_refuses sizes rows a b (Overflow p) are has cause = absurd cause
-enough_refuses sizes rows a b (Underflow p) are has cause = absurd cause
-enough_refuses sizes rows a b NotYet are has cause = absurd cause
+pub enough_refuses : (chain : Chain) (sizes : InputSizes) (rows : List Row) (a b : ShelfState) (stop : Stop) → AreSizes sizes a → HasRows chain a rows → IsEnoughStop rows sizes stop → Refuses (Mux chain) a b stop
+enough_refuses chain sizes rows a b (ManyFrames n) are has cause = λ files told.
+    ap (λ m. Err (ManyFrames m)) cause.0 ∙ sym (comes_muxed chain a rows files (all_are_held chain sizes a are) has told ∙ many_comes chain rows files (subst (λ m. 16384 < m) cause.0 cause.1))
+enough_refuses chain sizes rows a b (Short (Leaf k) have need) are has cause = λ files told.
+    sym (comes_muxed chain a rows files (all_are_held chain sizes a are) has told ∙ short_comes chain sizes a rows k have need files are told cause)
+enough_refuses chain sizes rows a b (Short Line have need) are has cause = absurd cause
+enough_refuses chain sizes rows a b (Short Schedule have need) are has cause = absurd cause
+enough_refuses chain sizes rows a b (Short (Output k) have need) are has cause = absurd cause
+enough_refuses chain sizes rows a b Memory are has cause = absurd cause
+enough_refuses chain sizes rows a b Usage are has cause = absurd cause
+enough_refuses chain sizes rows a b (Read f) are has cause = absurd cause
+enough_refuses chain sizes rows a b (Write f) are has cause = absurd cause
+enough_refuses chain sizes rows a b (Missing f) are has cause = absurd cause
+enough_refuses chain sizes rows a b LongSchedule are has cause = absurd cause
+enough_refuses chain sizes rows a b (BadRow l) are has cause = absurd cause
+enough_refuses chain sizes rows a b (UnknownNode l) are has cause = absurd cause
+enough_refuses chain sizes rows a b (CountOver l n m) are has cause = absurd cause
+enough_refuses chain sizes rows a b (Overflow p) are has cause = absurd cause
+enough_refuses chain sizes rows a b (Underflow p) are has cause = absurd cause
+enough_refuses chain sizes rows a b NotYet are has cause = absurd cause
 
 -- the bytes of a leaf's file that were read give its bits
-pub bits_are : (a : ShelfState) (k : ℕ) (bytes : List ℕ) (files : Files) → k < 4 → Holds (a.told (leaf_name k)) bytes → AreTold Mux a.told files → leaf_bits files k ≡ bits_of bytes
-bits_are a k bytes files low holds told = ap (λ (h : Option (List ℕ)). bits_of (unwrap_or h [])) (holds (files (leaf_name k)) (leaf_told a files k low told))
+pub bits_are : (chain : Chain) (a : ShelfState) (k : ℕ) (bytes : List ℕ) (files : Files) → k < 4 → Holds (a.told (leaf_name k)) bytes → AreTold (Mux chain) a.told files → leaf_bits files k ≡ bits_of bytes
+bits_are chain a k bytes files low holds told = ap (λ (h : Option (List ℕ)). bits_of (unwrap_or h [])) (holds (files (leaf_name k)) (leaf_told chain a files k low told))
 
 -- sizes that were answered are known after the files were looked at again
 pub sizes_since : (sizes : InputSizes) (a b : ShelfState) → Looks a b → AreSizes sizes a → AreSizes sizes b

@@ -2,6 +2,7 @@
 use Rattle.std.specs.Prelude.{ℕ, List, ◌++◌, codes, decimal, Result, Ok, Err}
 use Rattle.pdh_shape.specs.declared.place.Place.{Place}
 use Rattle.pdh_words.specs.Paths.{path_text}
+use Rattle.pdh_chain.specs.Chains.{name_of as name_of_chain}
 use Rattle.pdh_ops.specs.Names.{name_of}
 use Rattle.pdh_ops.specs.declared.answer.Done.{Done}
 use Rattle.pdh_ops.specs.declared.answer.Done.TheVariants.{Demuxed, Muxed, ClockInside, ClockOutside, ClockMade}
@@ -46,11 +47,11 @@ outside_text out =
 
 -- each text is one line
 abbrev pub done_text : Done → List ℕ
-done_text (Demuxed frames) = codes "demux e12: frames " ++ decimal frames ++ codes "\n"
-done_text (Muxed frames) = codes "mux e12: frames " ++ decimal frames ++ codes "\n"
-done_text ClockInside = codes "clock e12: inside\n"
-done_text (ClockOutside out) = codes "clock e12: outside " ++ outside_text out ++ codes "\n"
-done_text (ClockMade rows) = codes "clock e12: rows " ++ decimal rows ++ codes "\n"
+done_text (Demuxed chain frames) = codes "demux " ++ name_of_chain chain ++ codes ": frames " ++ decimal frames ++ codes "\n"
+done_text (Muxed chain frames) = codes "mux " ++ name_of_chain chain ++ codes ": frames " ++ decimal frames ++ codes "\n"
+done_text (ClockInside chain) = codes "clock " ++ name_of_chain chain ++ codes ": inside\n"
+done_text (ClockOutside chain out) = codes "clock " ++ name_of_chain chain ++ codes ": outside " ++ outside_text out ++ codes "\n"
+done_text (ClockMade chain rows) = codes "clock " ++ name_of_chain chain ++ codes ": rows " ++ decimal rows ++ codes "\n"
 
 abbrev pub stop_text : Stop → List ℕ
 stop_text Memory = codes "memory\n"

@@ -24,31 +24,31 @@ mux_input (suc leaf) = leaf_name leaf
 
 -- what a command reads
 abbrev pub inputs : Command → Names
-inputs Demux = record { count = 1; name = λ _. line_name }
-inputs Mux = record { count = 5; name = mux_input }
-inputs ClockCheck = record { count = 1; name = λ _. schedule_name }
-inputs (ClockMake frames bias) = record { count = 0; name = λ _. schedule_name }
+inputs (Demux chain) = record { count = 1; name = λ _. line_name }
+inputs (Mux chain) = record { count = 5; name = mux_input }
+inputs (ClockCheck chain) = record { count = 1; name = λ _. schedule_name }
+inputs (ClockMake chain frames bias) = record { count = 0; name = λ _. schedule_name }
 
 -- what it writes, in the order in which it starts them
 abbrev pub outputs : Command → Names
-outputs Demux = record { count = 4; name = output_name }
-outputs Mux = record { count = 1; name = λ _. line_name }
-outputs ClockCheck = record { count = 0; name = λ _. schedule_name }
-outputs (ClockMake frames bias) = record { count = 1; name = λ _. schedule_name }
+outputs (Demux chain) = record { count = 4; name = output_name }
+outputs (Mux chain) = record { count = 1; name = λ _. line_name }
+outputs (ClockCheck chain) = record { count = 0; name = λ _. schedule_name }
+outputs (ClockMake chain frames bias) = record { count = 1; name = λ _. schedule_name }
 
 -- what its outputs hold in the end
 abbrev pub output_bytes : Command → Files → ℕ → List ℕ
-output_bytes Demux files leaf = output_of (bytes_in files line_name) leaf
-output_bytes Mux files _ = line_bytes files (rows_in files)
-output_bytes ClockCheck files _ = []
-output_bytes (ClockMake frames bias) files _ = made_text frames bias
+output_bytes (Demux chain) files leaf = output_of chain (bytes_in files line_name) leaf
+output_bytes (Mux chain) files _ = line_bytes chain files (rows_in chain files)
+output_bytes (ClockCheck chain) files _ = []
+output_bytes (ClockMake chain frames bias) files _ = made_text chain frames bias
 
 -- its work, or the first refusal in the order of its steps, where no memory is wanting and no device fails
 abbrev pub comes_to : Command → Files → Answer
-comes_to Demux files = and_then (line_of (files line_name)) demuxed
-comes_to Mux files = and_then (all_held mux_inputs files) (λ _. and_then (rows_of (bytes_in files schedule_name)) (muxed files))
-comes_to ClockCheck files = and_then (all_held check_inputs files) (λ _. and_then (rows_of (bytes_in files schedule_name)) (λ rows. Ok (checked rows)))
-comes_to (ClockMake frames bias) files = clock_made frames bias
+comes_to (Demux chain) files = and_then (line_of chain (files line_name)) (demuxed chain)
+comes_to (Mux chain) files = and_then (all_held mux_inputs files) (λ _. and_then (rows_of chain (bytes_in files schedule_name)) (muxed chain files))
+comes_to (ClockCheck chain) files = and_then (all_held check_inputs files) (λ _. and_then (rows_of chain (bytes_in files schedule_name)) (λ rows. Ok (checked chain rows)))
+comes_to (ClockMake chain frames bias) files = clock_made chain frames bias
 
 -- the inputs of a command are told, as these files
 abbrev pub AreTold : Command → (List ℕ → Told) → Files → Type 0

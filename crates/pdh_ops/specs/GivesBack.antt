@@ -3,7 +3,7 @@ use Rattle.std.specs.Prelude.{◌≡◌, ℕ, ◌*◌, ◌<◌, ◌≤◌, List,
 use Rattle.pdh_bits.specs.Bits.{bits_of}
 use Rattle.pdh_edge.specs.Files.{ShelfState}
 use Rattle.pdh_edge.specs.Files.Told.{Known}
-use Rattle.pdh_shape.specs.Sets.{e2}
+use Rattle.pdh_chain.specs.Chains.{shape_of}
 use Rattle.pdh_line.specs.Receiving.{received}
 use Rattle.pdh_ops.specs.Names.{line_name}
 use Rattle.pdh_ops.specs.Schedules.{Files}
@@ -19,7 +19,7 @@ IsPrefix front bits = (m : ℕ) × (front ≡ take m bits)
 -- After status 0 of `mux`, of whose line a receiver has the first n frames: what it received of each leaf is a prefix of
 -- the bits of that leaf's file.
 abbrev pub GivesBack : Option Command → ShelfState → ShelfState → ℕ → Type 0
-GivesBack (Some Mux) old new status =
-    (files : Files) (line : List ℕ) (leaf n : ℕ) → AreTold Mux old.told files → new.told line_name ≡ Known (Some line) → status ≡ 0
-    → leaf < 4 → 848 * n ≤ length (bits_of line) → IsPrefix (received e2 leaf (take (n * 848) (bits_of line))) (leaf_bits files leaf)
+GivesBack (Some (Mux chain)) old new status =
+    (files : Files) (line : List ℕ) (leaf n : ℕ) → AreTold (Mux chain) old.told files → new.told line_name ≡ Known (Some line) → status ≡ 0
+    → leaf < 4 → (shape_of chain).len * n ≤ length (bits_of line) → IsPrefix (received (shape_of chain) leaf (take (n * (shape_of chain).len) (bits_of line))) (leaf_bits files leaf)
 GivesBack _ old new status = ⊤

@@ -1,12 +1,13 @@
--- What `mux e12` comes to, and what its output holds.
+-- What `mux` comes to, and what its output holds.
 use Rattle.std.specs.Prelude.{ℕ, ◌+◌, ◌*◌, Bool, nat_lt, List, ◌∷◌, length, map, find, Option, is_none, Result, Ok, Err, if◌then◌else◌}
 use Rattle.std.specs.List.{range_with_len}
 use Rattle.std.specs.Option.{option_map_or}
 use Rattle.pdh_bits.specs.Bits.{bits_of, bytes_of}
-use Rattle.pdh_shape.specs.Frame.{idle}
-use Rattle.pdh_shape.specs.Sets.{e2}
+use Rattle.pdh_chain.specs.Chains.{shape_of}
+use Rattle.pdh_chain.specs.declared.chain.Chain.{Chain}
 use Rattle.pdh_shape.specs.declared.place.Place.{Place}
-use Rattle.pdh_line.specs.Sending.{Source, front, line_bit, entered, source_of}
+use Rattle.pdh_line.specs.Sending.{Source, front, line_bit, entered}
+use Rattle.pdh_chain.specs.Muxes.{source_with}
 use Rattle.pdh_line.specs.Events.{Event, Kind, first_event}
 use Rattle.pdh_line.specs.Events.Kind.{Overflow as StoreOverflow, Underflow as StoreUnderflow}
 use Rattle.pdh_clock.specs.Row.{Row}
@@ -25,7 +26,7 @@ leaf_bits files leaf = bits_of (bytes_in files (leaf_name leaf))
 
 -- what decides the line: the schedule, the leaves' bits, and idle service bits
 abbrev pub mux_source : Files → List Row → Source
-mux_source files rows = source_of (counts_of rows) (map (leaf_bits files) (range_with_len 0 4)) idle
+mux_source files rows = source_with (counts_of rows) (leaf_bits files)
 
 -- the files that it reads, in order
 abbrev pub mux_inputs : List File
@@ -59,20 +60,20 @@ abbrev pub stop_of_event : Event → Stop
 stop_of_event event = stop_of_kind event.kind (place_of event)
 
 -- the first event of the run, if there is one
-unfoldable pub event_of : List Row → Option Event
-event_of rows = first_event e2 (counts_of rows) (frames_in rows)
+unfoldable pub event_of : Chain → List Row → Option Event
+event_of chain rows = first_event (shape_of chain) (counts_of rows) (frames_in rows)
 
 -- the line of so many frames, or the first refusal: too many frames, a short leaf, an event
-abbrev pub muxed : Files → List Row → Answer
-muxed files rows =
+abbrev pub muxed : Chain → Files → List Row → Answer
+muxed chain files rows =
     if nat_lt 16384 (frames_in rows) then Err (ManyFrames (frames_in rows))
     else option_map_or (λ leaf. Err (Short (Leaf leaf) (bits_held files leaf) (bits_needed rows leaf)))
-    (short_leaf files rows) (option_map_or (λ event. Err (stop_of_event event)) (event_of rows) (Ok (Muxed (frames_in rows))))
+    (short_leaf files rows) (option_map_or (λ event. Err (stop_of_event event)) (event_of chain rows) (Ok (Muxed chain (frames_in rows))))
 
 -- the whole frames before the first event, or all
-unfoldable pub frames_made : List Row → ℕ
-frames_made rows = option_map_or (λ event. event.frame) (event_of rows) (frames_in rows)
+unfoldable pub frames_made : Chain → List Row → ℕ
+frames_made chain rows = option_map_or (λ event. event.frame) (event_of chain rows) (frames_in rows)
 
 -- what the line's file holds
-unfoldable pub line_bytes : Files → List Row → List ℕ
-line_bytes files rows = bytes_of (front (line_bit e2 (mux_source files rows)) (frames_made rows * 848))
+unfoldable pub line_bytes : Chain → Files → List Row → List ℕ
+line_bytes chain files rows = bytes_of (front (line_bit (shape_of chain) (mux_source files rows)) (frames_made chain rows * (shape_of chain).len))

@@ -1,13 +1,12 @@
--- The steps of `mux e12`: what each finds, and why it stops.
+-- The steps of `mux`: what each finds, and why it stops.
 use Rattle.std.specs.Prelude.{◌≡◌, ℕ, ◌*◌, ◌<◌, ◌≤◌, List, Bool, Option, Some, None, Ok, length, Vec, slice_index, slice_index_or}
 use Rattle.std.specs.declared.alloc.Global.{Global}
 use Rattle.pdh_bits.specs.Bits.{bytes_of}
 use Rattle.pdh_edge.specs.Files.{ShelfState}
-use Rattle.pdh_shape.specs.Frame.{idle}
-use Rattle.pdh_shape.specs.Sets.{e2}
-use Rattle.pdh_line.specs.Sending.{front, line_bit, source_of}
+use Rattle.pdh_chain.specs.Chains.{shape_of}
+use Rattle.pdh_chain.specs.declared.chain.Chain.{Chain}
 use Rattle.pdh_line.specs.Events.{Event}
-use Rattle.pdh_mux.specs.Making.{lists_of}
+use Rattle.pdh_chain.specs.Muxes.{frames_of_line}
 use Rattle.pdh_clock.specs.Row.{Row}
 use Rattle.pdh_ops.specs.Names.{schedule_name, leaf_name}
 use Rattle.pdh_ops.specs.Reading.{HasLength}
@@ -22,8 +21,8 @@ use Rattle.pdh_ops.specs.declared.answer.Stop.{Stop}
 use Rattle.pdh_ops.specs.declared.answer.Stop.TheVariants.{Short, ManyFrames}
 
 -- where the inputs of `mux` are told, this holds of them
-abbrev pub OfInputs : ShelfState → (Files → Type 0) → Type 0
-OfInputs state P = (files : Files) → AreTold Mux state.told files → P files
+abbrev pub OfInputs : Chain → ShelfState → (Files → Type 0) → Type 0
+OfInputs chain state P = (files : Files) → AreTold (Mux chain) state.told files → P files
 
 -- the sizes of the inputs
 pub record AreSizes (sizes : InputSizes) (state : ShelfState) : Type 0 where
@@ -31,12 +30,12 @@ pub record AreSizes (sizes : InputSizes) (state : ShelfState) : Type 0 where
   pub leaf : (k : ℕ) → k < 4 → HasLength (leaf_name k) (slice_index sizes.leaves k) state
 
 -- all inputs are held
-abbrev pub AreHeld : ShelfState → Type 0
-AreHeld state = OfInputs state (λ files. all_held mux_inputs files ≡ Ok tt)
+abbrev pub AreHeld : Chain → ShelfState → Type 0
+AreHeld chain state = OfInputs chain state (λ files. all_held mux_inputs files ≡ Ok tt)
 
 -- the schedule has these rows
-abbrev pub HasRows : ShelfState → List Row → Type 0
-HasRows state rows = OfInputs state (λ files. rows_of (bytes_in files schedule_name) ≡ Ok rows)
+abbrev pub HasRows : Chain → ShelfState → List Row → Type 0
+HasRows chain state rows = OfInputs chain state (λ files. rows_of chain (bytes_in files schedule_name) ≡ Ok rows)
 
 -- leaf k has as many bits as must enter, at least
 abbrev pub IsLong : List Row → InputSizes → ℕ → Type 0
@@ -64,17 +63,21 @@ IsEnoughStop rows sizes (Short (Leaf k) have need) = IsShort rows sizes k have n
 IsEnoughStop rows sizes _ = ⊥
 
 -- the leaves' bits
-pub record AreLeaves (sizes : InputSizes) (state : ShelfState) (leaves : List (Vec Bool Global)) : Type 0 where
+pub record AreLeaves (chain : Chain) (sizes : InputSizes) (state : ShelfState) (leaves : List (Vec Bool Global)) : Type 0 where
   pub count : length leaves ≡ 4
   pub len : (k : ℕ) (d : Vec Bool Global) → k < 4 → length (slice_index_or leaves k d).items ≡ 8 * slice_index sizes.leaves k
-  pub bits : (k : ℕ) (d : Vec Bool Global) → k < 4 → OfInputs state (λ files. (slice_index_or leaves k d).items ≡ leaf_bits files k)
+  pub bits : (k : ℕ) (d : Vec Bool Global) → k < 4 → OfInputs chain state (λ files. (slice_index_or leaves k d).items ≡ leaf_bits files k)
 
 -- how an event ends the command, if there is one
 abbrev pub IsEnd : Option Event → Option Stop → Type 0
 IsEnd None end = end ≡ None
 IsEnd (Some event) end = end ≡ Some (stop_of_event event)
 
+-- these are the leaves' bits
+abbrev pub AreBits : List (Vec Bool Global) → (ℕ → List Bool) → Type 0
+AreBits leaves lists = (k : ℕ) (d : Vec Bool Global) → k < 4 → lists k ≡ (slice_index_or leaves k d).items
+
 -- the line's bytes up to the first event, and how that ends the command
-pub record IsMade (rows : List Row) (leaves : List (Vec Bool Global)) (made : Made) : Type 0 where
-  pub bytes : made.bytes.items ≡ bytes_of (front (line_bit e2 (source_of (counts_of rows) (lists_of leaves) idle)) (frames_made rows * 848))
-  pub end : IsEnd (event_of rows) made.end
+pub record IsMade (chain : Chain) (rows : List Row) (leaves : List (Vec Bool Global)) (made : Made) : Type 0 where
+  pub bytes : (lists : ℕ → List Bool) → AreBits leaves lists → made.bytes.items ≡ bytes_of (frames_of_line (shape_of chain) (counts_of rows) lists (frames_made chain rows))
+  pub end : IsEnd (event_of chain rows) made.end

@@ -3,21 +3,22 @@ use Rattle.std.specs.Prelude.{◌≡◌, ℕ, List, ⊤, Some, Result, Err}
 use Rattle.pdh_edge.specs.Files.{ShelfState, FailsToRead}
 use Rattle.pdh_edge.specs.Files.Told.{Known}
 use Rattle.pdh_clock.specs.Row.{Row}
+use Rattle.pdh_chain.specs.declared.chain.Chain.{Chain}
 use Rattle.pdh_ops.specs.Names.{schedule_name, name_of}
 use Rattle.pdh_ops.specs.Schedules.{rows_of}
 use Rattle.pdh_ops.specs.declared.answer.Stop.{Stop}
 use Rattle.pdh_ops.specs.declared.answer.Stop.TheVariants.{Memory, Read, LongSchedule, BadRow, UnknownNode, CountOver}
 
 -- where the schedule's text is told, it has these rows, or is refused so
-abbrev pub RowsAre : ShelfState → Result (List Row) Stop → Type 0
-RowsAre state rows = (text : List ℕ) → state.told schedule_name ≡ Known (Some text) → rows_of text ≡ rows
+abbrev pub RowsAre : Chain → ShelfState → Result (List Row) Stop → Type 0
+RowsAre chain state rows = (text : List ℕ) → state.told schedule_name ≡ Known (Some text) → rows_of chain text ≡ rows
 
 -- why there is no schedule: memory is wanting, the call failed, or its text is refused
-abbrev pub IsScheduleStop : ShelfState → ShelfState → Stop → Type 0
-IsScheduleStop old new Memory = ⊤
-IsScheduleStop old new (Read file) = FailsToRead (name_of file) old new
-IsScheduleStop old new LongSchedule = RowsAre old (Err LongSchedule)
-IsScheduleStop old new (BadRow line) = RowsAre old (Err (BadRow line))
-IsScheduleStop old new (UnknownNode line) = RowsAre old (Err (UnknownNode line))
-IsScheduleStop old new (CountOver line count most) = RowsAre old (Err (CountOver line count most))
-IsScheduleStop old new _ = ⊥
+abbrev pub IsScheduleStop : Chain → ShelfState → ShelfState → Stop → Type 0
+IsScheduleStop chain old new Memory = ⊤
+IsScheduleStop chain old new (Read file) = FailsToRead (name_of file) old new
+IsScheduleStop chain old new LongSchedule = RowsAre chain old (Err LongSchedule)
+IsScheduleStop chain old new (BadRow line) = RowsAre chain old (Err (BadRow line))
+IsScheduleStop chain old new (UnknownNode line) = RowsAre chain old (Err (UnknownNode line))
+IsScheduleStop chain old new (CountOver line count most) = RowsAre chain old (Err (CountOver line count most))
+IsScheduleStop chain old new _ = ⊥

@@ -1,7 +1,8 @@
--- The schedule that a command reads: its chain, its text and its rows.
-use Rattle.std.specs.Prelude.{ℕ, List, [], ◌∷◌, false, Option, unwrap_or, Result, Ok, Err}
+-- The schedule that a command reads: its text and its rows.
+use Rattle.std.specs.Prelude.{ℕ, List, [], Option, unwrap_or, Result, Ok, Err}
 use Rattle.std.specs.Result.{result_unwrap_or}
-use Rattle.pdh_shape.specs.declared.place.Level.{Level}
+use Rattle.pdh_chain.specs.Chains.{levels_of}
+use Rattle.pdh_chain.specs.declared.chain.Chain.{Chain}
 use Rattle.pdh_clock.specs.declared.fault.ScheduleFault.{ScheduleFault}
 use Rattle.pdh_clock.specs.declared.fault.ScheduleFault.TheVariants.{TooLong, BadRow as RowIsBad, UnknownNode as NodeIsUnknown, CountOver as CountIsOver, Memory as NoMemory}
 use Rattle.pdh_clock.specs.Row.{Row}
@@ -19,21 +20,6 @@ Files = List ℕ → Option (List ℕ)
 abbrev pub bytes_in : Files → List ℕ → List ℕ
 bytes_in files name = unwrap_or (files name) []
 
--- the one level of the chain: a G.742 multiplexer of four streams of 2048 kbit/s (the offsets are this project's own)
-abbrev pub e12_levels : List Level
-e12_levels = record {
-  len = 848;
-  tribs = 4;
-  low = 205;
-  locked = false;
-  rate = 8448000;
-  per = 1;
-  ppm = 30;
-  trib_rate = 2048000;
-  trib_per = 1;
-  trib_ppm = 50;
-} ∷ []
-
 -- how a fault of the schedule's text ends the command
 abbrev pub stop_of_fault : ScheduleFault → Stop
 stop_of_fault (TooLong len) = LongSchedule
@@ -47,8 +33,8 @@ abbrev pub rows_or_stop : Result (List Row) ScheduleFault → Result (List Row) 
 rows_or_stop (Ok rows) = Ok rows
 rows_or_stop (Err fault) = Err (stop_of_fault fault)
 
-unfoldable pub rows_of : List ℕ → Result (List Row) Stop
-rows_of text = rows_or_stop (schedule_of e12_levels text)
+unfoldable pub rows_of : Chain → List ℕ → Result (List Row) Stop
+rows_of chain text = rows_or_stop (schedule_of (levels_of chain) text)
 
 -- how many bits of each tributary arrive in each frame
 abbrev pub counts_of : List Row → ℕ → ℕ → ℕ
@@ -59,5 +45,5 @@ abbrev pub frames_in : List Row → ℕ
 frames_in rows = frame_count rows []
 
 -- the schedule's rows, where its text has no fault
-abbrev pub rows_in : Files → List Row
-rows_in files = result_unwrap_or (rows_of (bytes_in files schedule_name)) []
+abbrev pub rows_in : Chain → Files → List Row
+rows_in chain files = result_unwrap_or (rows_of chain (bytes_in files schedule_name)) []

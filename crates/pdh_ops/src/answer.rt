@@ -1,4 +1,5 @@
 use crate::file::File;
+use pdh_chain::Chain;
 use pdh_clock::{Outside, ScheduleFault};
 use pdh_shape::{Path, Place};
 use std::alloc::AllocError;
@@ -17,16 +18,16 @@ pub struct OutOfTolerance {
 /// What a command did, with the numbers of its text.
 #[derive(Clone, Copy, Debug, PartialEq, Eq)]
 pub enum Done {
-    /// `demux e12`, with the whole frames of the line.
-    Demuxed(u64),
-    /// `mux e12`, with the frames of the line.
-    Muxed(u64),
-    /// `clock check e12`, where every tributary is within the tolerance.
-    ClockInside,
-    /// `clock check e12`, with the first tributary that isn't.
-    ClockOutside(OutOfTolerance),
-    /// `clock make e12`, with the rows of the schedule.
-    ClockMade(u64),
+    /// `demux`, with the whole frames of the line.
+    Demuxed(Chain, u64),
+    /// `mux`, with the frames of the line.
+    Muxed(Chain, u64),
+    /// `clock check`, where every tributary is within the tolerance.
+    ClockInside(Chain),
+    /// `clock check`, with the first tributary that isn't.
+    ClockOutside(Chain, OutOfTolerance),
+    /// `clock make`, with the rows of the schedule.
+    ClockMade(Chain, u64),
 }
 
 /// Why a command ended early. Lines of a text are counted from 1.

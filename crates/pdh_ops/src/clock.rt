@@ -1,53 +1,59 @@
 ghost use Rattle.std.specs.Prelude.{◌≡◌, ◌≤◌, count_by, ◌==◌, IfOk, IfErr};
 ghost use Rattle.pdh_words.specs.declared.commands.Command.TheVariants.{ClockCheck, ClockMake};
-ghost use Rattle.pdh_ops.specs.Schedules.{e12_levels};
+ghost use Rattle.pdh_chain.specs.Chains.{levels_of};
 ghost use Rattle.pdh_ops.specs.Clock.{checked as checked_rows, made_text as text_made, rows_in_text};
 ghost use Rattle.pdh_ops.specs.Run.{Performs};
 ghost use Rattle.pdh_ops.specs.declared.answer.Stop.TheVariants.{Memory};
 
 use crate::answer::{Done, OutOfTolerance, Stop};
-use crate::chain::{MOST_FRAMES, TOP, level};
 use crate::file::File;
 use crate::files::{append, size, start};
 use crate::schedule::read_schedule;
+use crate::top::{MOST_FRAMES, TOP};
+use pdh_chain::{Chain, levels};
 use pdh_clock::{Bias, Schedule};
 use pdh_edge::Shelf;
 use std::alloc::Global;
 
 // The first leaf that isn't within the tolerance, or that all are.
 #[tactic(auto, unfolding(crate::specs::Clock::checked))]
-fn checked(clock: &Schedule) -> Done
-    requires { clock.now.levels ≡ e12_levels }
-    ensures { result ≡ checked_rows clock.now.rows }
+fn checked(chain: Chain, clock: &Schedule) -> Done
+    requires { clock.now.levels ≡ levels_of chain }
+    ensures { result ≡ checked_rows chain clock.now.rows }
 {
     for leaf in 0..4u8 {
         if let Err(run) = clock.within(&TOP, leaf) {
-            return Done::ClockOutside(OutOfTolerance {
-                node: TOP,
-                trib: leaf + 1,
-                run,
-            });
+            let trib = leaf + 1;
+            return Done::ClockOutside(
+                chain,
+                OutOfTolerance {
+                    node: TOP,
+                    trib,
+                    run,
+                },
+            );
         }
     }
-    Done::ClockInside
+    Done::ClockInside(chain)
 }
 
 /// Reads the schedule, and tells the first tributary that isn't within the tolerance, or that all are.
-pub fn check<S: Shelf>(alloc: Global, shelf: &mut S) -> Result<Done, Stop>
-    ensures { Performs ClockCheck (S.state shelf.old) (S.state shelf.new) result }
+pub fn check<S: Shelf>(alloc: Global, chain: Chain, shelf: &mut S) -> Result<Done, Stop>
+    ensures { Performs (ClockCheck chain) (S.state shelf.old) (S.state shelf.new) result }
 {
     let bytes = size(shelf, File::Schedule)?;
-    let clock = read_schedule(alloc, shelf, bytes)?;
-    Ok(checked(&clock))
+    let clock = read_schedule(alloc, chain, shelf, bytes)?;
+    Ok(checked(chain, &clock))
 }
 
 // The text of the schedule of so many frames.
-fn made_text(alloc: Global, frames: u64, bias: Bias) -> Result<Vec<u8>, Stop>
+fn made_text(alloc: Global, chain: Chain, frames: u64, bias: Bias) -> Result<Vec<u8>, Stop>
     requires { frames ≤ 16384 }
-    ensures text { IfOk result (λ text. text.items ≡ text_made frames bias) }
+    ensures text { IfOk result (λ text. text.items ≡ text_made chain frames bias) }
     ensures err { IfErr result (λ stop. stop ≡ Memory) }
 {
-    let clock = Schedule::from_ppm(alloc, &[level()], frames, bias)?;
+    let levels = levels(alloc, chain)?;
+    let clock = Schedule::from_ppm(alloc, &levels, frames, bias)?;
     Ok(clock.text(alloc)?)
 }
 
@@ -59,15 +65,21 @@ fn row_count(text: &[u8]) -> u64
 }
 
 /// Makes the schedule of so many frames from the clock offsets, and writes its text.
-pub fn make<S: Shelf>(alloc: Global, frames: u32, bias: Bias, shelf: &mut S) -> Result<Done, Stop>
-    ensures { Performs (ClockMake frames bias) (S.state shelf.old) (S.state shelf.new) result }
+pub fn make<S: Shelf>(
+    alloc: Global,
+    chain: Chain,
+    frames: u32,
+    bias: Bias,
+    shelf: &mut S,
+) -> Result<Done, Stop>
+    ensures { Performs (ClockMake chain frames bias) (S.state shelf.old) (S.state shelf.new) result }
 {
     let frames = u64::from(frames);
     if frames > MOST_FRAMES {
         return Err(Stop::ManyFrames(frames));
     }
-    let text = made_text(alloc, frames, bias)?;
+    let text = made_text(alloc, chain, frames, bias)?;
     start(shelf, File::Schedule)?;
     append(shelf, File::Schedule, &text)?;
-    Ok(Done::ClockMade(row_count(&text)))
+    Ok(Done::ClockMade(chain, row_count(&text)))
 }

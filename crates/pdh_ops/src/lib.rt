@@ -2,7 +2,8 @@
 #![tactic(auto)]
 
 mod answer;
-mod chain;
+#[cfg(test)]
+mod chain_tests;
 mod clock;
 #[cfg(test)]
 mod clock_tests;
@@ -18,5 +19,6 @@ mod report;
 mod schedule;
 #[cfg(test)]
 mod tests;
+mod top;
 
 pub use program::{Ran, run};

@@ -5,21 +5,22 @@ ghost use Rattle.pdh_ops.specs.Demux.{line_of};
 ghost use Rattle.pdh_ops.specs.Steps.{IsLineCause};
 
 use crate::answer::Stop;
-use crate::chain::MOST_FRAMES;
 use crate::file::File;
 use crate::files::{read, size};
+use crate::top::MOST_FRAMES;
+use pdh_chain::{Chain, frame_bytes};
 use pdh_edge::Shelf;
 use std::alloc::Global;
 
 // The bytes of the line, if it has a number of frames that can be demultiplexed yet.
-pub fn read_line<S: Shelf>(alloc: Global, shelf: &mut S) -> Result<Vec<u8>, Stop>
+pub fn read_line<S: Shelf>(alloc: Global, chain: Chain, shelf: &mut S) -> Result<Vec<u8>, Stop>
     ensures looks { Looks (S.state shelf.old) (S.state shelf.new) }
     ensures line { IfOk result (λ line. Holds ((S.state shelf.old).told line_name) line.items) }
-    ensures served { IfOk result (λ line. line_of (Some line.items) ≡ Ok line.items) }
-    ensures err { IfErr result (IsLineCause (S.state shelf.old) (S.state shelf.new)) }
+    ensures served { IfOk result (λ line. line_of chain (Some line.items) ≡ Ok line.items) }
+    ensures err { IfErr result (IsLineCause chain (S.state shelf.old) (S.state shelf.new)) }
 {
     let bytes = size(shelf, File::Line)?;
-    let frames = bytes / 106;
+    let frames = bytes / u64::from(frame_bytes(chain));
     if frames > MOST_FRAMES {
         return Err(Stop::ManyFrames(frames));
     }

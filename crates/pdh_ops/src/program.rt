@@ -26,10 +26,14 @@ fn perform<S: Shelf>(alloc: Global, command: Command, shelf: &mut S) -> Result<D
     ensures { Performs command (S.state shelf.old) (S.state shelf.new) result }
 {
     match command {
-        Command::Demux => demux(alloc, shelf),
-        Command::Mux => mux(alloc, shelf),
-        Command::ClockCheck => check(alloc, shelf),
-        Command::ClockMake { frames, bias } => make(alloc, frames, bias, shelf),
+        Command::Demux { chain } => demux(alloc, chain, shelf),
+        Command::Mux { chain } => mux(alloc, chain, shelf),
+        Command::ClockCheck { chain } => check(alloc, chain, shelf),
+        Command::ClockMake {
+            chain,
+            frames,
+            bias,
+        } => make(alloc, chain, frames, bias, shelf),
     }
 }
 
@@ -61,7 +65,7 @@ pub fn run<S: Shelf, K: Sink>(
     // What `mux` wrote, `demux` gives back in order.
     ensures gives_back { GivesBack (command_of (map string_bytes words.now)) (S.state shelf) (S.state result.shelf) result.status }
     // Where each leaf is within the tolerance, `mux` meets no event, and what its line gives back is
-    // at most 444 bits behind arrival.
+    // at most the chain's delay behind arrival.
     ensures no_event { HasNoEvent (command_of (map string_bytes words.now)) (S.state shelf) result.status }
     ensures delay { IsDelayed (command_of (map string_bytes words.now)) (S.state shelf) (S.state result.shelf) result.status }
     // The same as the first, said of inputs that are told and of a shelf without faults.

@@ -1,10 +1,12 @@
 ghost use Rattle.std.specs.Prelude.{◌≡◌, ◌≤◌, ◌++◌, length, decimal, codes};
+ghost use Rattle.pdh_chain.specs.Chains.{name_of as name_of_chain};
 ghost use Rattle.pdh_ops.specs.Names.{name_of};
 ghost use Rattle.pdh_ops.specs.Answer.{text_of, done_text as done_of, stop_text as stop_of, place_text as place_of, outside_text as outside_of};
 ghost use Rattle.pdh_ops.specs.Run.{IsTold};
 
 use crate::answer::{Done, OutOfTolerance, Stop};
 use crate::file::File;
+use pdh_chain::Chain;
 use pdh_edge::Sink;
 use pdh_shape::Place;
 use pdh_words::Text;
@@ -53,13 +55,42 @@ fn placed(part: &str, place: Place) -> Text
     text
 }
 
-// The line of a tributary that isn't within the tolerance.
-#[tactic(auto, using(crate::proofs::Texts::digits, crate::proofs::Texts::path_len))]
-fn outside(out: OutOfTolerance) -> Text
-    ensures { result ≡ codes "clock e12: outside " ++ outside_of out ++ codes "\n" }
+// The line of a command, its chain, a part and a number.
+#[tactic(auto, using(crate::proofs::Texts::digits))]
+fn chain_counted(command: &str, chain: Chain, part: &str, n: u64) -> Text
+    requires command { length command.now ≤ 100 }
+    requires part { length part.now ≤ 100 }
+    ensures { result ≡ command.now ++ name_of_chain chain ++ part.now ++ decimal n ++ codes "\n" }
 {
     let mut text = Text::new();
-    text.text("clock e12: outside ");
+    text.text(command);
+    text.text(chain.name());
+    text.text(part);
+    text.number(n);
+    text.text("\n");
+    text
+}
+
+// The line of a schedule within the tolerance.
+fn inside(chain: Chain) -> Text
+    ensures { result ≡ codes "clock " ++ name_of_chain chain ++ codes ": inside\n" }
+{
+    let mut text = Text::new();
+    text.text("clock ");
+    text.text(chain.name());
+    text.text(": inside\n");
+    text
+}
+
+// The line of a tributary that isn't within the tolerance.
+#[tactic(auto, using(crate::proofs::Texts::digits, crate::proofs::Texts::path_len))]
+fn outside(chain: Chain, out: OutOfTolerance) -> Text
+    ensures { result ≡ codes "clock " ++ name_of_chain chain ++ codes ": outside " ++ outside_of out ++ codes "\n" }
+{
+    let mut text = Text::new();
+    text.text("clock ");
+    text.text(chain.name());
+    text.text(": outside ");
     text.path(&out.node);
     text.text(" tributary ");
     text.number(u64::from(out.trib));
@@ -134,11 +165,11 @@ fn done_text(done: Done) -> Text
     ensures { result ≡ done_of done }
 {
     match done {
-        Done::Demuxed(frames) => counted("demux e12: frames ", frames),
-        Done::Muxed(frames) => counted("mux e12: frames ", frames),
-        Done::ClockInside => plain("clock e12: inside"),
-        Done::ClockOutside(out) => outside(out),
-        Done::ClockMade(rows) => counted("clock e12: rows ", rows),
+        Done::Demuxed(chain, frames) => chain_counted("demux ", chain, ": frames ", frames),
+        Done::Muxed(chain, frames) => chain_counted("mux ", chain, ": frames ", frames),
+        Done::ClockInside(chain) => inside(chain),
+        Done::ClockOutside(chain, out) => outside(chain, out),
+        Done::ClockMade(chain, rows) => chain_counted("clock ", chain, ": rows ", rows),
     }
 }
 

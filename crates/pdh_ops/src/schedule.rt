@@ -3,29 +3,35 @@ ghost use Rattle.pdh_edge.specs.Files.{Looks};
 ghost use Rattle.pdh_clock.specs.Contents.{IsRowOf};
 ghost use Rattle.pdh_ops.specs.Names.{schedule_name};
 ghost use Rattle.pdh_ops.specs.Reading.{HasLength};
-ghost use Rattle.pdh_ops.specs.Schedules.{e12_levels};
+ghost use Rattle.pdh_chain.specs.Chains.{levels_of};
 ghost use Rattle.pdh_ops.specs.ScheduleSteps.{RowsAre, IsScheduleStop};
 
 use crate::answer::Stop;
-use crate::chain::level;
 use crate::file::File;
 use crate::files::read;
+use pdh_chain::{Chain, levels};
 use pdh_clock::{MOST_BYTES, Schedule};
 use pdh_edge::Shelf;
 use std::alloc::Global;
 
 /// The schedule of its file, which has so many bytes.
-pub fn read_schedule<S: Shelf>(alloc: Global, shelf: &mut S, bytes: u64) -> Result<Schedule, Stop>
+pub fn read_schedule<S: Shelf>(
+    alloc: Global,
+    chain: Chain,
+    shelf: &mut S,
+    bytes: u64,
+) -> Result<Schedule, Stop>
     requires { HasLength schedule_name bytes (S.state shelf.old) }
     ensures looks { Looks (S.state shelf.old) (S.state shelf.new) }
-    ensures rows { IfOk result (λ clock. RowsAre (S.state shelf.old) (Ok clock.rows)) }
-    ensures levels { IfOk result (λ clock. clock.levels ≡ e12_levels) }
-    ensures sound { IfOk result (λ clock. All (IsRowOf e12_levels) clock.rows) }
-    ensures err { IfErr result (IsScheduleStop (S.state shelf.old) (S.state shelf.new)) }
+    ensures rows { IfOk result (λ clock. RowsAre chain (S.state shelf.old) (Ok clock.rows)) }
+    ensures levels { IfOk result (λ clock. clock.levels ≡ levels_of chain) }
+    ensures sound { IfOk result (λ clock. All (IsRowOf (levels_of chain)) clock.rows) }
+    ensures err { IfErr result (IsScheduleStop chain (S.state shelf.old) (S.state shelf.new)) }
 {
     if bytes > MOST_BYTES as u64 {
         return Err(Stop::LongSchedule);
     }
     let text = read(alloc, shelf, File::Schedule, bytes)?;
-    Ok(Schedule::read(alloc, &[level()], &text)?)
+    let levels = levels(alloc, chain)?;
+    Ok(Schedule::read(alloc, &levels, &text)?)
 }

@@ -4,8 +4,17 @@ use Rattle.std.specs.Str.{bytes_eq}
 use Rattle.pdh_clock.specs.Text.{◌>>=◌, number_of}
 use Rattle.pdh_clock.specs.declared.bias.Bias.{Bias}
 use Rattle.pdh_clock.specs.declared.bias.Bias.TheVariants.{Nominal, Fast, Slow, Mixed}
+use Rattle.pdh_chain.specs.declared.chain.Chain.{Chain}
+use Rattle.pdh_chain.specs.declared.chain.Chain.TheVariants.{E12, E23, E34}
 use Rattle.pdh_words.specs.declared.commands.Command.{Command}
 use Rattle.pdh_words.specs.declared.commands.Command.TheVariants.{Demux, Mux, ClockCheck, ClockMake}
+
+-- the chain of a word
+abbrev pub chain_of : List ℕ → Option Chain
+chain_of word =
+    (if bytes_eq word (codes "e12") then Some E12
+    else (if bytes_eq word (codes "e23") then Some E23
+    else (if bytes_eq word (codes "e34") then Some E34 else None)))
 
 -- the clock offsets of a word
 abbrev pub bias_of : List ℕ → Option Bias
@@ -15,25 +24,29 @@ bias_of word =
     else (if bytes_eq word (codes "slow") then Some Slow
     else (if bytes_eq word (codes "mixed") then Some Mixed else None))))
 
--- `mux` or `demux`
-abbrev pub conversion_of : List ℕ → Option Command
-conversion_of word =
-    (if bytes_eq word (codes "demux") then Some Demux
-    else (if bytes_eq word (codes "mux") then Some Mux else None))
+-- `mux` or `demux` of a chain
+abbrev pub conversion_of : List ℕ → Chain → Option Command
+conversion_of word chain =
+    (if bytes_eq word (codes "demux") then Some (Demux chain)
+    else (if bytes_eq word (codes "mux") then Some (Mux chain) else None))
 
--- `make` of so many frames with such offsets
-abbrev pub making_of : List ℕ → List ℕ → Option Command
-making_of frames_word bias_word = do
+-- `clock make` of a chain, of so many frames with such offsets
+abbrev pub making_of : List ℕ → List ℕ → List ℕ → Option Command
+making_of chain_word frames_word bias_word = do
+  chain ← chain_of chain_word
   frames ← number_of frames_word
   bias ← bias_of bias_word
-  Some (ClockMake frames bias)
+  Some (ClockMake chain frames bias)
 
--- the command of these words, if they are a row of the table: `mux e12`, `demux e12`, `clock check e12`, and
--- `clock make e12 FRAMES BIAS`
+-- the command of these words, if they are a row of the table: `mux CHAIN`, `demux CHAIN`, `clock check CHAIN`, and
+-- `clock make CHAIN FRAMES BIAS`
 abbrev pub command_of : List (List ℕ) → Option Command
-command_of (a ∷ chain ∷ []) = if bytes_eq chain (codes "e12") then conversion_of a else None
-command_of (a ∷ b ∷ chain ∷ []) =
-    if bytes_eq a (codes "clock") && bytes_eq b (codes "check") && bytes_eq chain (codes "e12") then Some ClockCheck else None
-command_of (a ∷ b ∷ chain ∷ frames ∷ bias ∷ []) =
-    if bytes_eq a (codes "clock") && bytes_eq b (codes "make") && bytes_eq chain (codes "e12") then making_of frames bias else None
+command_of (a ∷ chain_word ∷ []) = do
+  chain ← chain_of chain_word
+  conversion_of a chain
+command_of (a ∷ b ∷ chain_word ∷ []) = do
+  chain ← chain_of chain_word
+  if bytes_eq a (codes "clock") && bytes_eq b (codes "check") then Some (ClockCheck chain) else None
+command_of (a ∷ b ∷ chain_word ∷ frames ∷ bias ∷ []) =
+    if bytes_eq a (codes "clock") && bytes_eq b (codes "make") then making_of chain_word frames bias else None
 command_of _ = None

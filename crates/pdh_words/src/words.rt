@@ -1,9 +1,22 @@
 ghost use Rattle.std.specs.Prelude.{◌≡◌, map};
 ghost use Rattle.std.specs.String.{string_bytes};
-ghost use Rattle.pdh_words.specs.Commands.{bias_of, conversion_of, making_of, command_of};
+ghost use Rattle.pdh_words.specs.Commands.{chain_of, bias_of, conversion_of, making_of, command_of};
 
 use crate::commands::Command;
+use pdh_chain::Chain;
 use pdh_clock::{Bias, number};
+
+// The chain that a word names.
+fn chain(word: &str) -> Option<Chain>
+    ensures { result ≡ chain_of word.now }
+{
+    match word {
+        "e12" => Some(Chain::E12),
+        "e23" => Some(Chain::E23),
+        "e34" => Some(Chain::E34),
+        _ => None,
+    }
+}
 
 // The clock offsets that a word names.
 fn bias(word: &str) -> Option<Bias>
@@ -19,38 +32,48 @@ fn bias(word: &str) -> Option<Bias>
 }
 
 // The command of one word and a chain.
-fn conversion(word: &str) -> Option<Command>
-    ensures { result ≡ conversion_of word.now }
+fn conversion(word: &str, chain: Chain) -> Option<Command>
+    ensures { result ≡ conversion_of word.now chain }
 {
     match word {
-        "demux" => Some(Command::Demux),
-        "mux" => Some(Command::Mux),
+        "demux" => Some(Command::Demux { chain }),
+        "mux" => Some(Command::Mux { chain }),
         _ => None,
     }
 }
 
-// The making of a schedule, by its number of frames and its offsets.
-fn making(frames: &str, bias_word: &str) -> Option<Command>
-    ensures { result ≡ making_of frames.now bias_word.now }
+// The making of a schedule, by its chain, its number of frames and its offsets.
+fn making(chain_word: &str, frames: &str, bias_word: &str) -> Option<Command>
+    ensures { result ≡ making_of chain_word.now frames.now bias_word.now }
 {
+    let chain = chain(chain_word)?;
     let frames = number(frames.as_bytes())?;
     let bias = bias(bias_word)?;
-    Some(Command::ClockMake { frames, bias })
+    Some(Command::ClockMake {
+        chain,
+        frames,
+        bias,
+    })
 }
 
-/// The command of the words, without the program's own name, if they are a row of the table: `mux e12`, `demux e12`,
-/// `clock check e12`, or `clock make e12 FRAMES BIAS` with a number and `nominal`, `fast`, `slow` or `mixed`.
+/// The command of the words, without the program's own name, if they are a row of the table: `mux CHAIN`, `demux CHAIN`,
+/// `clock check CHAIN`, or `clock make CHAIN FRAMES BIAS` with a number and `nominal`, `fast`, `slow` or `mixed`. CHAIN is
+/// `e12`, `e23` or `e34`.
 pub fn command(words: &[String]) -> Option<Command>
     ensures { result ≡ command_of (map string_bytes words.now) }
 {
     match words {
-        [first, chain] if chain.as_str() == "e12" => conversion(first.as_str()),
-        [first, second, chain]
-            if first.as_str() == "clock" && second.as_str() == "check" && chain.as_str() == "e12" =>
-            { Some(Command::ClockCheck) }
+        [first, chain_word] => conversion(first.as_str(), chain(chain_word.as_str())?),
+        [first, second, chain_word] => {
+            let chain = chain(chain_word.as_str())?;
+            (first.as_str() == "clock" && second.as_str() == "check").then_some(
+                Command::ClockCheck { chain },
+            )
+        }
         [first, second, chain, frames, bias]
-            if first.as_str() == "clock" && second.as_str() == "make" && chain.as_str() == "e12" =>
-            { making(frames.as_str(), bias.as_str()) }
+            if first.as_str() == "clock" && second.as_str() == "make" => {
+            making(chain.as_str(), frames.as_str(), bias.as_str())
+        }
         _ => None,
     }
 }

@@ -7,9 +7,9 @@ use Rattle.pdh_ops.proofs.clock.make.Goals as goal
 pub returns-in_err-start : goal.returns-in_err-start
 returns-in_err-start g c =
     let p = err_from_is_err_and c.from_residual-in_err-start.result c.from_residual-in_err-start.ensures.1 in
-    rw (p.1, p.2) (make_start_refused _ _ _ _ _ (omega arith) c.start.ensures.kept c.in_err-start.ensures.err)
+    rw (p.1, p.2) (make_start_refused c.args.chain _ _ _ _ _ (omega arith) c.start.ensures.kept c.in_err-start.ensures.err)
 
 pub returns-in_err-append : goal.returns-in_err-append
 returns-in_err-append g c =
     let p = err_from_is_err_and c.from_residual-in_err-append.result c.from_residual-in_err-append.ensures.1 in
-    rw (p.1, p.2) (make_append_refused _ (g.S.Shelf.state c.start.new.shelf) _ _ _ c.deref.result.now _ (omega arith) (c.deref.ensures.value ∙ c.in_ok-text.ensures.text ∙ ap (λ (n : ℕ). text_made n c.args.bias) c.from-frames.ensures) c.start.ensures.kept c.in_ok-start.ensures.ok c.append.ensures.kept c.in_err-append.ensures.err)
+    rw (p.1, p.2) (make_append_refused c.args.chain _ (g.S.Shelf.state c.start.new.shelf) _ _ _ c.deref.result.now _ (omega arith) (c.deref.ensures.value ∙ c.in_ok-text.ensures.text ∙ ap (λ (n : ℕ). text_made c.args.chain n c.args.bias) c.from-frames.ensures) c.start.ensures.kept c.in_ok-start.ensures.ok c.append.ensures.kept c.in_err-append.ensures.err)

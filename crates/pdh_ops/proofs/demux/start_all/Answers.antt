@@ -11,7 +11,7 @@ returns-in_err-start-clause-cut g c =
     let here : c.loop-leaf.leaf < 4 = omega arith in
     let p = err_from_is_err_and c.from_residual.result c.from_residual.ensures.1 in
     let inv = c.loop-leaf.invariant in
-    rw p.1 (start_fails _ (g.S.Shelf.state c.loop-leaf.shelf) _ c.loop-leaf.leaf here inv.empty inv.later c.start.ensures.kept c.in_err-start.ensures.err.1)
+    rw p.1 (start_fails c.args.chain _ (g.S.Shelf.state c.loop-leaf.shelf) _ c.loop-leaf.leaf here inv.empty inv.later c.start.ensures.kept c.in_err-start.ensures.err.1)
 
 pub loop-leaf-preserved : goal.loop-leaf-preserved
 loop-leaf-preserved g c =

@@ -35,7 +35,7 @@ returns-in_err-bytes-clause-looks g c = looks_then _ _ _ c.loop-leaf.invariant.l
 pub returns-in_err-bytes-clause-err : goal.returns-in_err-bytes-clause-err
 returns-in_err-bytes-clause-err g c =
     let p = err_from_is_err_and c.from_residual.result c.from_residual.ensures.1 in
-    rw (p.1, p.2) (refuses_since Mux _ (g.S.Shelf.state c.loop-leaf.shelf) _ _ c.loop-leaf.invariant.looks (read_refuses Mux _ _ _ _ c.in_err-bytes.ensures.err))
+    rw (p.1, p.2) (refuses_since (Mux c.args.chain) _ (g.S.Shelf.state c.loop-leaf.shelf) _ _ c.loop-leaf.invariant.looks (read_refuses (Mux c.args.chain) _ _ _ _ c.in_err-bytes.ensures.err))
 
 pub returns-in_err-bits-clause-looks : goal.returns-in_err-bits-clause-looks
 returns-in_err-bits-clause-looks g c = looks_then _ _ _ c.loop-leaf.invariant.looks c.read.ensures.looks
@@ -59,8 +59,8 @@ loop-leaf-preserved g c =
       looks = looks_then _ _ _ inv.looks c.read.ensures.looks;
       count = grind (arith, common_steps);
       len = each_pushed (λ k v. length v.items ≡ 8 * slice_index c.args.sizes.now.leaves k) c.loop-leaf.leaves.items c.push.new.self.items bits leaf pushed inv.count inv.len long;
-      bits = each_pushed (λ k v. OfInputs old (λ files. v.items ≡ leaf_bits files k)) c.loop-leaf.leaves.items c.push.new.self.items bits leaf pushed inv.count inv.bits
-          (λ files told. made ∙ sym (bits_are old leaf bytes files here holds told));
+      bits = each_pushed (λ k v. OfInputs c.args.chain old (λ files. v.items ≡ leaf_bits files k)) c.loop-leaf.leaves.items c.push.new.self.items bits leaf pushed inv.count inv.bits
+          (λ files told. made ∙ sym (bits_are c.args.chain old leaf bytes files here holds told));
     }
 
 pub returns-clause-looks : goal.returns-clause-looks
@@ -72,5 +72,5 @@ returns-clause-ok g c =
     record {
       count = omega (arith, inv.count);
       len = λ k d h. inv.len k d (omega arith);
-      bits = λ k d h. of_inputs_since _ _ _ inv.looks (inv.bits k d (omega arith));
+      bits = λ k d h. of_inputs_since c.args.chain _ _ _ inv.looks (inv.bits k d (omega arith));
     }

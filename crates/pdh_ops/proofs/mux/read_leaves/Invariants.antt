@@ -14,5 +14,5 @@ invariant-loop-leaf g l =
       looks : Looks old new;
       count : length l.leaves.items ≡ l.leaf;
       len : (k : ℕ) (d : Vec Bool Global) → k < l.leaf → length (slice_index_or l.leaves.items k d).items ≡ 8 * slice_index l.sizes.leaves k;
-      bits : (k : ℕ) (d : Vec Bool Global) → k < l.leaf → OfInputs old (λ files. (slice_index_or l.leaves.items k d).items ≡ leaf_bits files k);
+      bits : (k : ℕ) (d : Vec Bool Global) → k < l.leaf → OfInputs l.fn.chain old (λ files. (slice_index_or l.leaves.items k d).items ≡ leaf_bits files k);
     }

@@ -21,8 +21,8 @@ returns-in_err-leaves-clause-err g c =
     let p = err_from_is_err_and c.from_residual-in_err-leaves.result c.from_residual-in_err-leaves.ensures.1 in
     let inv = c.loop-leaf.invariant in
     let here : c.loop-leaf.leaf < 4 = omega arith in
-    rw (p.1, p.2) (refuses_since Mux _ (g.S.Shelf.state c.loop-leaf.shelf) _ _ (looks_then _ _ _ c.size.ensures.looks inv.looks)
-    (leaf_size_refuses _ _ c.in_ok-schedule.schedule c.loop-leaf.leaf (slice_index c.loop-leaf.leaves) _ here inv.schedule inv.leaf c.in_err-leaves.ensures.err))
+    rw (p.1, p.2) (refuses_since (Mux c.args.chain) _ (g.S.Shelf.state c.loop-leaf.shelf) _ _ (looks_then _ _ _ c.size.ensures.looks inv.looks)
+    (leaf_size_refuses c.args.chain _ _ c.in_ok-schedule.schedule c.loop-leaf.leaf (slice_index c.loop-leaf.leaves) _ here inv.schedule inv.leaf c.in_err-leaves.ensures.err))
 
 pub loop-leaf-preserved : goal.loop-leaf-preserved
 loop-leaf-preserved g c =
@@ -51,5 +51,5 @@ returns-clause-ok g c = record { schedule = c.loop-leaf.invariant.schedule; leaf
 
 pub returns-clause-held : goal.returns-clause-held
 returns-clause-held g c =
-    all_are_held (record { schedule = c.in_ok-schedule.schedule; leaves = c.loop-leaf.leaves }) (g.S.Shelf.state c.loop-leaf.shelf)
+    all_are_held c.args.chain (record { schedule = c.in_ok-schedule.schedule; leaves = c.loop-leaf.leaves }) (g.S.Shelf.state c.loop-leaf.shelf)
     (record { schedule = c.loop-leaf.invariant.schedule; leaf = λ k h. c.loop-leaf.invariant.leaf k (omega arith) })

@@ -6,14 +6,14 @@ use Rattle.pdh_ops.proofs.ScheduleComes.{long_stops, fault_stops, rows_read}
 use Rattle.pdh_ops.proofs.schedule.read_schedule.Goals as goal
 
 pub returns-then-bytes-clause-err : goal.returns-then-bytes-clause-err
-returns-then-bytes-clause-err g c = long_stops _ c.args.bytes c.requires c.if-bytes.true
+returns-then-bytes-clause-err g c = long_stops c.args.chain _ c.args.bytes c.requires c.if-bytes.true
 
 pub returns-in_err-read-clause-err : goal.returns-in_err-read-clause-err
 returns-in_err-read-clause-err g c =
     let p = err_from_is_err_and c.from_residual-in_err-read.result c.from_residual-in_err-read.ensures.1 in
-    let said = rw (sym c.level.ensures) at c.in_err-read.ensures.rows in
-    rw (p.1, p.2) (fault_stops _ _ c.deref.result.now c.in_err-read.field-0.0 (subst (Holds ((g.S.Shelf.state c.args.shelf.now).told schedule_name)) (sym c.deref.ensures.value) c.in_ok-text.ensures.ok) said)
+    let said = rw (c.deref.ensures.value, c.in_ok-levels.ensures.levels) at c.in_err-read.ensures.rows in
+    rw (p.1, p.2) (fault_stops c.args.chain _ _ c.deref-2.result.now c.in_err-read.field-0.0 (subst (Holds ((g.S.Shelf.state c.args.shelf.now).told schedule_name)) (sym c.deref-2.ensures.value) c.in_ok-text.ensures.ok) said)
 
 pub returns-clause-rows : goal.returns-clause-rows
 returns-clause-rows g c =
-    rows_read (g.S.Shelf.state c.args.shelf.now) c.deref.result.now c.in_ok-read.field-0.rows (subst (Holds ((g.S.Shelf.state c.args.shelf.now).told schedule_name)) (sym c.deref.ensures.value) c.in_ok-text.ensures.ok) (rw (sym c.level.ensures) at c.in_ok-read.ensures.rows)
+    rows_read c.args.chain (g.S.Shelf.state c.args.shelf.now) c.deref-2.result.now c.in_ok-read.field-0.rows (subst (Holds ((g.S.Shelf.state c.args.shelf.now).told schedule_name)) (sym c.deref-2.ensures.value) c.in_ok-text.ensures.ok) (rw (c.deref.ensures.value, c.in_ok-levels.ensures.levels) at c.in_ok-read.ensures.rows)

@@ -1,0 +1,4 @@
+pub mod ChainLaws
+pub mod Lists
+pub mod Frames
+pub mod Muxed

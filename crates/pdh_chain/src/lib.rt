@@ -1,0 +1,13 @@
+//! The chains of multiplexers.
+#![tactic(auto)]
+
+mod chain;
+mod making;
+mod sending;
+mod stop;
+#[cfg(test)]
+mod tests;
+
+pub use chain::{Chain, delay, frame_bytes, leaves, levels};
+pub use making::mux;
+pub use stop::MuxStop;

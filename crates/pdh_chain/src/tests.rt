@@ -1,0 +1,105 @@
+ghost use Rattle.std.specs.Prelude.{◌≡◌, length, IfOk};
+
+use crate::{Chain, MuxStop, levels, mux};
+use pdh_clock::Schedule;
+use pdh_edge::MemPort;
+use pdh_shape::{Path, Place};
+use std::alloc::{AllocError, Global};
+use std::test::Fail;
+
+const TOP: Path = Path {
+    depth: 0,
+    first: 0,
+    second: 0,
+};
+
+// A list of zeros for each leaf, of these lengths.
+fn zeros(alloc: Global, lengths: [usize; 4]) -> Result<Vec<Vec<bool>>, AllocError>
+    ensures { IfOk result (λ lists. length lists.items ≡ 4) }
+{
+    let mut lists = Vec::new(alloc);
+    lists.push(vec![in alloc; false; lengths[0]]?)?;
+    lists.push(vec![in alloc; false; lengths[1]]?)?;
+    lists.push(vec![in alloc; false; lengths[2]]?)?;
+    lists.push(vec![in alloc; false; lengths[3]]?)?;
+    Ok(lists)
+}
+
+// The end of a run over the frames of a schedule, and how many bits it put.
+fn run(
+    alloc: Global,
+    chain: Chain,
+    schedule: &[u8],
+    lengths: [usize; 4],
+) -> Result<(Result<(), MuxStop>, usize), Fail> {
+    let levels = levels(alloc, chain)?;
+    let clock = Schedule::read(alloc, &levels, schedule)?;
+    let mut port = MemPort::open(alloc, zeros(alloc, lengths)?, 1)?;
+    let end = mux(alloc, chain, &clock, clock.frames(&TOP), &mut port);
+    Ok((end, port.output(0).len()))
+}
+
+fn event(over: bool, trib: u8, frame: u64, slot: u32) -> Result<(), MuxStop> {
+    Err(MuxStop::Event {
+        over,
+        place: Place {
+            path: TOP,
+            trib,
+            frame,
+            slot,
+        },
+    })
+}
+
+// A leaf gives 24 bits before the first frame, and then the counts of the frames.
+#[test]
+fn ends_and_lengths(rt: HostRuntime) -> Result<(), Fail> {
+    let two: &[u8] = b"/ 2 205 205 205 205\n";
+    let over: &[u8] = b"/ 1 206 206 206 206\n/ 1 848 848 848 848\n";
+    let under: &[u8] = b"/ 1 0 206 206 206\n";
+    let cases = [
+        (Chain::E12, two, [434; 4], Ok(()), 1_696),
+        (
+            Chain::E12,
+            two,
+            [434, 434, 433, 434],
+            Err(MuxStop::Ended { leaf: 2 }),
+            848,
+        ),
+        (
+            Chain::E12,
+            two,
+            [434, 23, 0, 434],
+            Err(MuxStop::Ended { leaf: 1 }),
+            0,
+        ),
+        (Chain::E12, over, [1_078; 4], event(true, 4, 1, 27), 848),
+        (Chain::E12, under, [230; 4], event(false, 1, 0, 108), 0),
+        (
+            Chain::E23,
+            b"/ 1 378 378 378 378\n",
+            [402; 4],
+            Ok(()),
+            1_536,
+        ),
+        (
+            Chain::E34,
+            b"/ 1 723 723 723 723\n",
+            [747; 4],
+            Ok(()),
+            2_928,
+        ),
+        (
+            Chain::E34,
+            b"/ 1 722 722 722 722\n",
+            [745; 4],
+            Err(MuxStop::Ended { leaf: 0 }),
+            0,
+        ),
+    ];
+    for (chain, schedule, lengths, end, bits) in cases {
+        let got = run(rt.alloc(), chain, schedule, lengths)?;
+        assert_eq!(rt; got, (end, bits), "{chain:?}");
+    }
+    Ok(())
+}

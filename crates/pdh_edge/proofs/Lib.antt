@@ -1,0 +1,3 @@
+mod ListSteps
+pub mod Rooms
+pub mod Holding

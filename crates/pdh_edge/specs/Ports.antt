@@ -1,0 +1,81 @@
+-- Lists of bits, one for each leaf, and what calls take of them and put to them.
+use Rattle.std.specs.Prelude.{◌≡◌, ℕ, ◌+◌, ◌≤◌, Bool, ◌==◌, if◌then◌else◌, List, [], ◌∷◌, ◌++◌, length, Option, Some, None, Result, IsErrOf, OnErr}
+use Rattle.pdh_edge.specs.declared.port.FeedStop.{FeedStop}
+use Rattle.pdh_edge.specs.declared.port.FeedStop.TheVariants.{Failed}
+use Rattle.pdh_edge.specs.Files.{Rose}
+
+-- the lists that give bits
+pub record Inputs : Type 0 where
+  -- the leaves that have a list
+  pub holds : ℕ → Bool
+  -- how many bits a leaf's list still has
+  pub left : ℕ → ℕ
+  -- these bits, where they are told
+  pub told : ℕ → Option (List Bool)
+
+-- the lists that take bits
+pub record Outputs : Type 0 where
+  -- the leaves that have a list
+  pub holds : ℕ → Bool
+  -- the bits of a leaf's list, where they are told
+  pub told : ℕ → Option (List Bool)
+
+-- ---- bits for each leaf
+
+-- one bit for one leaf, and none for the others
+abbrev pub only : ℕ → Bool → ℕ → List Bool
+only leaf bit k = (if k == leaf then bit ∷ [] else [])
+
+-- no bit for any leaf
+abbrev pub nothing : ℕ → List Bool
+nothing k = []
+
+-- ---- what a call takes
+
+-- what was told before a call that took these bits, by what is told after it
+abbrev pub before : List Bool → Option (List Bool) → Option (List Bool)
+before bits None = None
+before bits (Some rest) = Some (bits ++ rest)
+
+-- each leaf's list has given these bits, its first ones
+pub record Takes (given : ℕ → List Bool) (old new : Inputs) : Type 0 where
+  pub counts : (k : ℕ) → old.left k ≡ length (given k) + new.left k
+  pub bits : (k : ℕ) → old.told k ≡ before (given k) (new.told k)
+
+-- ---- what a call puts
+
+-- what is told after a call that appended these bits, by what was told before it
+abbrev pub after : List Bool → Option (List Bool) → Option (List Bool)
+after bits None = None
+after bits (Some list) = Some (list ++ bits)
+
+-- these bits were appended to each leaf's list
+abbrev pub Puts : (ℕ → List Bool) → Outputs → Outputs → Type 0
+Puts bits old new = (k : ℕ) → new.told k ≡ after (bits k) (old.told k)
+
+-- a list is a prefix of another
+abbrev pub IsPrefix : List Bool → List Bool → Type 0
+IsPrefix xs ys = (rest : List Bool) × (ys ≡ xs ++ rest)
+
+-- what is told now is a prefix of what was told and then these bits
+abbrev pub PrefixOf : List Bool → Option (List Bool) → Option (List Bool) → Type 0
+PrefixOf bits None None = Unit {0}
+PrefixOf bits (Some old) (Some new) = IsPrefix new (old ++ bits)
+PrefixOf bits None (Some new) = ⊥
+PrefixOf bits (Some old) None = ⊥
+
+-- each leaf's list is a prefix of what it was and then these bits
+abbrev pub PutsPart : (ℕ → List Bool) → Outputs → Outputs → Type 0
+PutsPart bits old new = (k : ℕ) → PrefixOf (bits k) (old.told k) (new.told k)
+
+-- ---- faults
+
+-- a count of faults didn't fall, and rose where the call failed
+pub record HasCause {T E : Type 0} (old new : ℕ) (result : Result T E) : Type 0 where
+  pub later : old ≤ new
+  pub failed : OnErr result (Rose old new)
+
+-- a count of faults didn't fall, and rose where the answer is Failed
+pub record HasFeedCause {T : Type 0} (old new : ℕ) (result : Result T FeedStop) : Type 0 where
+  pub later : old ≤ new
+  pub failed : IsErrOf result Failed → Rose old new

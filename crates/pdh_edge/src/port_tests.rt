@@ -1,0 +1,20 @@
+use crate::{Drain, Feed, FeedStop, MemPort, Port};
+use std::test::Fail;
+
+#[test]
+fn port_in_memory(rt: HostRuntime) -> Result<(), Fail> {
+    let alloc = rt.alloc();
+    let mut lists = Vec::new(alloc);
+    lists.push(vec![in alloc; true, false]?)?;
+    let mut port = MemPort::open(alloc, lists, 2)?;
+    assert_eq!(rt; port.start(), Ok(()));
+    assert_eq!(rt; port.bit(0), Ok(true));
+    assert_eq!(rt; port.put(1, true), Ok(()));
+    assert_eq!(rt; port.bit(0), Ok(false));
+    assert_eq!(rt; port.put(1, false), Ok(()));
+    assert_eq!(rt; port.bit(0), Err(FeedStop::Ended));
+    assert_eq!(rt; port.output(0).len(), 0);
+    assert_eq!(rt; *port.output(1), *[true, false].as_slice());
+    assert_eq!(rt; (port.feed_faults(), port.drain_faults()), (0, 0));
+    Ok(())
+}

@@ -1,0 +1,30 @@
+-- What stands at a place of a list.
+use Rattle.std.proofs.Common.{◌≡◌, ℕ, zero, suc, ◌<◌, List, [], ◌∷◌, length, map, refl, sym, ap, ◌∙◌, subst, arith, Some, slice_get}
+use Rattle.std.proofs.lemmas.Option.{slice_get-map}
+use Rattle.std.proofs.lemmas.List.{length-map}
+use Rattle.pdh_tx.proofs.Moving.{inside}
+
+pub some_same : {X : Type 0} {a b : X} → Some a ≡ Some b → a ≡ b
+some_same h = cc
+
+pub get_at : {X : Type 0} (xs : List X) (i : ℕ) → i < length xs → (x : X) × (slice_get xs i ≡ Some x)
+get_at [] i h = absurd (omega arith)
+get_at (x ∷ xs) zero h = (x, refl)
+get_at (x ∷ xs) (suc i) h = get_at xs i (omega arith)
+
+-- a fact of the parts of each that are the same
+pub transfer : {W X Y : Type 0} (f : W → X) (g : W → Y) (P : X → Y → ℕ → Type 0) (mid new : List W) → map f new ≡ map f mid → map g new ≡ map g mid
+    → ((j : ℕ) (w : W) → slice_get mid j ≡ Some w → P (f w) (g w) j) → (j : ℕ) (w : W) → slice_get new j ≡ Some w → P (f w) (g w) j
+transfer {X = X} {Y = Y} f g P mid new fs gs each j w e =
+    let long : length mid ≡ length new = sym (length-map mid f) ∙ ap length (sym fs) ∙ length-map new f in
+    let at = get_at mid j (let i = inside new j w e in omega arith) in
+    let same : f at.0 ≡ f w = some_same (sym (slice_get-map f mid j ∙ (let a = at.1 in rw a refl)) ∙ ap (λ l. slice_get l j) (sym fs) ∙ slice_get-map f new j ∙ rw e refl) in
+    let same' : g at.0 ≡ g w = some_same (sym (slice_get-map g mid j ∙ (let a = at.1 in rw a refl)) ∙ ap (λ l. slice_get l j) (sym gs) ∙ slice_get-map g new j ∙ rw e refl) in
+    let Q : X → Type 0 = λ v. P v (g w) j in
+    let R : Y → Type 0 = λ v. P (f at.0) v j in
+    subst Q same (subst R same' (each j at.0 at.1))
+
+-- a fact of one part of each
+pub transfer_one : {W X : Type 0} (f : W → X) (P : X → ℕ → Type 0) (mid new : List W) → map f new ≡ map f mid
+    → ((j : ℕ) (w : W) → slice_get mid j ≡ Some w → P (f w) j) → (j : ℕ) (w : W) → slice_get new j ≡ Some w → P (f w) j
+transfer_one f P mid new same each = transfer f f (λ x y j. P x j) mid new same same each

@@ -1,0 +1,61 @@
+-- The parity of a frame's information and justifiable slots.
+use Rattle.std.proofs.Common.{◌≡◌, ℕ, suc, ◌+◌, ◌%◌, Bool, true, false, ◌&&◌, not, cond, eqb, refl, sym, ap, ◌∙◌, inl, inr, arith, add-zero}
+use Rattle.std.specs.Prelude.{count_by}
+use Rattle.std.specs.List.{range_with_len}
+use Rattle.std.specs.Bool.{beq}
+use Rattle.std.proofs.lemmas.Bool.{cases_eq}
+use Rattle.pdh_shape.specs.declared.role.Role.{Role}
+use Rattle.pdh_shape.specs.declared.role.Role.TheVariants.{Align, Service, Control, Just, Info}
+use Rattle.pdh_shape.specs.Frame.{FrameShape}
+use Rattle.pdh_line.specs.Sending.{Source, sends_more, input_bit, payload_bit, slot_bit, odd_before}
+use Rattle.pdh_line.proofs.Ranges.{count-range_push}
+use Rattle.pdh_tx.specs.Node.{is_payload, odd_within}
+
+no_payload : (b : Bool) → (b && false) ≡ false
+no_payload true = refl
+no_payload false = refl
+
+all_payload : (b : Bool) → (b && true) ≡ b
+all_payload true = refl
+all_payload false = refl
+
+pub payload_of : (s : FrameShape) (source : Source) (n t : ℕ) (r : Role) → (slot_bit s source n t r && is_payload r) ≡ payload_bit s source n t r
+payload_of s source n t (Align signal) = no_payload signal
+payload_of s source n t (Service number) = no_payload (s.service number (source.says n) (odd_before s source n))
+payload_of s source n t (Control j copy) = no_payload (not (sends_more s (source.counts j) n))
+payload_of s source n t (Just j) = all_payload (cond (sends_more s (source.counts j) n) (input_bit s source n t j) true)
+payload_of s source n t (Info j) = all_payload (input_bit s source n t j)
+
+-- one more slot turns the parity where it holds a one
+odd_more : (c : ℕ) (bit : Bool) → eqb ((c + cond bit 1 0) % 2) 1 ≡ not (beq (eqb (c % 2) 1) bit)
+odd_more c true =
+    elim (cases_eq (c % 2) 1) [
+      | inl one ↦ let even : (c + 1) % 2 ≡ 0 = omega arith in rw (even, one) refl
+      | inr none ↦ let zero : c % 2 ≡ 0 = omega arith in let odd : (c + 1) % 2 ≡ 1 = omega arith in rw (odd, zero) refl
+    ]
+odd_more c false = ap (λ n. eqb (n % 2) 1) (add-zero c) ∙ same (eqb (c % 2) 1)
+  where
+    same : (b : Bool) → b ≡ not (beq b false)
+    same true = refl
+    same false = refl
+
+odd_within-suc : (s : FrameShape) (source : Source) (n t : ℕ) → odd_within s source n (suc t) ≡ not (beq (odd_within s source n t) (payload_bit s source n t (s.role t)))
+odd_within-suc s source n t =
+    ap (λ c. eqb (c % 2) 1) (count-range_push (λ t. payload_bit s source n t (s.role t)) t) ∙ odd_more (count_by (λ t. payload_bit s source n t (s.role t)) (range_with_len 0 t)) (payload_bit s source n t (s.role t))
+
+pub odd_before-suc : (s : FrameShape) (source : Source) (n : ℕ) → odd_before s source (suc n) ≡ odd_within s source n s.len
+unfolding odd_before
+odd_before-suc s source n = refl
+
+pub odd_before-zero : (s : FrameShape) (source : Source) → odd_before s source 0 ≡ false
+unfolding odd_before
+odd_before-zero s source = refl
+
+pub odd_within-zero : (s : FrameShape) (source : Source) (n : ℕ) → odd_within s source n 0 ≡ false
+odd_within-zero s source n = refl
+
+-- the parity with one more bit
+pub odd_next : (s : FrameShape) (source : Source) (n t : ℕ) (is_odd bit : Bool) → bit ≡ slot_bit s source n t (s.role t) → is_odd ≡ odd_within s source n t → not (beq is_odd (bit && is_payload (s.role t))) ≡ odd_within s source n (suc t)
+odd_next s source n t is_odd bit is odd =
+    ap (λ b. not (beq b (bit && is_payload (s.role t)))) odd ∙ ap (λ b. not (beq (odd_within s source n t) (b && is_payload (s.role t)))) is
+    ∙ ap (λ b. not (beq (odd_within s source n t) b)) (payload_of s source n t (s.role t)) ∙ sym (odd_within-suc s source n t)

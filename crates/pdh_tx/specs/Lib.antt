@@ -1,0 +1,9 @@
+pub mod Meaning
+pub mod Leaf
+pub mod Held
+pub mod Tributary
+pub mod Node
+pub mod Growing
+pub mod Stepping
+pub mod NodeLaws
+pub mod NodeState

@@ -1,0 +1,230 @@
+-- A multiplexer with a store for each child.
+use Rattle.std.specs.Prelude.{◌≡◌, ℕ, suc, ◌+◌, ◌/◌, ◌%◌, ◌<◌, ◌≤◌, ◌^◌, Bool, true, false, not, ◌||◌, ◌&&◌, ◌==◌, nat_le, nat_lt, List, [], ◌∷◌, ◌++◌, All, length, map, flat_map, count_by, slice_get, Option, Some, None, if◌then◌else◌}
+use Rattle.std.specs.List.{range_with_len, slice_index_or}
+use Rattle.pdh_edge.specs.Ports.{Inputs, Takes}
+use Rattle.pdh_shape.specs.declared.place.Path.{Path}
+use Rattle.pdh_shape.specs.declared.place.Place.{Place}
+use Rattle.pdh_shape.specs.declared.place.Level.{Level}
+use Rattle.pdh_shape.specs.declared.role.Service.{Service}
+use Rattle.pdh_shape.specs.declared.role.Role.{Role}
+use Rattle.pdh_shape.specs.declared.role.Role.TheVariants.{Align, Service as ServiceSlot, Control, Just, Info}
+use Rattle.pdh_shape.specs.Frame.{FrameShape, idle}
+use Rattle.pdh_line.specs.Sending.{lead, arrives_at, sends_more, came_before, read_before, taken, Source, payload_bit, slot_bit, odd_before, line_bit}
+use Rattle.pdh_line.specs.Events.{overflows, underflows}
+use Rattle.pdh_tx.specs.declared.tx.TxStop.{TxStop}
+use Rattle.pdh_tx.specs.declared.tx.TxStop.TheVariants.{Overflow, Underflow, NoFrame}
+use Rattle.pdh_tx.specs.declared.tributary.FrameShare.{FrameShare}
+use Rattle.pdh_tx.specs.Meaning.{Plan, Supply, NodeFrame, IsNodeOf, Meaning, Agrees, Met}
+use Rattle.pdh_tx.specs.Held.{first_some, some_if}
+
+-- ---- the line of a node
+
+-- what the children's lines are made of: the same schedule and lists, and idle service bits
+abbrev pub below : Supply → Supply
+below supply = record { plan = supply.plan; lists = supply.lists; says = λ n. idle }
+
+-- the line of a child, where there is one
+abbrev pub line_of : Option Meaning → Supply → ℕ → Bool
+line_of None supply x = true
+line_of (Some m) supply x = m.line supply x
+
+-- what decides the line of the node at a path that has these children
+abbrev pub source_of : Path → List Meaning → Supply → Source
+source_of path ms supply = record { counts = supply.plan.counts path; inputs = λ j. line_of (slice_get ms j) (below supply); says = supply.says }
+
+-- ---- what a node takes
+
+abbrev pub any_leaf : List Meaning → ℕ → Bool
+any_leaf [] k = false
+any_leaf (m ∷ ms) k = m.leaves k || any_leaf ms k
+
+-- how many bits of leaf k are taken, where each child j has made so many bits of its line
+abbrev pub given_by : List Meaning → Plan → (ℕ → ℕ) → ℕ → ℕ
+given_by [] plan made k = 0
+given_by (m ∷ ms) plan made k = (if m.leaves k then m.given plan (made 0) k else given_by ms plan (λ j. made (suc j)) k)
+
+-- no leaf is below two children
+abbrev pub IsDisjoint : List Meaning → Type 0
+IsDisjoint ms = (i j k : ℕ) (a b : Meaning) → slice_get ms i ≡ Some a → slice_get ms j ≡ Some b → a.leaves k ≡ true → b.leaves k ≡ true → i ≡ j
+
+-- ---- what may stand in the way of a node's bit
+
+abbrev pub obstacle_of : Option Meaning → Plan → (ℕ → ℕ) → ℕ → Option TxStop
+obstacle_of None plan size x = None
+obstacle_of (Some m) plan size x = m.obstacle plan size x
+
+-- the place of tributary j, which a place numbers from 1, in slot t of frame n
+abbrev pub place_at : Path → ℕ → ℕ → ℕ → Place
+place_at path j n t = record { path = path; trib = j + 1; frame = n; slot = t }
+
+-- the lead of tributary j
+abbrev pub lead_at : Plan → List Meaning → (ℕ → ℕ) → ℕ → List (Option TxStop)
+lead_at plan ms size j = map (obstacle_of (slice_get ms j) plan size) (range_with_len 0 lead)
+
+-- all leads, by tributary
+abbrev pub leads : FrameShape → Plan → List Meaning → (ℕ → ℕ) → List (Option TxStop)
+leads s plan ms size = flat_map (lead_at plan ms size) (range_with_len 0 s.tribs)
+
+-- the beginning of a frame, in slot 0: it isn't scheduled; then, in frame 0, the leads
+abbrev pub beginning : FrameShape → Path → Plan → List Meaning → (ℕ → ℕ) → ℕ → ℕ → List (Option TxStop)
+beginning s path plan ms size n t =
+    (if t == 0 then some_if (nat_le (plan.frames path) n) (NoFrame path) ∷ (if n == 0 then leads s plan ms size else []) else [])
+
+-- the arrival of a bit of tributary j in slot t of frame n, if there is one: what stands in the way of the child's bit, then
+-- a full store
+abbrev pub arrival_at : FrameShape → Path → Plan → List Meaning → (ℕ → ℕ) → ℕ → ℕ → ℕ → List (Option TxStop)
+arrival_at s path plan ms size n t j =
+    (if arrives_at s (plan.counts path j n) t
+    then obstacle_of (slice_get ms j) plan size (came_before s (plan.counts path j) n t) ∷ some_if (overflows s j (plan.counts path j) n t) (Overflow (place_at path j n t)) ∷ []
+    else [])
+
+-- all arrivals of a slot, by tributary
+abbrev pub arrivals : FrameShape → Path → Plan → List Meaning → (ℕ → ℕ) → ℕ → ℕ → List (Option TxStop)
+arrivals s path plan ms size n t = flat_map (arrival_at s path plan ms size n t) (range_with_len 0 s.tribs)
+
+-- the read of a slot, after its arrivals
+abbrev pub reads : FrameShape → Path → Plan → ℕ → ℕ → List (Option TxStop)
+reads s path plan n t = map (λ j. some_if (underflows s j (plan.counts path j) n t) (Underflow (place_at path j n t))) (range_with_len 0 s.tribs)
+
+-- all of slot t of frame n, in order
+abbrev pub steps : FrameShape → Path → Plan → List Meaning → (ℕ → ℕ) → ℕ → ℕ → List (Option TxStop)
+steps s path plan ms size n t = beginning s path plan ms size n t ++ (arrivals s path plan ms size n t ++ reads s path plan n t)
+
+-- the first thing in the way of bit x, in step order
+abbrev pub node_obstacle : FrameShape → Path → List Meaning → Plan → (ℕ → ℕ) → ℕ → Option TxStop
+node_obstacle s path ms plan size x =
+    first_some (steps s path plan ms size (x / s.len) (x % s.len))
+
+-- ---- a node as a whole
+
+abbrev pub node_frame : FrameShape → Path → NodeFrame
+node_frame s path = record { path = path; len = s.len; tribs = s.tribs; low = s.low; locked = false }
+
+abbrev pub node_meaning : FrameShape → Path → List Meaning → Meaning
+node_meaning s path ms = record {
+  nodes = node_frame s path ∷ flat_map (λ m. m.nodes) ms;
+  leaves = any_leaf ms;
+  line = λ supply x. line_bit s (source_of path ms supply) x;
+  given = λ plan x k. given_by ms plan (λ j. taken s (plan.counts path j) x) k;
+  begins = λ x. (if x % s.len == 0 then Some (x / s.len) else None);
+  obstacle = node_obstacle s path ms;
+}
+
+-- ---- the state of a node's tributaries
+
+-- each tributary has made and read so many bits
+abbrev pub EachPlaced : {W : Type 0} → (W → Plan → ℕ → ℕ → Type 0) → List W → Plan → (ℕ → ℕ) → (ℕ → ℕ) → Type 0
+EachPlaced {W} placed ws plan made read = (j : ℕ) (w : W) → slice_get ws j ≡ Some w → placed w plan (made j) (read j)
+
+-- and what it holds is what this supply gives
+abbrev pub EachHeld : {W : Type 0} → (W → Supply → ℕ → ℕ → Type 0) → List W → Supply → (ℕ → ℕ) → (ℕ → ℕ) → Type 0
+EachHeld {W} held ws supply made read = (j : ℕ) (w : W) → slice_get ws j ≡ Some w → held w supply (made j) (read j)
+
+-- the nodes of each are nodes of a chain with these levels
+abbrev pub EachInChain : List Level → List Meaning → Type 0
+EachInChain levels ms = (j : ℕ) (m : Meaning) → slice_get ms j ≡ Some m → All (IsNodeOf levels) m.nodes
+
+-- how many bits have come of tributary j by slot t of frame n, where the first i tributaries have taken what arrives in it
+abbrev pub came_to : FrameShape → Path → Plan → ℕ → ℕ → ℕ → ℕ → ℕ
+came_to s path plan n t i j = (if nat_lt j i then came_before s (plan.counts path j) n (suc t) else came_before s (plan.counts path j) n t)
+
+-- how many bits of tributary j are read by slot t of frame n
+abbrev pub read_to : FrameShape → Path → Plan → ℕ → ℕ → ℕ → ℕ
+read_to s path plan n t j = read_before s j (plan.counts path j) n t
+
+-- how many bits of tributary j a node has taken that has made all bits before slot t of frame n: none before its first bit
+abbrev pub taken_to : FrameShape → Path → Plan → ℕ → ℕ → ℕ → ℕ
+taken_to s path plan n t j = (if (n == 0) && (t == 0) then 0 else came_before s (plan.counts path j) n t)
+
+-- the leads, where the first i tributaries have taken theirs
+abbrev pub led_to : ℕ → ℕ → ℕ
+led_to i j = (if nat_lt j i then lead else 0)
+
+-- one of these numbers is another
+abbrev pub set_at : (ℕ → ℕ) → ℕ → ℕ → ℕ → ℕ
+set_at made t x j = (if j == t then x else made j)
+
+-- what frame n brings and carries of a tributary with these counts
+pub record IsShare (s : FrameShape) (counts : ℕ → ℕ) (n : ℕ) (share : FrameShare) : Type 0 where
+  pub arriving : share.arriving ≡ counts n
+  pub fits : counts n ≤ s.len
+  pub more : share.more ≡ sends_more s counts n
+
+-- the decisions of frame n are made
+abbrev pub IsDecided : {W : Type 0} → (W → FrameShare) → FrameShape → Path → Plan → ℕ → List W → Type 0
+IsDecided {W} share s path plan n ws = (j : ℕ) (w : W) → slice_get ws j ≡ Some w → IsShare s (plan.counts path j) n (share w)
+
+-- ---- steps of a node
+
+-- the lists hold so many bits in all
+abbrev pub AllFit : List Meaning → Plan → (ℕ → ℕ) → Inputs → (ℕ → ℕ) → Type 0
+AllFit ms plan made inputs size = (k : ℕ) → any_leaf ms k ≡ true → size k ≡ given_by ms plan made k + inputs.left k
+
+-- some tributaries took more bits of their children, without a read
+pub record Moves {W : Type 0} (held : W → Supply → ℕ → ℕ → Type 0) (ms : List Meaning) (plan : Plan) (old new : List W) (made more read : ℕ → ℕ) (before after : Inputs) : Type 0 where
+  pub given : ℕ → List Bool
+  pub takes : Takes given before after
+  pub others : (k : ℕ) → any_leaf ms k ≡ false → given k ≡ []
+  pub exact : (k : ℕ) → any_leaf ms k ≡ true → given_by ms plan made k + length (given k) ≡ given_by ms plan more k
+  pub onward : (supply : Supply) → supply.plan ≡ plan → EachHeld held old supply made read → Agrees (any_leaf ms) supply.lists (given_by ms plan made) given → EachHeld held new supply more read
+
+-- they stopped on the way to so many bits
+pub record Stays (ms : List Meaning) (plan : Plan) (made most : ℕ → ℕ) (before after : Inputs) : Type 0 where
+  pub given : ℕ → List Bool
+  pub takes : Takes given before after
+  pub others : (k : ℕ) → any_leaf ms k ≡ false → given k ≡ []
+  pub no_more : (k : ℕ) → any_leaf ms k ≡ true → given_by ms plan made k + length (given k) ≤ given_by ms plan most k
+
+-- the tributaries went through all these steps, in whose way nothing stood
+pub record Advance {W : Type 0} (placed : W → Plan → ℕ → ℕ → Type 0) (held : W → Supply → ℕ → ℕ → Type 0) (ms : List Meaning) (plan : Plan) (old new : List W) (made more read : ℕ → ℕ)
+    (steps : (ℕ → ℕ) → List (Option TxStop)) (before after : Inputs) : Type 0 where
+  pub place : EachPlaced placed new plan more read
+  pub moves : Moves held ms plan old new made more read before after
+  pub free : (size : ℕ → ℕ) → AllFit ms plan made before size → first_some (steps size) ≡ None
+
+-- they stopped at the first of these steps in whose way something stood
+pub record Blocked (ms : List Meaning) (plan : Plan) (made most : ℕ → ℕ) (steps : (ℕ → ℕ) → List (Option TxStop)) (stop : TxStop) (before after : Inputs) (faults now : ℕ) : Type 0 where
+  pub stays : Stays ms plan made most before after
+  pub met : Met (AllFit ms plan made before) (λ size. first_some (steps size)) stop faults now
+
+-- ---- the bit of a slot
+
+-- the tributary whose bit a slot of this role carries, by what the frame carries of each
+abbrev pub carried_by : List FrameShare → Role → Option ℕ
+carried_by shares (Info j) = Some j
+carried_by shares (Just j) = (if (slice_index_or shares j (record { arriving = 0; more = false })).more then Some j else None)
+carried_by shares _ = None
+
+-- the bit of a slot that carries no tributary's
+abbrev pub overhead_bit : FrameShape → Service → Bool → List FrameShare → Role → Bool
+overhead_bit s say odd shares (Align signal) = signal
+overhead_bit s say odd shares (ServiceSlot number) = s.service number say odd
+overhead_bit s say odd shares (Control j copy) = not (slice_index_or shares j (record { arriving = 0; more = false })).more
+overhead_bit s say odd shares _ = true
+
+-- The tributaries made the bit of slot t of frame n, with all its steps, where the frame says `say` and `odd` is whether the
+-- information and justifiable slots of the frame before hold an odd number of ones.
+pub record MakesBit {W : Type 0} (placed : W → Plan → ℕ → ℕ → Type 0) (held : W → Supply → ℕ → ℕ → Type 0) (share : W → FrameShare) (ms : List Meaning) (s : FrameShape) (path : Path) (plan : Plan) (old new : List W) (n t : ℕ)
+    (say : Service) (odd bit : Bool) (before after : Inputs) : Type 0 where
+  pub given : ℕ → List Bool
+  pub takes : Takes given before after
+  pub others : (k : ℕ) → any_leaf ms k ≡ false → given k ≡ []
+  pub exact : (k : ℕ) → any_leaf ms k ≡ true → given_by ms plan (taken_to s path plan n t) k + length (given k) ≡ given_by ms plan (λ j. came_before s (plan.counts path j) n (suc t)) k
+  pub free : (size : ℕ → ℕ) → AllFit ms plan (taken_to s path plan n t) before size → first_some (steps s path plan ms size n t) ≡ None
+  pub place : EachPlaced placed new plan (λ j. came_before s (plan.counts path j) n (suc t)) (read_to s path plan n (suc t))
+  pub decided : IsDecided share s path plan n new
+  pub scheduled : n < plan.frames path
+  pub bounded : suc n < 2 ^ 64
+  pub onward : (supply : Supply) → supply.plan ≡ plan → EachHeld held old (below supply) (taken_to s path plan n t) (read_to s path plan n t) → supply.says n ≡ say → odd ≡ odd_before s (source_of path ms supply) n
+      → Agrees (any_leaf ms) supply.lists (given_by ms plan (taken_to s path plan n t)) given
+      → (bit ≡ slot_bit s (source_of path ms supply) n t (s.role t)) × EachHeld held new (below supply) (λ j. came_before s (plan.counts path j) n (suc t)) (read_to s path plan n (suc t))
+
+-- an information or a justifiable slot
+abbrev pub is_payload : Role → Bool
+is_payload (Info j) = true
+is_payload (Just j) = true
+is_payload _ = false
+
+-- the information and justifiable slots of frame n below slot t hold an odd number of ones
+abbrev pub odd_within : FrameShape → Source → ℕ → ℕ → Bool
+odd_within s source n t = count_by (λ t. payload_bit s source n t (s.role t)) (range_with_len 0 t) % 2 == 1

@@ -1,0 +1,79 @@
+ghost use Rattle.std.specs.Prelude.{◌≡◌, All, IfOk, length, map};
+ghost use Rattle.pdh_shape.specs.Frame.{idle};
+ghost use Rattle.pdh_tx.specs.Meaning.{IsFresh};
+ghost use Rattle.pdh_tx.specs.Leaf.{leaf_meaning, leaf_meanings, leaf_grows};
+
+use crate::{Tx, TxStop};
+use pdh_clock::Schedule;
+use pdh_edge::{Feed, FeedStop};
+use std::alloc::{AllocError, Global};
+
+/// Passes the bits of one leaf of a feed.
+#[derive(Drop)]
+pub struct Leaf {
+    leaf: u32,
+    stopped: bool,
+}
+
+impl Leaf {
+    /// Passes the bits of this leaf.
+    pub fn new(leaf: u32) -> Leaf
+        ensures meaning { ⟦<Leaf as Tx>⟧.meaning result ≡ leaf_meaning leaf }
+        ensures fresh { IsFresh ⟦<Leaf as Tx>⟧.stands_at ⟦<Leaf as Tx>⟧.stands_for
+            ⟦<Leaf as Tx>⟧.says ⟦<Leaf as Tx>⟧.is_stopped result }
+    {
+        Leaf {
+            leaf,
+            stopped: false,
+        }
+    }
+}
+
+/// So many leaves, numbered from 0; or the refusal of memory for them.
+pub fn leaves(alloc: Global, count: u8) -> Result<Vec<Leaf>, AllocError>
+    ensures count { IfOk result (λ leaves. length leaves.items ≡ count) }
+    ensures meaning { IfOk result (λ leaves. map ⟦<Leaf as Tx>⟧.meaning leaves.items ≡ leaf_meanings count) }
+    ensures fresh { IfOk result (λ leaves. All (IsFresh ⟦<Leaf as Tx>⟧.stands_at
+        ⟦<Leaf as Tx>⟧.stands_for ⟦<Leaf as Tx>⟧.says ⟦<Leaf as Tx>⟧.is_stopped) leaves.items) }
+{
+    let mut leaves = Vec::with_capacity(alloc, usize::from(count))?;
+    for leaf in 0..count {
+        leaves.push(Leaf {
+            leaf: u32::from(leaf),
+            stopped: false,
+        })?;
+    }
+    Ok(leaves)
+}
+
+impl Tx for Leaf {
+    ghost stands_at = { λ t plan x. Unit {0} };
+
+    ghost stands_for = { λ t supply x. Unit {0} };
+
+    ghost meaning = { λ t. leaf_meaning t.leaf };
+
+    ghost says = { λ t. idle };
+
+    ghost is_stopped = { λ t. t.stopped };
+
+    ghost grows = { λ t. leaf_grows t.leaf };
+
+    fn stopped(&self) -> bool {
+        self.stopped
+    }
+
+    fn next<F: Feed>(&mut self, _clock: &Schedule, feed: &mut F) -> Result<bool, TxStop> {
+        match feed.bit(self.leaf) {
+            Ok(bit) => Ok(bit),
+            Err(FeedStop::Failed) => {
+                self.stopped = true;
+                Err(TxStop::Failed)
+            }
+            Err(FeedStop::Ended) => {
+                self.stopped = true;
+                Err(TxStop::Ended { leaf: self.leaf })
+            }
+        }
+    }
+}

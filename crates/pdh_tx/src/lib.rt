@@ -1,0 +1,19 @@
+//! Multiplexers that make a line bit by bit: a tree of nodes, each with an elastic store for each of
+//! its tributaries, over leaves that pass the bits of a feed.
+#![tactic(auto)]
+
+mod arrivals;
+mod beginning;
+mod bits;
+mod leaf;
+mod node;
+mod position;
+mod slots;
+#[cfg(test)]
+mod tests;
+mod tributary;
+mod tx;
+
+pub use leaf::{Leaf, leaves};
+pub use node::Node;
+pub use tx::{Tx, TxStop};

@@ -1,0 +1,50 @@
+ghost use Rattle.std.specs.Prelude.{◌≡◌, ◌<◌, ◌^◌, suc};
+ghost use Rattle.pdh_tx.specs.Node.{is_payload as is_payload_role};
+ghost use Rattle.pdh_tx.specs.Stepping.{Follows};
+ghost use Rattle.pdh_tx.specs.NodeState.{KeepsParity};
+
+use pdh_shape::{Role, Shape};
+
+/// The slot before which a node stands, and the parities of its information and justifiable slots.
+#[derive(Clone, Copy, Debug, PartialEq, Eq)]
+pub struct Position {
+    /// The number of the frame, counted from 0.
+    pub frame: u64,
+    /// The number of the slot in the frame.
+    pub slot: u32,
+    /// Whether the frame before holds an odd number of ones.
+    pub last_odd: bool,
+    /// Whether this frame so far holds an odd number of ones.
+    pub is_odd: bool,
+}
+
+// Whether a slot of this role is an information or a justifiable slot.
+fn is_payload(role: Role) -> bool
+    ensures { result ≡ is_payload_role role }
+{
+    matches!(role, Role::Info(_) | Role::Just(_))
+}
+
+/// The position after the bit of a slot.
+pub fn after<S: Shape>(at: Position, bit: bool) -> Position
+    requires slot { at.slot < S.LEN }
+    requires bounded { suc at.frame < 2 ^ 64 }
+    ensures follows { Follows S.shape at.frame at.slot result.frame result.slot }
+    ensures parity { KeepsParity S.shape bit at result }
+{
+    let is_odd = at.is_odd ^ (bit & is_payload(S::role(at.slot)));
+    if at.slot + 1 == S::LEN {
+        return Position {
+            frame: at.frame + 1,
+            slot: 0,
+            last_odd: is_odd,
+            is_odd: false,
+        };
+    }
+    Position {
+        frame: at.frame,
+        slot: at.slot + 1,
+        last_odd: at.last_odd,
+        is_odd,
+    }
+}

@@ -1,0 +1,99 @@
+ghost use Rattle.std.specs.Prelude.{◌≡◌, ◌<◌, ℕ, false, IsTrue, All, IfOk};
+ghost use Rattle.pdh_shape.specs.Sets.{e2};
+ghost use Rattle.pdh_tx.specs.Meaning.{plan_of, IsNodeOf, HoldsAll, IsFresh};
+ghost use Rattle.pdh_tx.specs.Leaf.{leaf_meanings};
+ghost use Rattle.pdh_tx.specs.Node.{node_meaning};
+
+use crate::{Leaf, Node, Tx, TxStop, leaves};
+use pdh_clock::Schedule;
+use pdh_edge::{Feed, MemPort};
+use pdh_shape::{E2, Level, Path};
+use std::alloc::{AllocError, Global};
+use std::test::Fail;
+
+const TOP: Path = Path {
+    depth: 0,
+    first: 0,
+    second: 0,
+};
+
+// The level of four streams of 2048 kbit/s in one of 8448 kbit/s.
+const E12: Level = Level {
+    len: 848,
+    tribs: 4,
+    low: 205,
+    locked: false,
+    rate: 8_448_000,
+    per: 1,
+    ppm: 30,
+    trib_rate: 2_048_000,
+    trib_per: 1,
+    trib_ppm: 50,
+};
+
+// A multiplexer of the leaves 0 to 3.
+fn node(alloc: Global) -> Result<Node<E2, Leaf>, AllocError>
+    ensures meaning { IfOk result (λ node. ⟦<Node<E2, Leaf> as Tx>⟧.meaning node
+        ≡ node_meaning e2 (record { depth = 0; first = 0; second = 0 })
+        (leaf_meanings 4)) }
+    ensures fresh { IfOk result (IsFresh ⟦<Node<E2, Leaf> as Tx>⟧.stands_at
+        ⟦<Node<E2, Leaf> as Tx>⟧.stands_for ⟦<Node<E2, Leaf> as Tx>⟧.says
+        ⟦<Node<E2, Leaf> as Tx>⟧.is_stopped) }
+{
+    Node::open(alloc, TOP, leaves(alloc, 4)?)
+}
+
+// A feed of zeros, as many as a frame with counts of 205 enters.
+fn zeros(alloc: Global) -> Result<MemPort, AllocError>
+    ensures { IfOk result (λ feed. (k : ℕ) → k < 4
+        → IsTrue ((⟦<MemPort as Feed>⟧.inputs feed).holds k)) }
+{
+    let mut lists = Vec::new(alloc);
+    lists.push(vec![in alloc; false; 229]?)?;
+    lists.push(vec![in alloc; false; 229]?)?;
+    lists.push(vec![in alloc; false; 229]?)?;
+    lists.push(vec![in alloc; false; 229]?)?;
+    MemPort::open(alloc, lists, 0)
+}
+
+// Makes bits, up to so many or to the first stop.
+fn make_bits<T: Tx, F: Feed>(
+    alloc: Global,
+    tx: &mut T,
+    clock: &Schedule,
+    feed: &mut F,
+    most: u32,
+) -> Result<(Vec<bool>, Option<TxStop>), AllocError>
+    requires running { T.is_stopped tx.old ≡ false }
+    requires lists { HoldsAll (T.meaning tx.old).leaves (F.inputs feed.old) }
+    requires nodes { All (IsNodeOf clock.now.levels) (T.meaning tx.old).nodes }
+    requires stands { (x : ℕ) × T.stands_at tx.old (plan_of clock.now) x }
+{
+    let mut line = Vec::new(alloc);
+    for _made in 0..most {
+        match tx.next(clock, feed) {
+            Ok(bit) => line.push(bit)?,
+            Err(stop) => return Ok((line, Some(stop))),
+        }
+    }
+    Ok((line, None))
+}
+
+#[test]
+fn frame_of_zeros(rt: HostRuntime) -> Result<(), Fail> {
+    let alloc = rt.alloc();
+    let clock = Schedule::read(alloc, &[E12], b"/ 1 205 205 205 205\n")?;
+    let mut feed = zeros(alloc)?;
+    let mut node = node(alloc)?;
+    assert_eq!(rt; node.fill(0), 0);
+    let (line, stop) = make_bits(alloc, &mut node, &clock, &mut feed, 1000)?;
+    assert_eq!(rt; line.len(), 848);
+    let ones = [0, 1, 2, 3, 5, 11];
+    for (slot, bit) in line.iter().enumerate() {
+        assert_eq!(rt; *bit, ones.contains(&slot), "slot {slot}");
+    }
+    assert_eq!(rt; stop, Some(TxStop::NoFrame { node: TOP }));
+    assert!(rt; node.stopped());
+    assert_eq!(rt; node.fill(0), 23);
+    Ok(())
+}

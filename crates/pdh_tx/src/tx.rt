@@ -1,0 +1,77 @@
+ghost use Rattle.std.specs.Prelude.{◌≡◌, ◌≤◌, ℕ, suc, Bool, true, false, All, IfOk, OnOk, IfErr, OnErr};
+ghost use Rattle.pdh_shape.specs.declared.role.Service.{Service};
+ghost use Rattle.pdh_tx.specs.Meaning.{Supply, Plan, plan_of, Meaning, IsNodeOf, HoldsAll, Makes, Stops};
+
+use pdh_clock::Schedule;
+use pdh_edge::Feed;
+use pdh_shape::{Path, Place};
+
+/// Why a line has no next bit.
+#[derive(Clone, Copy, Debug, PartialEq, Eq)]
+pub enum TxStop {
+    /// A bit arrives at a full store.
+    Overflow(Place),
+    /// A bit is read of an empty store.
+    Underflow(Place),
+    /// The schedule has no more frames of a node.
+    NoFrame { node: Path },
+    /// The feed failed.
+    Failed,
+    /// A leaf's list is used up.
+    Ended { leaf: u32 },
+}
+
+/// Makes a line, bit by bit. A bit's steps come in this order: in slot 0 of a frame it is judged
+/// whether the frame is scheduled; in slot 0 of frame 0 the tributaries in order take their leads; in
+/// slot 0 the frame's decisions are made; each tributary in order takes the bit that arrives in the
+/// slot, if there is one; and the slot's bit is made, with a read of a store where it carries a
+/// tributary's bit. Where a tributary is a multiplexer, taking its next bit makes that bit with all
+/// its steps.
+pub trait Tx: Drop {
+    /// The state has made so many bits by this schedule.
+    ghost stands_at: { Self → Plan → ℕ → Type 0 };
+
+    /// What the state holds after so many bits is what this schedule, these lists and these service
+    /// bits give. What the lists have past the bits that were taken, and what is said past the frames
+    /// that were begun, doesn't matter.
+    ghost stands_for: { Self → Supply → ℕ → Type 0 };
+
+    /// Its line, and what making it takes and meets.
+    ghost meaning: { Self → Meaning };
+
+    /// What the service bits of the next frame that it begins say.
+    ghost says: { Self → Service };
+
+    /// A call of `next` has met an error.
+    ghost is_stopped: { Self → Bool };
+
+    /// Whether a call of `next` has met an error, so that no more may be made.
+    fn stopped(&self) -> bool
+        ensures { result ≡ is_stopped self.now };
+
+    /// Makes the next bit of the line, or answers what stands first in the way of it: Failed only
+    /// where the feed's count of faults rose, and any other stop exactly where it is the first.
+    fn next<F: Feed>(&mut self, clock: &Schedule, feed: &mut F) -> Result<bool, TxStop>
+        requires running { is_stopped self.old ≡ false }
+        requires lists { HoldsAll (meaning self.old).leaves (F.inputs feed.old) }
+        requires nodes { All (IsNodeOf clock.now.levels) (meaning self.old).nodes }
+        requires stands { (x : ℕ) × stands_at self.old (plan_of clock.now) x }
+        ensures made { IfOk result (λ bit. (x : ℕ) → stands_at self.old (plan_of clock.now) x
+            → Makes (meaning self.old) (says self.old) (stands_at self.new (plan_of clock.now))
+            (stands_for self.old) (stands_for self.new) (plan_of clock.now) x bit
+            (F.inputs feed.old) (F.inputs feed.new)) }
+        ensures stops { IfErr result (λ stop. (x : ℕ) → stands_at self.old (plan_of clock.now) x
+            → Stops (meaning self.old) (plan_of clock.now) x stop
+            (F.inputs feed.old) (F.inputs feed.new)
+            (F.feed_faults feed.old) (F.feed_faults feed.new)) }
+        ensures running { OnOk result (is_stopped self.new ≡ false) }
+        ensures stopped { OnErr result (is_stopped self.new ≡ true) }
+        ensures later { F.feed_faults feed.old ≤ F.feed_faults feed.new }
+        ensures fed { F.fed feed.old feed.new }
+        ensures same { meaning self.new ≡ meaning self.old }
+        ensures same_says { says self.new ≡ says self.old };
+
+    /// A longer line takes no fewer bits.
+    ghost grows: { (t : Self) (plan : Plan) (x k : ℕ)
+        → (meaning t).given plan x k ≤ (meaning t).given plan (suc x) k };
+}
