@@ -1,0 +1,5 @@
+pub mod TrackingLaws
+pub mod AligningLaws
+pub mod SignalLaws
+pub mod Turns
+pub mod ReadyFrames

@@ -1,0 +1,82 @@
+-- What an alignment machine holds, what it stands for, and what each of its steps says of the tracking.
+use Rattle.std.specs.Prelude.{◌≡◌, ℕ, suc, ◌-◌, ◌*◌, Bool, true, false, nat_lt, if◌then◌else◌, List, [], ◌∷◌, ◌++◌, length, map, drop}
+use Rattle.std.specs.List.{slice_index_or}
+use Rattle.pdh_align.specs.declared.step.Step.{Step}
+use Rattle.pdh_align.specs.declared.step.Step.TheVariants.{Nothing, Rejected, Aligned, Frame, Lost}
+use Rattle.pdh_shape.specs.declared.role.Marks.{Marks}
+use Rattle.pdh_shape.specs.Frame.{FrameShape, wrong, clean}
+use Rattle.pdh_line.specs.Tracking.{Piece, frame_of, is_confirmed, positions, is_found, aligned, marks_back, delivered, is_lost, after_loss, track}
+use Rattle.pdh_line.specs.Tracking.Piece.{Gap, Delivered}
+
+-- what an aligner holds: in a search the bits from the oldest position on that is not yet rejected; in an alignment
+-- what was wrong in the last three frames, and the bits that came since the last whole frame
+pub data Phase : Type 0 where
+  Searching : List Bool → Phase
+  Tracking : Marks → Marks → Marks → List Bool → Phase
+
+-- what an aligner holds of the bits since its search began
+abbrev pub Describes : FrameShape → Phase → List Bool → Type 0
+Describes s (Searching held) line = (is_found s line ≡ false) × (held ≡ drop (positions s line) line)
+Describes s (Tracking a b c part) line =
+    (is_found s line ≡ true) × (is_lost s line ≡ false) × (a ≡ marks_back s (aligned s line) (delivered s line) 3)
+    × (b ≡ marks_back s (aligned s line) (delivered s line) 2) × (c ≡ marks_back s (aligned s line) (delivered s line) 1)
+    × (part ≡ after_loss s line)
+
+-- the state stands for the received bits: some pieces are settled, whatever comes, and it describes the bits after them
+pub record StandsFor (s : FrameShape) (phase : Phase) (line : List Bool) : Type 0 where
+  pub settled : List Piece
+  pub since : List Bool
+  pub splits : (more : List Bool) → track s (line ++ more) ≡ settled ++ track s (since ++ more)
+  pub describes : Describes s phase since
+
+-- how the pieces grow in a step that makes these frames ready
+abbrev pub Grows : Step → List (List Bool) → List Piece → List Piece → Type 0
+Grows Nothing ready before after = (ready ≡ []) × (after ≡ before)
+Grows Rejected ready before after = (others : List Piece) × (n : ℕ) × (ready ≡ []) × (before ≡ others ++ Gap n ∷ []) × (after ≡ others ++ Gap (suc n) ∷ [])
+Grows Aligned ready before after = (others : List Piece) × (n : ℕ) × (length ready ≡ 3) × (before ≡ others ++ Gap n ∷ []) × (after ≡ before ++ map Delivered ready)
+Grows Frame ready before after = (length ready ≡ 1) × (after ≡ before ++ map Delivered ready)
+Grows Lost ready before after = (ready ≡ []) × (after ≡ before ++ Gap 0 ∷ [])
+
+-- what an aligner does with a bit
+pub record Turn : Type 0 where
+  pub phase : Phase
+  pub step : Step
+  pub ready : List (List Bool)
+
+unfoldable pub turn : FrameShape → Phase → Bool → Turn
+turn s (Searching held) bit =
+    let now = held ++ bit ∷ [] in
+    (if nat_lt (length now) (3 * s.len) then record { phase = Searching now; step = Nothing; ready = [] }
+    else (if is_confirmed s now then record { phase = Tracking (clean) (clean) (clean) []; step = Aligned; ready = map (frame_of s now) (0 ∷ 1 ∷ 2 ∷ []) }
+    else record { phase = Searching (drop 1 now); step = Rejected; ready = [] }))
+turn s (Tracking a b c part) bit =
+    let now = part ++ bit ∷ [] in
+    (if nat_lt (length now) s.len then record { phase = Tracking a b c now; step = Nothing; ready = [] }
+    else (if s.loses a b c (wrong s now) then record { phase = Searching now; step = Lost; ready = [] }
+    else record { phase = Tracking b c (wrong s now) []; step = Frame; ready = now ∷ [] }))
+
+-- what contracts see of an aligner: what it holds, and the frames that its last step made ready
+pub record Held : Type 0 where
+  pub phase : Phase
+  pub ready : List (List Bool)
+
+-- the frame that stands so many frames before the newest of the ready ones
+abbrev pub frame_back : List (List Bool) → ℕ → List Bool
+frame_back ready back = slice_index_or ready (length ready - suc back) []
+
+-- how many frames a step makes ready
+abbrev pub frames_gained : Step → ℕ
+frames_gained Aligned = 3
+frames_gained Frame = 1
+frames_gained _ = 0
+
+-- the aligner's last step is what its definition says of the bit
+pub record Turns (s : FrameShape) (before after : Held) (bit : Bool) (step : Step) : Type 0 where
+  pub phase : after.phase ≡ (turn s before.phase bit).phase
+  pub step_is : step ≡ (turn s before.phase bit).step
+  pub ready : after.ready ≡ (turn s before.phase bit).ready
+
+-- whatever line the state before stood for, the state after stands for it with the bit added, and the step is what its tracking gained
+pub record Tracks (s : FrameShape) (before after : Held) (bit : Bool) (step : Step) (line : List Bool) : Type 0 where
+  pub stands : StandsFor s after.phase (line ++ bit ∷ [])
+  pub grows : Grows step after.ready (track s line) (track s (line ++ bit ∷ []))

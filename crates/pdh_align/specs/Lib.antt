@@ -1,0 +1,3 @@
+pub mod Signals
+pub mod Aligning
+pub mod View

@@ -1,0 +1,40 @@
+-- What the fields of an aligner stand for.
+use Rattle.std.specs.Prelude.{◌≡◌, ◌⊎◌, ℕ, ◌*◌, ◌/◌, ◌<◌, Bool, true, false, cond, List, [], length, map, take, drop}
+use Rattle.std.specs.List.{range_with_len, slice_index_or}
+use Rattle.circular_buffer.specs.Buffer.{Buffer}
+use Rattle.pdh_shape.specs.declared.role.Marks.{Marks}
+use Rattle.pdh_shape.specs.Frame.{FrameShape, clean, wrong}
+use Rattle.pdh_align.specs.declared.signals.Signal.{Signal}
+use Rattle.pdh_align.specs.Signals.{AreSignals}
+use Rattle.pdh_align.specs.Aligning.{Phase, Held, frame_back}
+use Rattle.pdh_align.specs.Aligning.Phase.{Searching, Tracking}
+
+-- frame k of the bits that are held
+abbrev pub held_frame : ℕ → List Bool → ℕ → List Bool
+held_frame len bits k = take len (drop (k * len) bits)
+
+-- what is held: the bits that the last step made ready are no longer part of a frame to come
+abbrev pub phase_of : Bool → Bool → List Marks → List Bool → Phase
+phase_of searching fresh before bits =
+    cond searching (Searching bits) (Tracking (slice_index_or before 0 clean) (slice_index_or before 1 clean) (slice_index_or before 2 clean) (cond fresh [] bits))
+
+abbrev pub ready_of : ℕ → Bool → List Bool → List (List Bool)
+ready_of len fresh bits = cond fresh (map (held_frame len bits) (range_with_len 0 (length bits / len))) []
+
+abbrev pub held_of : ℕ → Bool → Bool → List Marks → List Bool → Held
+held_of len searching fresh before bits = record { phase = phase_of searching fresh before bits; ready = ready_of len fresh bits }
+
+-- what holds of the fields between two calls
+pub record HoldsEnough (s : FrameShape) (len : ℕ) (searching fresh : Bool) (signals : List Signal) (held : Buffer Bool) (before : List Marks) : Type 0 where
+  pub judges : AreSignals s signals
+  -- room for three frames
+  pub room : held.capacity ≡ 3 * len
+  pub three : length before ≡ 3
+  -- a search holds less than three frames, and makes no frame ready
+  pub search : searching ≡ true → length held.items < 3 * len
+  pub idle : searching ≡ true → fresh ≡ false
+  -- an alignment holds less than a frame, beside the frames that are ready
+  pub part : searching ≡ false → fresh ≡ false → length held.items < len
+  pub whole : fresh ≡ true → (length held.items ≡ len) ⊎ (length held.items ≡ 3 * len)
+  -- the last marks are those of the newest ready frame
+  pub newest : fresh ≡ true → slice_index_or before 2 clean ≡ wrong s (frame_back (ready_of len fresh held.items) 0)

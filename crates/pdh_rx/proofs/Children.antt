@@ -1,0 +1,129 @@
+-- One bit for one child: what all the children then stand for, and what leaves have got.
+use Rattle.std.proofs.Common.{◌≡◌, ◌⊎◌, inl, inr, ℕ, zero, suc, Bool, true, false, IsTrue, ◌||◌, List, [], ◌∷◌, ◌++◌, cond, refl, sym, ◌∙◌, ap, subst, arith, Some, slice_get, slice_set, eq-eqb}
+use Rattle.std.proofs.lemmas.List.{append-nil}
+use Rattle.std.proofs.lemmas.Bool.{cases_Bool, cases_eq, ne_eqb}
+use Rattle.pdh_edge.specs.Ports.{Outputs, only}
+use Rattle.pdh_rx.specs.Meaning.{Meaning, IsSound, Gains, GainsPart}
+use Rattle.pdh_rx.specs.Node.{EachStands, IsDisjoint, any_leaf, got_by, with_more}
+use Rattle.pdh_rx.specs.NodeLaws.{got_by_same}
+
+-- what lies at j after a write at i
+slice_get_set : {C : Type 0} (xs : List C) (i j : ℕ) (y c : C) → slice_get (slice_set xs i y) j ≡ Some c → ((j ≡ i) × (y ≡ c)) ⊎ ((j ≡ i → ⊥) × (slice_get xs j ≡ Some c))
+slice_get_set [] i j y c e = absurd (no e)
+  where
+    no : slice_get [] j ≡ Some c → ⊥
+    no h = cc
+slice_get_set (x ∷ xs) zero zero y c e = inl (refl, cc)
+slice_get_set (x ∷ xs) zero (suc j) y c e = inr ((λ h. omega arith), e)
+slice_get_set (x ∷ xs) (suc i) zero y c e = inr ((λ h. omega arith), e)
+slice_get_set (x ∷ xs) (suc i) (suc j) y c e = elim (slice_get_set xs i j y c e) [
+  | inl p ↦ inl (ap suc p.0, p.1)
+  | inr p ↦ inr ((λ h. p.0 (omega arith)), p.1)
+]
+
+-- a line with one bit more, and the others
+only_here : (lines : ℕ → List Bool) (t : ℕ) (b : Bool) → with_more lines (only t b) t ≡ lines t ++ b ∷ []
+only_here lines t b = ap (λ v. lines t ++ cond v (b ∷ []) []) (eq-eqb t t refl)
+
+only_elsewhere : (lines : ℕ → List Bool) (t : ℕ) (b : Bool) (j : ℕ) → (j ≡ t → ⊥) → with_more lines (only t b) j ≡ lines j
+only_elsewhere lines t b j ne = ap (λ v. lines j ++ cond v (b ∷ []) []) (ne_eqb j t ne) ∙ append-nil (lines j)
+
+pub each_with_bit : {C : Type 0} (stands : C → List Bool → Type 0) (cs : List C) (lines : ℕ → List Bool) (t : ℕ) (b : Bool) (new : C) → EachStands stands cs lines → stands new (lines t ++ b ∷ []) → EachStands stands (slice_set cs t new) (with_more lines (only t b))
+each_with_bit {C = C} stands cs lines t b new each at j c e = elim (slice_get_set cs t j new c e) [
+  | inl p ↦
+      let P : ℕ → Type 0 = λ v. stands c (with_more lines (only t b) v) in
+      let Q : List Bool → Type 0 = stands c in
+      let N : C → Type 0 = λ v. stands v (lines t ++ b ∷ []) in
+      subst P (sym p.0) (subst Q (sym (only_here lines t b)) (subst N p.1 at))
+  | inr p ↦ let Q : List Bool → Type 0 = stands c in subst Q (sym (only_elsewhere lines t b j p.0)) (each j c p.1)
+]
+
+-- a child's leaf is a leaf of all
+pub leaf_of_all : (ms : List Meaning) (t : ℕ) (m : Meaning) (k : ℕ) → slice_get ms t ≡ Some m → IsTrue (m.leaves k) → IsTrue (any_leaf ms k)
+leaf_of_all [] t m k e h = absurd (no e)
+  where
+    no : slice_get {X = Meaning} [] t ≡ Some m → ⊥
+    no h = cc
+leaf_of_all (x ∷ ms) zero m k e h =
+    let same : m ≡ x = cc in
+    let P : Meaning → Type 0 = λ v. IsTrue (v.leaves k) in
+    left (x.leaves k) (any_leaf ms k) (subst P same h)
+  where
+    left : (a b : Bool) → IsTrue a → IsTrue (a || b)
+    left true b h = h
+    left false b h = absurd (no h)
+      where
+        no : false ≡ true → ⊥
+        no h = cc
+leaf_of_all (x ∷ ms) (suc t) m k e h = right (x.leaves k) (any_leaf ms k) (leaf_of_all ms t m k e h)
+  where
+    right : (a b : Bool) → IsTrue b → IsTrue (a || b)
+    right true b h = refl
+    right false b h = h
+
+cond_step : (b : Bool) (x y x' y' more : List Bool) → (b ≡ true → x ≡ x' ++ more) → (b ≡ false → y ≡ y' ++ more) → cond b x y ≡ cond b x' y' ++ more
+cond_step true x y x' y' more f g = f refl
+cond_step false x y x' y' more f g = g refl
+
+-- the children behind the first are apart too
+disjoint_behind : (m : Meaning) (ms : List Meaning) → IsDisjoint (m ∷ ms) → IsDisjoint ms
+disjoint_behind m ms dis i j k a b ea eb ha hb = let e : suc i ≡ suc j = dis (suc i) (suc j) k a b ea eb ha hb in omega arith
+
+-- the lines behind the first
+behind : (lines : ℕ → List Bool) (t : ℕ) (b : Bool) (j : ℕ) → with_more lines (only (suc t) b) (suc j) ≡ with_more (λ i. lines (suc i)) (only t b) j
+behind lines t b j = elim (cases_eq j t) [
+  | inl e ↦ let P : ℕ → Type 0 = λ v. with_more lines (only (suc t) b) (suc v) ≡ with_more (λ i. lines (suc i)) (only t b) v in
+      subst P (sym e) (only_here lines (suc t) b ∙ sym (only_here (λ i. lines (suc i)) t b))
+  | inr ne ↦ only_elsewhere lines (suc t) b (suc j) (λ h. ne (omega arith)) ∙ sym (only_elsewhere (λ i. lines (suc i)) t b j ne)
+]
+
+-- one more bit for one child
+got_step : (ms : List Meaning) (lines : ℕ → List Bool) (t : ℕ) (b : Bool) (m : Meaning) → slice_get ms t ≡ Some m → IsDisjoint ms
+    → (more : ℕ → List Bool) → ((k : ℕ) → m.leaves k ≡ false → more k ≡ [])
+    → ((k : ℕ) → m.got (lines t ++ b ∷ []) k ≡ m.got (lines t) k ++ more k)
+    → (k : ℕ) → got_by ms (with_more lines (only t b)) k ≡ got_by ms lines k ++ more k
+got_step [] lines t b m e dis more elsewhere gained k = absurd (no e)
+  where
+    no : slice_get {X = Meaning} [] t ≡ Some m → ⊥
+    no h = cc
+got_step (x ∷ ms) lines zero b m e dis more elsewhere gained k =
+    let same : m ≡ x = cc in
+    let P : Meaning → Type 0 = λ v. v.leaves k ≡ false → more k ≡ [] in
+    let Q : Meaning → Type 0 = λ v. v.got (lines 0 ++ b ∷ []) k ≡ v.got (lines 0) k ++ more k in
+    let none : x.leaves k ≡ false → more k ≡ [] = subst P same (elsewhere k) in
+    let here : x.got (lines 0 ++ b ∷ []) k ≡ x.got (lines 0) k ++ more k = subst Q same (gained k) in
+    cond_step (x.leaves k) _ _ _ _ (more k)
+    (λ h. ap (λ v. x.got v k) (only_here lines 0 b) ∙ here)
+    (λ h. got_by_same ms _ _ (λ j. only_elsewhere lines 0 b (suc j) (λ z. omega arith)) k
+    ∙ sym (append-nil _) ∙ ap (λ v. got_by ms (λ j. lines (suc j)) k ++ v) (sym (none h)))
+got_step (x ∷ ms) lines (suc t) b m e dis more elsewhere gained k =
+    cond_step (x.leaves k) _ _ _ _ (more k)
+    (λ h. ap (λ v. x.got v k) (only_elsewhere lines (suc t) b 0 (λ z. omega arith)) ∙ sym (append-nil _) ∙ ap (λ v. x.got (lines 0) k ++ v) (sym (none h)))
+    (λ h. got_by_same ms _ _ (behind lines t b) k ∙ got_step ms (λ j. lines (suc j)) t b m e (disjoint_behind x ms dis) more elsewhere gained k)
+  where
+    none : x.leaves k ≡ true → more k ≡ []
+    none h = elim (cases_Bool (m.leaves k)) [
+      | inl both ↦ let z : 0 ≡ suc t = dis 0 (suc t) k x m refl e h both in absurd (omega arith)
+      | inr apart ↦ elsewhere k apart
+    ]
+
+-- the bits that came to no leaf of a meaning's are none
+more_elsewhere : (m : Meaning) → IsSound m → (l l' : List Bool) (more : ℕ → List Bool) → ((k : ℕ) → m.got l' k ≡ m.got l k ++ more k) → (k : ℕ) → m.leaves k ≡ false → more k ≡ []
+more_elsewhere m s l l' more h k e = sym (ap (λ v. v ++ more k) (s.elsewhere l k e)) ∙ sym (h k) ∙ s.elsewhere l' k e
+
+-- what a child's push did, as seen from all the children
+pub gains_of_one : (ms : List Meaning) (lines : ℕ → List Bool) (t : ℕ) (b : Bool) (m : Meaning) → slice_get ms t ≡ Some m → IsDisjoint ms → IsSound m → (old new : Outputs)
+    → Gains (m.got (lines t)) (m.got (lines t ++ b ∷ [])) old new → Gains (got_by ms lines) (got_by ms (with_more lines (only t b))) old new
+gains_of_one ms lines t b m e dis s old new p = record {
+  more = p.more;
+  gained = got_step ms lines t b m e dis p.more (more_elsewhere m s _ _ p.more p.gained) p.gained;
+  puts = p.puts;
+}
+
+pub part_of_one : (ms : List Meaning) (lines : ℕ → List Bool) (t : ℕ) (b : Bool) (m : Meaning) → slice_get ms t ≡ Some m → IsDisjoint ms → IsSound m → (old new : Outputs)
+    → GainsPart (m.got (lines t)) (m.got (lines t ++ b ∷ [])) old new → GainsPart (got_by ms lines) (got_by ms (with_more lines (only t b))) old new
+part_of_one ms lines t b m e dis s old new p = record {
+  more = p.more;
+  gained = got_step ms lines t b m e dis p.more (more_elsewhere m s _ _ p.more p.gained) p.gained;
+  puts = p.puts;
+}

@@ -1,0 +1,7 @@
+pub mod Children
+pub mod Gains
+pub mod SlotBits
+pub mod Ones
+pub mod NodeSteps
+pub mod StepBits
+pub mod NumberedLeaves

@@ -1,0 +1,5 @@
+pub mod Meaning
+pub mod Tail
+pub mod Growth
+pub mod Node
+pub mod NodeLaws

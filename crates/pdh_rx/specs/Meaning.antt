@@ -1,0 +1,33 @@
+-- What a tree of demultiplexers gives, by the list of received bits.
+use Rattle.std.specs.Prelude.{◌≡◌, ℕ, Bool, false, IsTrue, List, [], ◌++◌, Option}
+use Rattle.pdh_shape.specs.declared.place.Path.{Path}
+use Rattle.pdh_edge.specs.Ports.{Outputs, Puts, PutsPart, IsPrefix}
+
+pub record Meaning : Type 0 where
+  -- its path, where it is a node
+  pub path : Option Path
+  -- the leaves that it puts bits to
+  pub leaves : ℕ → Bool
+  -- what each leaf has got, by these received bits
+  pub got : List Bool → ℕ → List Bool
+
+-- more received bits only add, and only leaves get bits
+pub record IsSound (m : Meaning) : Type 0 where
+  pub grows : (line more : List Bool) (k : ℕ) → IsPrefix (m.got line k) (m.got (line ++ more) k)
+  pub elsewhere : (line : List Bool) (k : ℕ) → m.leaves k ≡ false → m.got line k ≡ []
+
+-- each leaf has a list
+abbrev pub HoldsAll : (ℕ → Bool) → Outputs → Type 0
+HoldsAll leaves outputs = (k : ℕ) → IsTrue (leaves k) → IsTrue (outputs.holds k)
+
+-- each leaf had got `was` and now has got `is`, and what came to it was put to its list
+pub record Gains (was is : ℕ → List Bool) (old new : Outputs) : Type 0 where
+  pub more : ℕ → List Bool
+  pub gained : (k : ℕ) → is k ≡ was k ++ more k
+  pub puts : Puts more old new
+
+-- the same where a call failed: a prefix of what came was put
+pub record GainsPart (was is : ℕ → List Bool) (old new : Outputs) : Type 0 where
+  pub more : ℕ → List Bool
+  pub gained : (k : ℕ) → is k ≡ was k ++ more k
+  pub puts : PutsPart more old new

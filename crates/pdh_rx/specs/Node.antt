@@ -1,0 +1,137 @@
+-- A demultiplexer over children: what each of them receives, and what leaves get by that.
+use Rattle.std.specs.Prelude.{◌≡◌, ℕ, suc, ◌+◌, ◌%◌, ◌^◌, ◌-◌, ◌<◌, min, Bool, true, false, ◌||◌, List, [], ◌∷◌, ◌++◌, length, map, take, if◌then◌else◌, slice_get, Some, count_by, None, Option, flat_map, replicate, ◌==◌}
+use Rattle.pdh_shape.specs.declared.place.Path.{Path}
+use Rattle.pdh_shape.specs.declared.role.Role.{Role}
+use Rattle.pdh_shape.specs.declared.role.Role.TheVariants.{Info, Just}
+use Rattle.pdh_shape.specs.Frame.{FrameShape}
+use Rattle.pdh_shape.specs.Tributary.{reads_from, turned, stripped}
+use Rattle.pdh_edge.specs.Ports.{Outputs}
+use Rattle.pdh_line.specs.Tracking.{Piece, track}
+use Rattle.pdh_line.specs.Tracking.Piece.{Gap, Delivered}
+use Rattle.pdh_line.specs.Receiving.{received}
+use Rattle.pdh_align.specs.declared.step.Step.{Step}
+use Rattle.pdh_align.specs.declared.step.Step.TheVariants.{Rejected, Aligned, Frame, Lost}
+use Rattle.pdh_align.specs.Aligning.{Held, StandsFor, frames_gained}
+use Rattle.pdh_rx.specs.Meaning.{Meaning, Gains, GainsPart}
+
+-- each child stands for its line
+abbrev pub EachStands : {C : Type 0} → (C → List Bool → Type 0) → List C → (ℕ → List Bool) → Type 0
+EachStands {C} stands children lines = (j : ℕ) (c : C) → slice_get children j ≡ Some c → stands c (lines j)
+
+-- no leaf is below two of them
+abbrev pub IsDisjoint : List Meaning → Type 0
+IsDisjoint ms = (i j k : ℕ) (a b : Meaning) → slice_get ms i ≡ Some a → slice_get ms j ≡ Some b → a.leaves k ≡ true → b.leaves k ≡ true → i ≡ j
+
+-- whether a leaf is below one of them
+abbrev pub any_leaf : List Meaning → ℕ → Bool
+any_leaf [] k = false
+any_leaf (m ∷ ms) k = m.leaves k || any_leaf ms k
+
+-- what a leaf has got, where these children have received these lines
+abbrev pub got_by : List Meaning → (ℕ → List Bool) → ℕ → List Bool
+got_by [] lines k = []
+got_by (m ∷ ms) lines k = (if m.leaves k then m.got (lines 0) k else got_by ms (λ j. lines (suc j)) k)
+
+-- what each child has received of a node's line
+abbrev pub received_lines : FrameShape → List Bool → ℕ → List Bool
+received_lines s line j = received s j line
+
+abbrev pub node_meaning : FrameShape → Path → List Meaning → Meaning
+node_meaning s path ms = record { path = Some path; leaves = any_leaf ms; got = λ line k. got_by ms (received_lines s line) k }
+
+-- the steps from the top to the node at a path
+abbrev pub steps_of : Path → List ℕ
+steps_of path = take path.depth (path.first ∷ path.second ∷ [])
+
+-- each child that is a node stands below the node at this path, by its number from 1
+abbrev pub ArePlaced : Path → List Meaning → Type 0
+ArePlaced path ms = (j : ℕ) (m : Meaning) (below : Path) → slice_get ms j ≡ Some m → m.path ≡ Some below → steps_of below ≡ steps_of path ++ (j + 1) ∷ []
+
+-- ---- calls that give the children bits
+
+-- each line with these bits added
+abbrev pub with_more : (ℕ → List Bool) → (ℕ → List Bool) → ℕ → List Bool
+with_more lines more j = lines j ++ more j
+
+-- each child got its bits of these, and what leaves got by that was put to their lists
+pub record Gives {C : Type 0} (stands : C → List Bool → Type 0) (ms : List Meaning) (more : ℕ → List Bool) (old new : List C) (before after : Outputs) : Type 0 where
+  pub each : (lines : ℕ → List Bool) → EachStands stands old lines → EachStands stands new (with_more lines more)
+  pub gains : (lines : ℕ → List Bool) → EachStands stands old lines → Gains (got_by ms lines) (got_by ms (with_more lines more)) before after
+
+-- the same where a call failed: a prefix was put
+pub record GivesPart {C : Type 0} (stands : C → List Bool → Type 0) (ms : List Meaning) (more : ℕ → List Bool) (old : List C) (before after : Outputs) : Type 0 where
+  pub gains : (lines : ℕ → List Bool) → EachStands stands old lines → GainsPart (got_by ms lines) (got_by ms (with_more lines more)) before after
+
+-- ---- a slot of a frame
+
+-- the tributary whose bit a slot of this role carries, in a frame that carries an additional bit of it or doesn't
+abbrev pub read_of : Role → Bool → Option ℕ
+read_of (Info j) more = Some j
+read_of (Just j) more = (if more then Some j else None)
+read_of _ more = None
+
+-- the tributary whose bit a slot may carry is below this number
+abbrev pub names_below : Role → ℕ → Type 0
+names_below (Info j) n = j < n
+names_below (Just j) n = j < n
+names_below _ n = Unit {0}
+
+-- what a slot with this bit gives each tributary
+abbrev pub role_bits : FrameShape → Role → Bool → Bool → ℕ → List Bool
+role_bits s role more bit j = (if reads_from j more role then turned (s.inverted j) bit ∷ [] else [])
+
+-- what the ready frames give each tributary
+abbrev pub frames_bits : FrameShape → List (List Bool) → ℕ → List Bool
+frames_bits s frames j = flat_map (stripped s j) frames
+
+-- as many ones as a frame carries bits of a tributary at least
+abbrev pub ones_bits : FrameShape → ℕ → List Bool
+ones_bits s j = replicate s.low true
+
+-- so many ones for one tributary
+abbrev pub ones_to : ℕ → ℕ → ℕ → List Bool
+ones_to trib ones j = (if j == trib then replicate ones true else [])
+
+-- ---- a step of the alignment machine
+
+-- how many positions of a gap were passed over since the last whole frame's length of it
+abbrev pub gap_after : FrameShape → Step → ℕ → ℕ
+gap_after s Rejected gap = (if suc gap == s.len then 0 else suc gap)
+gap_after s Lost gap = 0
+gap_after s _ gap = gap
+
+-- how many frames are delivered
+abbrev pub frames_after : Step → ℕ → ℕ
+frames_after step frames = min (frames + frames_gained step) (2 ^ 64 - 1)
+
+-- what each tributary gains, where the count of passed positions is now this
+abbrev pub step_bits : FrameShape → Step → List (List Bool) → ℕ → ℕ → List Bool
+step_bits s Rejected ready gap j = (if gap == 0 then ones_bits s j else [])
+step_bits s Aligned ready gap j = frames_bits s ready j
+step_bits s Frame ready gap j = frames_bits s ready j
+step_bits s _ ready gap j = []
+
+-- ---- the state
+
+-- the positions of the gap that a line's pieces end with, less whole frames' lengths
+abbrev pub IsGap : FrameShape → ℕ → List Piece → Type 0
+IsGap s gap pieces = (others : List Piece) (n : ℕ) → pieces ≡ others ++ Gap n ∷ [] → gap ≡ n % s.len
+
+abbrev pub is_delivered : Piece → Bool
+is_delivered (Gap n) = false
+is_delivered (Delivered frame) = true
+
+-- how many frames of a line are delivered, where a count that reaches its type's end stands there
+unfoldable pub frames_counted : List Piece → ℕ
+frames_counted pieces = min (count_by is_delivered pieces) (2 ^ 64 - 1)
+
+-- what a demultiplexer's state is, after these received bits
+pub record NodeStands {C : Type 0} (stands : C → List Bool → Type 0) (meaning : C → Meaning) (s : FrameShape) (children : List C) (ones : List ℕ) (held : Held) (gap frames : ℕ) (line : List Bool) : Type 0 where
+  pub count : length children ≡ s.tribs
+  pub room : length ones ≡ s.tribs
+  pub disjoint : IsDisjoint (map meaning children)
+  pub each : EachStands stands children (received_lines s line)
+  pub aligner : StandsFor s held.phase line
+  pub inside : gap < s.len
+  pub gap_is : IsGap s gap (track s line)
+  pub frames_are : frames ≡ frames_counted (track s line)

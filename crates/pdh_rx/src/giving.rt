@@ -1,0 +1,33 @@
+ghost use Rattle.std.specs.Prelude.{◌≡◌, ◌<◌, ℕ, suc, Bool, List, [], length, map, OnOk, OnErr};
+ghost use Rattle.pdh_edge.specs.Ports.{HasCause, only};
+ghost use Rattle.pdh_rx.specs.Meaning.{HoldsAll};
+ghost use Rattle.pdh_rx.specs.Node.{EachStands, IsDisjoint, any_leaf, Gives, GivesPart};
+
+use crate::Rx;
+use pdh_edge::{Drain, Failed};
+use pdh_watch::Watch;
+
+// Gives a bit to one of the children.
+pub(crate) fn push_to<C: Rx, D: Drain, W: Watch>(
+    children: &mut Vec<C>,
+    trib: u8,
+    bit: bool,
+    drain: &mut D,
+    watch: &mut W,
+) -> Result<(), Failed>
+    requires known { trib < length children.old.items }
+    requires stands { (lines : ℕ → List Bool) × EachStands C.stands children.old.items lines }
+    requires lists { HoldsAll (any_leaf (map C.meaning children.old.items)) (D.outputs drain.old) }
+    requires disjoint { IsDisjoint (map C.meaning children.old.items) }
+    ensures given { OnOk result (Gives C.stands (map C.meaning children.old.items) (only trib bit)
+        children.old.items children.new.items (D.outputs drain.old) (D.outputs drain.new)) }
+    ensures part { OnErr result (GivesPart C.stands (map C.meaning children.old.items)
+        (only trib bit) children.old.items (D.outputs drain.old) (D.outputs drain.new)) }
+    ensures seen { W.saw watch.old [] watch.new }
+    ensures cause { HasCause (D.drain_faults drain.old) (D.drain_faults drain.new) result }
+    ensures drained { D.drained drain.old drain.new }
+    ensures same { map C.meaning children.new.items ≡ map C.meaning children.old.items }
+{
+    let child = &mut children[trib as usize];
+    child.push(bit, drain, watch)
+}

@@ -1,0 +1,13 @@
+//! Demultiplexers that take a line bit by bit: a tree of nodes over leaves that put bits to a drain.
+#![tactic(auto)]
+
+mod frames;
+mod giving;
+mod node;
+mod rx;
+mod slots;
+mod tail;
+
+pub use node::RxNode;
+pub use rx::Rx;
+pub use tail::{Tail, tails};

@@ -1,0 +1,130 @@
+ghost use Rattle.std.specs.Prelude.{◌≡◌, ◌<◌, ℕ, All, Bool, List, [], ◌∷◌, ◌++◌, length, map, IfOk, OnOk, OnErr};
+ghost use Rattle.pdh_edge.specs.Ports.{HasCause};
+ghost use Rattle.pdh_line.specs.Tracking.{track};
+ghost use Rattle.pdh_rx.specs.Meaning.{Meaning, HoldsAll, Gains, GainsPart};
+ghost use Rattle.pdh_rx.specs.Node.{EachStands, IsDisjoint, ArePlaced, node_meaning, NodeStands, gap_after as gap_after_step, frames_after as frames_after_step, frames_counted};
+ghost use Rattle.pdh_rx.specs.NodeLaws.{node_sound};
+
+use crate::Rx;
+use crate::frames::give;
+use pdh_align::{Aligner, Step};
+use pdh_edge::{Drain, Failed};
+use pdh_shape::{Path, Shape};
+use pdh_watch::Watch;
+use std::alloc::{AllocError, Global};
+use std::marker::PhantomData;
+
+// How many positions of a gap are passed over after a step, since the last whole frame's length.
+fn gap_after<S: Shape>(step: Step, gap: u32) -> u32
+    requires { gap < S.LEN }
+    ensures { result ≡ gap_after_step S.shape step gap }
+{
+    match step {
+        Step::Rejected => { if gap + 1 == S::LEN { 0 } else { gap + 1 } }
+        Step::Lost => 0,
+        _ => gap,
+    }
+}
+
+// How many frames are delivered after a step.
+fn frames_after(step: Step, frames: u64) -> u64
+    ensures { result ≡ frames_after_step step frames }
+{
+    match step {
+        Step::Aligned => frames.saturating_add(3),
+        Step::Frame => frames.saturating_add(1),
+        _ => frames,
+    }
+}
+
+/// A demultiplexer, which gives each of its children the received line of a tributary: for each whole
+/// frame's length of a gap of the alignment as many ones as a frame carries bits of it at least, and
+/// of each delivered frame its own bits.
+pub struct RxNode<S: Shape, C: Rx> {
+    children: Vec<C>,
+    path: Path,
+    aligner: Aligner<S>,
+    // for each tributary how many copies of its justification control are 1 in a frame
+    ones: Vec<u32>,
+    // how many positions of a gap were passed over since its last whole frame's length
+    gap: u32,
+    frames: u64,
+    of: PhantomData<S>,
+}
+
+impl<S: Shape, C: Rx> Drop for RxNode<S, C> {
+    fn drop(self) {
+        let Self {
+            children: _,
+            path: _,
+            aligner: _,
+            ones: _,
+            gap: _,
+            frames: _,
+            of: _,
+        } = self;
+    }
+}
+
+impl<S: Shape, C: Rx> RxNode<S, C> {
+    /// A demultiplexer of children that have taken no bit, one for each tributary, which has taken no
+    /// bit; or it finds no memory. `path` is its place in a chain: a child that is a demultiplexer has
+    /// this path with its number, from 1, added.
+    pub fn open(alloc: Global, path: Path, children: Vec<C>) -> Result<RxNode<S, C>, AllocError>
+        requires count { length children.items ≡ S.TRIBS }
+        requires fresh { EachStands C.stands children.items (λ j. []) }
+        requires disjoint { IsDisjoint (map C.meaning children.items) }
+        requires paths { ArePlaced path (map C.meaning children.items) }
+        ensures meaning { IfOk result (λ node. ⟦<RxNode<S, C> as Rx>⟧.meaning node
+            ≡ node_meaning S.shape path (map C.meaning children.items)) }
+        ensures stands { IfOk result (λ node. ⟦<RxNode<S, C> as Rx>⟧.stands node []) }
+    {
+        let aligner = Aligner::open(alloc)?;
+        let ones = vec![in alloc; 0u32; S::TRIBS as usize]?;
+        Ok(RxNode {
+            children,
+            path,
+            aligner,
+            ones,
+            gap: 0,
+            frames: 0,
+            of: PhantomData,
+        })
+    }
+
+    /// How many frames it has delivered. At `u64::MAX` the count stands.
+    pub fn frames(&self) -> u64
+        ensures { (line : List Bool) → ⟦<RxNode<S, C> as Rx>⟧.stands self.now line
+            → result ≡ frames_counted (track S.shape line) }
+    {
+        self.frames
+    }
+}
+
+impl<S: Shape, C: Rx> Rx for RxNode<S, C> {
+    ghost stands = { λ n line. NodeStands C.stands C.meaning S.shape n.children.items n.ones.items n.aligner n.gap n.frames line };
+
+    ghost meaning = { λ n. node_meaning S.shape n.path (map C.meaning n.children.items) };
+
+    ghost sound = { λ n. node_sound C.meaning C.sound S.shape S.is_frame n.path n.children.items };
+
+    fn push<D: Drain, W: Watch>(
+        &mut self,
+        bit: bool,
+        drain: &mut D,
+        watch: &mut W,
+    ) -> Result<(), Failed> {
+        let step = self.aligner.push(bit);
+        self.gap = gap_after::<S>(step, self.gap);
+        self.frames = frames_after(step, self.frames);
+        give::<S, C, D, W>(
+            &mut self.children,
+            &mut self.ones,
+            &self.aligner,
+            step,
+            self.gap,
+            drain,
+            watch,
+        )
+    }
+}

@@ -1,0 +1,41 @@
+ghost use Rattle.std.specs.Prelude.{◌≡◌, Bool, List, [], ◌∷◌, ◌++◌, OnOk, OnErr};
+ghost use Rattle.pdh_edge.specs.Ports.{HasCause};
+ghost use Rattle.pdh_rx.specs.Meaning.{Meaning, IsSound, HoldsAll, Gains, GainsPart};
+
+use pdh_edge::{Drain, Failed};
+use pdh_watch::Watch;
+
+/// Takes a received line, bit by bit.
+pub trait Rx: Drop {
+    /// The state stands for this list of received bits.
+    ghost stands: { Self → List Bool → Type 0 };
+
+    /// Its path, its leaves, and what each leaf has got by any received bits. No call changes it.
+    ghost meaning: { Self → Meaning };
+
+    /// Takes the next bit of the line, and puts each bit that leaves gain by it. It fails only where
+    /// the drain failed, and isn't used again then. For now it notes no events.
+    fn push<D: Drain, W: Watch>(
+        &mut self,
+        bit: bool,
+        drain: &mut D,
+        watch: &mut W,
+    ) -> Result<(), Failed>
+        requires stands { (line : List Bool) × stands self.old line }
+        requires lists { HoldsAll (meaning self.old).leaves (D.outputs drain.old) }
+        ensures stands { OnOk result ((line : List Bool) → stands self.old line
+            → stands self.new (line ++ bit ∷ [])) }
+        ensures put { OnOk result ((line : List Bool) → stands self.old line
+            → Gains ((meaning self.old).got line) ((meaning self.old).got (line ++ bit ∷ []))
+            (D.outputs drain.old) (D.outputs drain.new)) }
+        ensures put_err { OnErr result ((line : List Bool) → stands self.old line
+            → GainsPart ((meaning self.old).got line) ((meaning self.old).got (line ++ bit ∷ []))
+            (D.outputs drain.old) (D.outputs drain.new)) }
+        ensures seen { W.saw watch.old [] watch.new }
+        ensures cause { HasCause (D.drain_faults drain.old) (D.drain_faults drain.new) result }
+        ensures drained { D.drained drain.old drain.new }
+        ensures same { meaning self.new ≡ meaning self.old };
+
+    /// More received bits only add to what leaves have got, and only its leaves get bits.
+    ghost sound: { (m : Self) → IsSound (meaning m) };
+}
