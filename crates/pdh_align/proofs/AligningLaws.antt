@@ -17,8 +17,8 @@ use Rattle.pdh_align.specs.Aligning.{Phase, Describes, StandsFor, Grows, Turn, t
 use Rattle.pdh_align.specs.Aligning.Phase.{Searching, Tracking}
 use Rattle.pdh_line.proofs.LeastLaws.{least_below-le, least_below_same, least_below_yes, least_below_no}
 use Rattle.pdh_line.proofs.FrameLaws.{wrong_of_right}
-use Rattle.pdh_align.proofs.TrackingLaws.{judged}
-use Rattle.pdh_align.proofs.TrackingLaws as laws
+use Rattle.pdh_line.proofs.TrackingLaws.{judged}
+use Rattle.pdh_line.proofs.TrackingLaws as laws
 
 -- ---- a search
 

@@ -1,4 +1,3 @@
-pub mod TrackingLaws
 pub mod AligningLaws
 pub mod SignalLaws
 pub mod Turns

@@ -9,7 +9,7 @@ use Rattle.pdh_shape.specs.declared.role.Marks.{Marks}
 use Rattle.pdh_shape.specs.Frame.{FrameShape, clean, wrong}
 use Rattle.pdh_line.specs.Tracking.{frame_of, is_confirmed}
 use Rattle.pdh_line.proofs.FrameLaws.{wrong_of_right}
-use Rattle.pdh_align.proofs.TrackingLaws.{confirmed_right}
+use Rattle.pdh_line.proofs.TrackingLaws.{confirmed_right}
 use Rattle.pdh_align.specs.declared.signals.Signal.{Signal}
 use Rattle.pdh_align.specs.Signals.{AreSignals}
 use Rattle.pdh_align.specs.Aligning.{frame_back}

@@ -3,12 +3,11 @@ use Rattle.std.proofs.Common.{add-zero, ◌≢◌, ◌≡◌, ℕ, ◌+◌, ◌<
 use Rattle.std.specs.Prelude.{sum_by}
 use Rattle.std.specs.Bool.{beq}
 use Rattle.std.specs.List.{range_with_len, list_all, list_any, slice_index_or}
-use Rattle.std.proofs.lemmas.Nat.{pow_pos}
 use Rattle.std.proofs.lemmas.Grind.{pow_more}
 use Rattle.std.proofs.Math.Nat.{pow-le-pow_right}
 use Rattle.std.proofs.lemmas.List.{get_or-take, get_or-drop}
-use Rattle.std.proofs.lemmas.List.Elements.{All-get_or, All-push, All-nil, All-weaker}
-use Rattle.std.proofs.lemmas.List.Folds.{list_all-append, list_all_at, list_all_more}
+use Rattle.std.proofs.lemmas.List.Elements.{All-get_or, All-push, All-weaker}
+use Rattle.std.proofs.lemmas.List.Folds.{list_all-append, list_all_more}
 use Rattle.std.proofs.lemmas.List.Sums.{sum_by-cons, sum_by-append}
 use Rattle.pdh_shape.specs.declared.role.Role.{Role}
 use Rattle.pdh_shape.specs.declared.role.Role.TheVariants.{Align, Service, Control, Just, Info}
@@ -44,13 +43,6 @@ signal_read s signals bits start len i d bit differ are e h b f =
     let at : slice_index_or (take len (drop start bits)) (get_or signals i d).slot false ≡ bit = bit_in_frame bits start len (get_or signals i d).slot (omega arith) ∙ sym b in
     ap (λ b. not (breaks (Align (get_or signals i d).bit) b)) at ∙ ap not (sym (differs bit (get_or signals i d).bit)) ∙ ap not f
 
--- a frame in which one doesn't isn't right
-pub signal_wrong : (s : FrameShape) (signals : List Signal) (bits : List Bool) (start len i : ℕ) (d : Signal) (bit : Bool) → AreSignals s signals → s.len ≡ len → i < length signals
-    → bit ≡ slice_index_or bits (start + (get_or signals i d).slot) false → not (beq bit (get_or signals i d).bit) ≡ true
-    → false ≡ is_right s (take len (drop start bits))
-signal_wrong s signals bits start len i d bit are e h b f =
-    sym (list_all_at (has_bit (take len (drop start bits))) signals i d h (signal_read s signals bits start len i d bit true are e h b f)) ∙ are.tells (take len (drop start bits))
-
 -- the alignment slots so far, with one more
 pub signal_right : (s : FrameShape) (signals : List Signal) (bits : List Bool) (start len i : ℕ) (d : Signal) (bit : Bool) → AreSignals s signals → s.len ≡ len → i < length signals
     → bit ≡ slice_index_or bits (start + (get_or signals i d).slot) false → not (beq bit (get_or signals i d).bit) ≡ false
@@ -77,10 +69,6 @@ all_push : (p : ℕ → Bool) (n : ℕ) → list_all p (range_with_len 0 (n + 1)
 all_push p n =
     ap (λ k. list_all p (range_with_len 0 k)) (add-one n) ∙ ap (list_all p) (range_push 0 n) ∙ list_all-append p (range_with_len 0 n) ((0 + n) ∷ [])
     ∙ ap (λ b. list_all p (range_with_len 0 n) && b) (and_true_is (p (0 + n)) ∙ ap p (zero-add n))
-
-pub so_far_none : (s : FrameShape) (signals : List Signal) → signals ≡ [] → SoFar s 0 signals
-so_far_none s [] e = record { within = All-nil (λ signal. signal.slot < 0); tells = λ frame. refl }
-so_far_none s (x ∷ xs) e = cc
 
 -- an alignment slot was added
 pub so_far_signal : (s : FrameShape) (n : ℕ) (signals after : List Signal) (bit : Bool) → SoFar s n signals → s.role n ≡ Align bit → after ≡ signals ++ record { slot = n; bit = bit } ∷ [] → SoFar s (n + 1) after
@@ -139,9 +127,6 @@ pub record MarksSoFar (s : FrameShape) (bits : List Bool) (n framing : ℕ) (mul
   pub multi_is : multi ≡ list_any (λ slot. is_multi (s.mark slot) && breaks_at s bits slot) (range_with_len 0 n)
   pub few : framing < 2 ^ framing_before s n
 
-pub marks_none : (s : FrameShape) (bits : List Bool) → MarksSoFar s bits 0 0 false
-marks_none s bits = record { framing_is = refl; multi_is = refl; few = pow_pos (framing_before s 0) }
-
 double : (n : ℕ) → 2 ^ (n + 1) ≡ 2 ^ n + 2 ^ n
 double n = pow_more 2 n ∙ omega arith
 
@@ -165,14 +150,6 @@ framing_fits Other n framing broken numbered fits few = (omega arith, rw (add-ze
 -- a framing slot's number
 numbers : (s : FrameShape) (n : ℕ) (mark : Mark) → HasMarks s → n < s.len → mark ≡ s.mark n → (number : ℕ) → mark ≡ Framing number → (number ≡ framing_before s n) × (number < 64)
 numbers s n mark has h e number is = (has.numbered n number h (sym e ∙ is), has.few n number h (sym e ∙ is))
-
-pub mark_few : (s : FrameShape) (n : ℕ) (mark : Mark) → HasMarks s → n < s.len → mark ≡ s.mark n → (number : ℕ) → mark ≡ Framing number → number < 64
-mark_few s n mark has h e number is = (numbers s n mark has h e number is).1
-
-pub marks_fit : (s : FrameShape) (bits : List Bool) (n framing more : ℕ) (multi : Bool) (mark : Mark) (broken : Bool) → HasMarks s → n < s.len → MarksSoFar s bits n framing multi
-    → framing < 2 ^ 64 → mark ≡ s.mark n → more ≡ framing_mark mark broken → framing + more < 2 ^ 64
-marks_fit s bits n framing more multi mark broken has h so_far fits e is =
-    rw is (framing_fits mark (framing_before s n) framing broken (numbers s n mark has h e) fits so_far.few).0
 
 pub marks_push : (s : FrameShape) (bits : List Bool) (n framing more : ℕ) (multi after : Bool) (mark : Mark) (broken : Bool) → HasMarks s → n < s.len → MarksSoFar s bits n framing multi
     → framing < 2 ^ 64 → mark ≡ s.mark n → broken ≡ breaks_at s bits n → more ≡ framing_mark mark broken → after ≡ (multi || (is_multi mark && broken))

@@ -54,6 +54,21 @@ pub puts_then : (xs ys : List Bool) (x y z : Outputs) → Puts (as_line xs) x y 
 puts_then xs ys x y z p q k =
     q k ∙ ap (after (as_line ys k)) (p k) ∙ after_then (as_line xs k) (as_line ys k) (x.told k) ∙ ap (λ bits. after bits (x.told k)) (line_then xs ys k)
 
+-- bits of the line that are taken, and then others
+pub takes_line : (xs ys : List Bool) (x y z : Inputs) → Takes (as_line xs) x y → Takes (as_line ys) y z → Takes (as_line (xs ++ ys)) x z
+takes_line xs ys x y z p q =
+    let both = takes_then (as_line xs) (as_line ys) x y z p q in
+    record {
+      counts = λ k. both.counts k ∙ ap (λ bits. length bits + z.left k) (line_then xs ys k);
+      bits = λ k. both.bits k ∙ ap (λ bits. before bits (z.told k)) (line_then xs ys k);
+    }
+
+pub takes_no_line : (x : Inputs) → Takes (as_line []) x x
+takes_no_line x = record {
+  counts = λ k. let none : length (as_line [] k) ≡ 0 = ap length (sym (line_none k)) in omega (arith, none);
+  bits = λ k. before_none (x.told k) ∙ ap (λ bits. before bits (x.told k)) (line_none k);
+}
+
 -- ---- what is put in part
 
 prefix_then : (a b : List Bool) (s t : Option (List Bool)) → PrefixOf b (after a s) t → PrefixOf (a ++ b) s t

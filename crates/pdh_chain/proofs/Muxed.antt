@@ -283,7 +283,7 @@ nothing_put s counts frames inputs inputs_now outputs outputs_now same same' = r
 
 pub stop_since : (s : FrameShape) (counts : ℕ → ℕ → ℕ) (frames : ℕ) (inputs inputs_now : Inputs) (outputs outputs_now : Outputs) (first reads reads_now start writes writes_now : ℕ) (stop : MuxStop) → first ≤ reads → start ≤ writes
     → IsMuxStop s counts frames inputs inputs_now outputs outputs_now reads reads_now writes writes_now stop → IsMuxStop s counts frames inputs inputs_now outputs outputs_now first reads_now start writes_now stop
-stop_since s counts frames inputs inputs_now outputs outputs_now first reads reads_now start writes writes_now MuxMemory h h' why = tt
+stop_since s counts frames inputs inputs_now outputs outputs_now first reads reads_now start writes writes_now MuxMemory h h' why = why
 stop_since s counts frames inputs inputs_now outputs outputs_now first reads reads_now start writes writes_now (MuxEvent over place) h h' why = why
 stop_since s counts frames inputs inputs_now outputs outputs_now first reads reads_now start writes writes_now (MuxNoFrame node) h h' why = why
 stop_since s counts frames inputs inputs_now outputs outputs_now first reads reads_now start writes writes_now (MuxEnded leaf) h h' why = why

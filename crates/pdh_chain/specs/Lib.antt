@@ -1,3 +1,5 @@
 pub mod Chains
 pub mod Muxing
 pub mod Muxes
+pub mod Demuxing
+pub mod Demuxes

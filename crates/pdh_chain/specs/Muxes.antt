@@ -77,10 +77,11 @@ pub record PutsPrefix (s : FrameShape) (counts : ℕ → ℕ → ℕ) (frames : 
   pub others : (k : ℕ) → s.tribs ≤ k → given k ≡ []
   pub puts : (lists : ℕ → List Bool) → BeginWith s.tribs given lists → PutsPart (as_line (frames_of_line s counts lists made)) outputs outputs_now
 
--- Why `mux` stops: memory was wanting; the first event of a store; never for want of a frame, since the schedule has them;
+-- Why `mux` stops: memory was wanting, and nothing was taken or put; the first event of a store; never for want of a frame, since the schedule has them;
 -- a list is shorter than what enters; a call for bits failed; a call that puts bits failed.
 abbrev pub IsMuxStop : FrameShape → (ℕ → ℕ → ℕ) → ℕ → Inputs → Inputs → Outputs → Outputs → ℕ → ℕ → ℕ → ℕ → MuxStop → Type 0
-IsMuxStop s counts frames inputs inputs_now outputs outputs_now reads reads_now writes writes_now Memory = ⊤
+IsMuxStop s counts frames inputs inputs_now outputs outputs_now reads reads_now writes writes_now Memory =
+    (inputs_now ≡ inputs) × (outputs_now ≡ outputs)
 IsMuxStop s counts frames inputs inputs_now outputs outputs_now reads reads_now writes writes_now (MeetsEvent over place) =
     StopsAtEvent s counts frames over place inputs inputs_now outputs outputs_now
 IsMuxStop s counts frames inputs inputs_now outputs outputs_now reads reads_now writes writes_now (NoFrame node) = ⊥

@@ -3,8 +3,15 @@ ghost use Rattle.pdh_clock.specs.Chain.{AreLevels};
 ghost use Rattle.pdh_clock.specs.Made.{IsRated};
 ghost use Rattle.pdh_chain.specs.Chains.{name_of, shape_of, frame_bytes_of, leaves_of, level_of, levels_of, delay_of};
 
-use pdh_shape::Level;
+use pdh_shape::{Level, Path};
 use std::alloc::{AllocError, Global};
+
+/// The path of a chain's top.
+pub(crate) const TOP: Path = Path {
+    depth: 0,
+    first: 0,
+    second: 0,
+};
 
 /// A chain of multiplexers, from its top to its leaves.
 #[derive(Clone, Copy, Debug, PartialEq, Eq)]

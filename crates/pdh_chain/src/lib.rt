@@ -3,6 +3,7 @@
 
 mod chain;
 mod making;
+mod receiving;
 mod sending;
 mod stop;
 #[cfg(test)]
@@ -10,4 +11,5 @@ mod tests;
 
 pub use chain::{Chain, delay, frame_bytes, leaves, levels};
 pub use making::mux;
-pub use stop::MuxStop;
+pub use receiving::demux;
+pub use stop::{DemuxStop, MuxStop};

@@ -5,20 +5,14 @@ ghost use Rattle.pdh_tx.specs.Node.{node_frame};
 ghost use Rattle.pdh_chain.specs.Chains.{shape_of, levels_of};
 ghost use Rattle.pdh_chain.specs.Muxes.{Muxes, IsMuxStop, IsLeftReady, mux_stop, top};
 
-use crate::chain::Chain;
+use crate::chain::{Chain, TOP};
 use crate::sending::{SendStop, send_frames};
 use crate::stop::MuxStop;
 use pdh_clock::Schedule;
 use pdh_edge::{Failed, Port};
-use pdh_shape::{E2, E3, E4, Path, Shape};
+use pdh_shape::{E2, E3, E4, Shape};
 use pdh_tx::{Leaf, Node, TxStop, leaves};
 use std::alloc::Global;
-
-const TOP: Path = Path {
-    depth: 0,
-    first: 0,
-    second: 0,
-};
 
 // How a stop of the sender ends `mux`.
 fn stop_of(stop: TxStop) -> MuxStop

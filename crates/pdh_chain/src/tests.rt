@@ -1,9 +1,10 @@
 ghost use Rattle.std.specs.Prelude.{◌≡◌, length, IfOk};
 
-use crate::{Chain, MuxStop, levels, mux};
+use crate::{Chain, DemuxStop, MuxStop, demux, levels, mux};
 use pdh_clock::Schedule;
 use pdh_edge::MemPort;
 use pdh_shape::{Path, Place};
+use pdh_watch::Quiet;
 use std::alloc::{AllocError, Global};
 use std::test::Fail;
 
@@ -100,6 +101,41 @@ fn ends_and_lengths(rt: HostRuntime) -> Result<(), Fail> {
     for (chain, schedule, lengths, end, bits) in cases {
         let got = run(rt.alloc(), chain, schedule, lengths)?;
         assert_eq!(rt; got, (end, bits), "{chain:?}");
+    }
+    Ok(())
+}
+
+// How a demultiplexer ends that is to take so many bits of a line of zeros, and how many bits its
+// last leaf gets.
+fn run_demux(
+    alloc: Global,
+    chain: Chain,
+    zeros: usize,
+    bits: u32,
+) -> Result<(Result<u64, DemuxStop>, usize), Fail> {
+    let mut lists = Vec::new(alloc);
+    lists.push(vec![in alloc; false; zeros]?)?;
+    let mut port = MemPort::open(alloc, lists, 4)?;
+    let end = demux(alloc, chain, u64::from(bits), &mut port, &mut Quiet);
+    Ok((end, port.output(3).len()))
+}
+
+// No position of a line of zeros is confirmed, and each whole frame's length of positions gives ones.
+#[test]
+fn gaps(rt: HostRuntime) -> Result<(), Fail> {
+    let cases = [
+        (Chain::E12, 8_480, 8_480, Ok(0), 1_435),
+        (Chain::E12, 8_480, 8_481, Err(DemuxStop::Ended), 1_435),
+        (Chain::E12, 8_480, 3_391, Ok(0), 205),
+        (Chain::E12, 8_480, 3_390, Ok(0), 0),
+        (Chain::E23, 6_143, 6_143, Ok(0), 377),
+        (Chain::E23, 6_142, 6_142, Ok(0), 0),
+        (Chain::E34, 11_711, 11_711, Ok(0), 722),
+        (Chain::E34, 0, 1, Err(DemuxStop::Ended), 0),
+    ];
+    for (chain, zeros, bits, end, got) in cases {
+        let ran = run_demux(rt.alloc(), chain, zeros, bits)?;
+        assert_eq!(rt; ran, (end, got), "{chain:?} {bits}");
     }
     Ok(())
 }

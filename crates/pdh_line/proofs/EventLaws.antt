@@ -92,11 +92,6 @@ first_event_none s counts frames none = ap (λ es. slice_get es 0) none
 pub first_event_none_gives : (s : FrameShape) (counts : ℕ → ℕ → ℕ) (frames : ℕ) → first_event s counts frames ≡ None → events_below s counts (frames * s.len) ≡ []
 first_event_none_gives s counts frames none = empty_of_none _ none
 
--- so no slot of the frames has one
-pub first_event_none_at : (s : FrameShape) (counts : ℕ → ℕ → ℕ) (frames n t : ℕ) → first_event s counts frames ≡ None → n < frames → t < s.len → events_at s counts n t ≡ []
-first_event_none_at s counts frames n t none h h' =
-    sym (events_in-at s counts n t h') ∙ events_in_none s counts (n * s.len + t) (frames * s.len) (omega (arith, mul-le-mul_right s.len h)) (first_event_none_gives s counts frames none)
-
 -- and where no slot of the frames has one, there is none
 pub first_event_none_from : (s : FrameShape) (counts : ℕ → ℕ → ℕ) (frames : ℕ) → IsFrame s → ((n t : ℕ) → n < frames → t < s.len → events_at s counts n t ≡ []) → first_event s counts frames ≡ None
 first_event_none_from s counts frames frame none =
@@ -288,11 +283,6 @@ pub sent-came : (s : FrameShape) (counts : ℕ → ℕ → ℕ) (j n : ℕ) → 
 sent-came s counts j n frame has stores known none =
     let bits : events_below s counts (n * s.len + 0) ≡ [] = ap (events_below s counts) (omega arith) ∙ first_event_none_gives s counts n none in
     omega (arith, fill-least s counts j n 0 frame has stores known (omega arith) bits, came_before-start s (counts j) n frame, read_before-start s j (counts j) n)
-
--- what the begun frames enter
-pub entered-is : (counts : ℕ → ℕ) (n : ℕ) → 0 < n → entered counts n ≡ lead + arrived counts n
-entered-is counts zero h = absurd (omega arith)
-entered-is counts (suc n) h = ap (λ b. cond b 0 (lead + arrived counts (suc n))) (eqb-suc-zero n)
 
 -- what n frames carry is among what they enter
 pub sent-entered : (s : FrameShape) (counts : ℕ → ℕ → ℕ) (j n : ℕ) → IsFrame s → HasTributaries s → HasStores s → j < s.tribs

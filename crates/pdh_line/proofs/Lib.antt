@@ -1,8 +1,9 @@
 pub mod Ranges
 pub mod LeastLaws
 pub mod FrameLaws
+pub mod TrackingLaws
+pub mod DeliveredLaws
 pub mod RightLines
-pub mod FrameLoops
 pub mod SendingLaws
 pub mod SentFrames
 pub mod SameLines

@@ -1,12 +1,12 @@
 -- Lists made from the numbers of a range.
 use Rattle.std.proofs.Common.{◌≡◌, ℕ, zero, suc, ◌+◌, ◌<◌, ◌≤◌, Bool, true, false, ◌&&◌, cond, List, [], ◌∷◌, ◌++◌, length, map, filter, refl, sym, ap, ◌∙◌, inl, inr, arith, append_assoc, add-one, zero-add, ◌||◌}
-use Rattle.std.specs.Prelude.{count_by, fold}
+use Rattle.std.specs.Prelude.{count_by}
 use Rattle.std.specs.List.{range_with_len, list_all, list_any}
 use Rattle.std.proofs.lemmas.List.{map-append, append-nil}
 use Rattle.std.proofs.lemmas.List.Elements.{filter-append}
-use Rattle.std.proofs.lemmas.List.Folds.{list_all-append, list_any-append}
-use Rattle.std.proofs.lemmas.List.Sums.{fold-append, sum_by-cons}
-use Rattle.std.proofs.lemmas.Bool.{cases_Bool, cases_eq}
+use Rattle.std.proofs.lemmas.List.Folds.{list_any-append}
+use Rattle.std.proofs.lemmas.List.Sums.{sum_by-cons}
+use Rattle.std.proofs.lemmas.Bool.{cases_Bool}
 pub use Rattle.pdh_shape.specs.Ranges.{and_true, list_all-at, count_push}
 
 pub range_push : (a n : ℕ) → range_with_len a (suc n) ≡ range_with_len a n ++ (a + n) ∷ []
@@ -93,32 +93,6 @@ numbered f p (suc n) =
           maps ∙ ap (λ x. map f (range_with_len 0 c) ++ map (λ k. f (count_by p (range_with_len 0 k))) x) (filter_one p n false fails)
           ∙ append-nil (map f (range_with_len 0 c)) ∙ sym (ap (λ k. map f (range_with_len 0 k)) same)
     ]
-
-pub list_all_push : (p : ℕ → Bool) (n : ℕ) → list_all p (range_with_len 0 n) ≡ true → p n ≡ true → list_all p (range_with_len 0 (n + 1)) ≡ true
-list_all_push p n before here =
-    let last : p (0 + n) ≡ true = ap p (zero-add n) ∙ here in
-    ap (λ k. list_all p (range_with_len 0 k)) (add-one n) ∙ ap (list_all p) (range_push 0 n) ∙ list_all-append p (range_with_len 0 n) ((0 + n) ∷ [])
-    ∙ ap (λ b. b && (p (0 + n) && true)) before ∙ ap (λ b. b && true) last
-
-pub list_all_fails : (p : ℕ → Bool) (a n k : ℕ) → a ≤ k → k < a + n → p k ≡ false → list_all p (range_with_len a n) ≡ false
-list_all_fails p a zero k h h' fails = absurd (omega arith)
-list_all_fails p a (suc n) k h h' fails =
-    elim (cases_eq k a) [
-      | inl same ↦
-          let here : p a ≡ false = ap p (sym same) ∙ fails in
-          ap (λ b. b && list_all p (range_with_len (a + 1) n)) here
-      | inr other ↦
-          let rest : list_all p (range_with_len (a + 1) n) ≡ false = list_all_fails p (a + 1) n k (omega arith) (omega arith) fails in
-          ap (λ b. p a && b) rest ∙ none (p a)
-    ]
-  where
-    none : (b : Bool) → (b && false) ≡ false
-    none true = refl
-    none false = refl
-
-pub fold_push : (f : ℕ → ℕ → ℕ) (a n : ℕ) → fold f a (range_with_len 0 (n + 1)) ≡ f (fold f a (range_with_len 0 n)) n
-fold_push f a n =
-    ap (λ k. fold f a (range_with_len 0 k)) (add-one n) ∙ ap (fold f a) (range_push 0 n) ∙ fold-append f a (range_with_len 0 n) ((0 + n) ∷ []) ∙ ap (f (fold f a (range_with_len 0 n))) (zero-add n)
 
 or_false : (b : Bool) → (b || false) ≡ b
 or_false true = refl

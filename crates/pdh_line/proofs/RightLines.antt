@@ -1,58 +1,27 @@
 -- The tracking of a line whose whole frames, from its first bit on, are all right.
-use Rattle.std.proofs.Common.{◌≡◌, ℕ, suc, ◌+◌, ◌-◌, ◌*◌, ◌/◌, ◌<◌, ◌≤◌, Bool, true, false, cond, ltb, List, [], ◌∷◌, ◌++◌, length, map, drop, refl, sym, ap, ◌∙◌, subst, inl, inr, arith}
+use Rattle.std.proofs.Common.{◌≡◌, ℕ, ◌-◌, ◌*◌, ◌/◌, ◌<◌, ◌≤◌, Bool, true, false, cond, List, [], ◌∷◌, ◌++◌, length, map, drop, refl, sym, ap, ◌∙◌, subst, inl, inr, arith}
 use Rattle.std.specs.Prelude.{flat_map, replicate, nat_le}
-use Rattle.std.specs.List.{range_with_len}
+use Rattle.std.specs.List.{range_with_len, list_all}
 use Rattle.std.proofs.lemmas.Bool.{lt-ltb, le-ltb, cases_Bool, cases_lt}
 use Rattle.std.proofs.lemmas.Bool.Decides.{nat_tests}
-use Rattle.std.proofs.lemmas.List.{append-nil}
 use Rattle.std.proofs.lemmas.Nat.{div-mul-add}
 use Rattle.std.proofs.Math.Nat.{le-div_iff_mul-le}
 use Rattle.pdh_shape.specs.Frame.{FrameShape, IsFrame, is_right, wrong, clean}
 use Rattle.pdh_shape.specs.Tributary.{stripped}
 use Rattle.pdh_line.specs.Least.{least_below}
-use Rattle.pdh_line.specs.Tracking.{frame_of, frames_in, is_confirmed, positions, gap_of, is_found, aligned, marks_back, completes_loss, delivered, is_lost, one_search, track_within, track, every_right}
+use Rattle.pdh_line.specs.Tracking.{frame_of, frames_in, is_confirmed, positions, gap_of, is_found, aligned, marks_back, completes_loss, delivered, is_lost, track}
 use Rattle.pdh_line.specs.Tracking.Piece.{Gap, Delivered}
 use Rattle.pdh_line.specs.Receiving.{piece_bits, received}
 use Rattle.pdh_line.proofs.Ranges.{list_all-at}
 use Rattle.pdh_line.proofs.LeastLaws.{least_below_none, least_below_before, least_below-zero}
 use Rattle.pdh_line.proofs.FrameLaws.{wrong_of_right}
-
--- ---- what the definitions say, by name
-
-gap_of_is : (s : FrameShape) (l : List Bool) → gap_of s l ≡ least_below (positions s l) (λ p. is_confirmed s (drop p l))
-unfolding gap_of
-gap_of_is s l = refl
-
-completes_loss_is : (s : FrameShape) (l : List Bool) (k : ℕ) → completes_loss s l k ≡ s.loses (marks_back s l k 3) (marks_back s l k 2) (marks_back s l k 1) (marks_back s l k 0)
-unfolding completes_loss
-completes_loss_is s l k = refl
-
-delivered_is : (s : FrameShape) (l : List Bool) → is_found s l ≡ true → delivered s l ≡ least_below (frames_in s (aligned s l)) (completes_loss s (aligned s l))
-unfolding delivered
-delivered_is s l found = rw found refl
-
-is_lost_is : (s : FrameShape) (l : List Bool) → is_found s l ≡ true → is_lost s l ≡ ltb (delivered s l) (frames_in s (aligned s l))
-unfolding is_lost
-is_lost_is s l found = rw found refl
-
--- where no position is confirmed, nothing is delivered
-delivered_none : (s : FrameShape) (l : List Bool) → is_found s l ≡ false → delivered s l ≡ 0
-unfolding delivered
-delivered_none s l found = rw found refl
-
-is_lost_none : (s : FrameShape) (l : List Bool) → is_found s l ≡ false → is_lost s l ≡ false
-unfolding is_lost
-is_lost_none s l found = rw found refl
-
--- the pieces of a line that isn't lost are those of one search
-track_open : (s : FrameShape) (l : List Bool) → is_lost s l ≡ false
-    → track s l ≡ Gap (gap_of s l) ∷ map (λ k. Delivered (frame_of s (aligned s l) k)) (range_with_len 0 (delivered s l))
-unfolding track track_within one_search
-track_open s l kept =
-    let n : length l + 1 ≡ suc (length l) = omega arith in
-    ap (λ n. track_within n s l) n ∙ rw kept (append-nil (Gap (gap_of s l) ∷ map (λ k. Delivered (frame_of s (aligned s l) k)) (range_with_len 0 (delivered s l))))
+use Rattle.pdh_line.proofs.TrackingLaws.{gap_of_is, completes_loss_opens, delivered_is, delivered_none, is_lost_is, is_lost_none, one_search_is, track_open}
 
 -- ---- right frames
+
+-- each whole frame of the line, from its first bit on, is right
+unfoldable pub every_right : FrameShape → List Bool → Bool
+every_right s line = list_all (λ k. is_right s (frame_of s line k)) (range_with_len 0 (frames_in s line))
 
 pub every_right-at : (s : FrameShape) (l : List Bool) (k : ℕ) → every_right s l ≡ true → k < frames_in s l → is_right s (frame_of s l k) ≡ true
 unfolding every_right
@@ -61,9 +30,6 @@ every_right-at s l k right h = list_all-at (λ k. is_right s (frame_of s l k)) 0
 -- a line has as many bits as its whole frames, at least
 pub frames_within : (s : FrameShape) (l : List Bool) (n : ℕ) → IsFrame s → n ≤ frames_in s l → n * s.len ≤ length l
 frames_within s l n frame h = (le-div_iff_mul-le frame.some_slots).0 h
-
-pub frames_needed : (s : FrameShape) (l : List Bool) (n : ℕ) → IsFrame s → n * s.len ≤ length l → n ≤ frames_in s l
-frames_needed s l n frame h = (le-div_iff_mul-le frame.some_slots).1 h
 
 confirmed-right : (s : FrameShape) (l : List Bool) → IsFrame s → 3 ≤ frames_in s l → every_right s l ≡ true → is_confirmed s l ≡ true
 confirmed-right s l frame three right =
@@ -93,7 +59,7 @@ marks_back-right s l k i right h =
 
 no_loss-right : (s : FrameShape) (l : List Bool) (k : ℕ) → IsFrame s → every_right s l ≡ true → k < frames_in s l → completes_loss s l k ≡ false
 no_loss-right s l k frame right h =
-    completes_loss_is s l k
+    completes_loss_opens s l k
     ∙ rw (marks_back-right s l k 3 right h, marks_back-right s l k 2 right h, marks_back-right s l k 1 right h, marks_back-right s l k 0 right h) frame.no_loss
 
 -- no gap, and all whole frames
@@ -108,13 +74,13 @@ track-right s l frame three right =
     delivered_is s l found ∙ ap (λ a. least_below (frames_in s a) (completes_loss s a)) same
     ∙ least_below_none (frames_in s l) (completes_loss s l) (λ k h. no_loss-right s l k frame right h) in
     let kept : is_lost s l ≡ false = is_lost_is s l found ∙ le-ltb _ _ (subst (λ a. frames_in s a ≤ delivered s l) (sym same) (omega arith)) in
-    track_open s l kept ∙ ap (λ n. Gap n ∷ map (λ k. Delivered (frame_of s (aligned s l) k)) (range_with_len 0 (delivered s l))) gap
+    track_open s l kept ∙ one_search_is s l ∙ ap (λ n. Gap n ∷ map (λ k. Delivered (frame_of s (aligned s l) k)) (range_with_len 0 (delivered s l))) gap
     ∙ ap (λ a. Gap 0 ∷ map (λ k. Delivered (frame_of s a k)) (range_with_len 0 (delivered s l))) same
     ∙ ap (λ n. Gap 0 ∷ map (λ k. Delivered (frame_of s l k)) (range_with_len 0 n)) all
 
 -- ---- what the tributaries get
 
-piece_bits_gap : (s : FrameShape) (j n : ℕ) → piece_bits s j (Gap n) ≡ replicate (n / s.len * s.low) true
+pub piece_bits_gap : (s : FrameShape) (j n : ℕ) → piece_bits s j (Gap n) ≡ replicate (n / s.len * s.low) true
 unfolding piece_bits
 piece_bits_gap s j n = refl
 
@@ -144,12 +110,12 @@ received-right s j l frame three right =
 
 -- ---- a line that is shorter than three frames
 
-track-short : (s : FrameShape) (l : List Bool) → length l < 3 * s.len → track s l ≡ Gap 0 ∷ []
+pub track-short : (s : FrameShape) (l : List Bool) → length l < 3 * s.len → track s l ≡ Gap 0 ∷ []
 track-short s l short =
     let none : positions s l ≡ 0 = omega arith in
     let gap : gap_of s l ≡ 0 = gap_of_is s l ∙ ap (λ n. least_below n (λ p. is_confirmed s (drop p l))) none ∙ least_below-zero (λ p. is_confirmed s (drop p l)) in
     let found : is_found s l ≡ false = le-ltb _ _ (omega arith) in
-    track_open s l (is_lost_none s l found)
+    track_open s l (is_lost_none s l found) ∙ one_search_is s l
     ∙ ap (λ n. Gap (gap_of s l) ∷ map (λ k. Delivered (frame_of s (aligned s l) k)) (range_with_len 0 n)) (delivered_none s l found)
     ∙ ap (λ n. Gap n ∷ []) gap
 

@@ -1,7 +1,5 @@
 -- What decides a line, and what a longer line adds to a shorter one.
-use Rattle.std.proofs.Common.{◌≡◌, ℕ, zero, suc, ◌+◌, ◌-◌, ◌*◌, ◌/◌, ◌%◌, ◌<◌, ◌≤◌, Bool, true, not, cond, eqb, ◌++◌, map, refl, ap, ◌∙◌, subst, inl, inr, arith, zero-add}
-use Rattle.std.specs.List.{range_with_len}
-use Rattle.std.proofs.lemmas.List.{map-append}
+use Rattle.std.proofs.Common.{◌≡◌, ℕ, zero, suc, ◌+◌, ◌-◌, ◌*◌, ◌/◌, ◌%◌, ◌<◌, ◌≤◌, true, not, cond, eqb, refl, ap, ◌∙◌, subst, inl, inr, arith}
 use Rattle.std.proofs.lemmas.Bool.{cases_lt}
 use Rattle.std.proofs.lemmas.Nat.{div-mul-add, div-add-mod', le-div}
 use Rattle.std.proofs.Math.Nat.{mul-le-mul_right, div-mul-le_self}
@@ -11,7 +9,7 @@ use Rattle.pdh_shape.specs.declared.role.Role.TheVariants.{Align, Service, Contr
 use Rattle.pdh_shape.specs.Frame.{FrameShape, IsFrame}
 use Rattle.pdh_shape.specs.Tributary.{turned, HasTributaries}
 use Rattle.pdh_line.specs.Sending.{arrived_in, sends_more, came_before, read_before, Source, input_bit, payload_bit, odd_before, slot_bit, line_bit, front, taken}
-use Rattle.pdh_line.proofs.Ranges.{range_append, map-range_same_on, count-range_same}
+use Rattle.pdh_line.proofs.Ranges.{map-range_same_on, count-range_same}
 use Rattle.pdh_line.proofs.SendingLaws.{arrived-grows, came_before-start, came_before-next}
 pub use Rattle.pdh_line.proofs.SendingLaws.{taken-frames}
 
@@ -62,13 +60,6 @@ frame-is len n x from below =
     let more : suc n * len ≡ n * len + len = omega arith in
     let e : x ≡ n * len + (x - n * len) = omega arith in
     ap (λ y. y / len) e ∙ div-mul-add n len (x - n * len) (omega arith)
-
--- a longer front begins with a shorter one
-pub front-more : (line : ℕ → Bool) (m n : ℕ) → m ≤ n → front line n ≡ front line m ++ map line (range_with_len m (n - m))
-front-more line m n h =
-    let e : n ≡ m + (n - m) = omega arith in
-    ap (front line) e ∙ ap (map line) (range_append 0 m (n - m)) ∙ map-append line (range_with_len 0 m) (range_with_len (0 + m) (n - m))
-    ∙ ap (λ k. front line m ++ map line (range_with_len k (n - m))) (zero-add m)
 
 arrived_in-grows : (s : FrameShape) (count t u : ℕ) → IsFrame s → t ≤ u → arrived_in s count t ≤ arrived_in s count u
 arrived_in-grows s count t u frame h =

@@ -2,14 +2,14 @@
 use Rattle.std.proofs.Common.{◌≡◌, ℕ, zero, suc, ◌+◌, ◌-◌, ◌*◌, ◌/◌, ◌%◌, ◌<◌, ◌≤◌, Bool, true, false, ◌||◌, not, cond, ltb, leb, eqb, [], ◌∷◌, refl, sym, ap, ◌∙◌, subst, inl, inr, arith, add-zero, zero-add}
 use Rattle.std.specs.Prelude.{sum_by}
 use Rattle.std.specs.List.{range_with_len}
-use Rattle.std.proofs.lemmas.Bool.{lt-ltb, le-ltb, lt-leb, le-leb, cases_lt, cases_Bool}
+use Rattle.std.proofs.lemmas.Bool.{lt-ltb, le-ltb, lt-leb, le-leb, cases_lt}
 use Rattle.std.proofs.lemmas.Nat.{div-mul-add, mod-mul-add, div-add-mod', le-div}
 use Rattle.std.proofs.Math.Nat.{div-mul-le_self}
 use Rattle.std.proofs.lemmas.List.Sums.{sum_by-cons, sum_by-append}
 use Rattle.std.proofs.Math.Dec.{eqb-suc-zero}
 use Rattle.pdh_shape.specs.Frame.{FrameShape, IsFrame}
 use Rattle.pdh_shape.specs.Tributary.{reads_from, HasTributaries, reads_below}
-use Rattle.pdh_line.specs.Sending.{lead, threshold, arrived, arrived_in, arrives_at, carried, sent, sends_more, came_before, read_before, begun, taken, entered}
+use Rattle.pdh_line.specs.Sending.{lead, threshold, arrived, arrived_in, arrives_at, carried, sent, sends_more, came_before, read_before, taken, entered}
 use Rattle.pdh_line.proofs.Ranges.{range_push, count-range_push}
 
 -- a shape whose nodes have stores
@@ -93,19 +93,6 @@ quotient-more x c w some few =
           ap (λ n. n / w) e ∙ div-mul-add (x / w + 1) w (x % w + c - w) (omega arith) ∙ sym (ap (λ b. x / w + cond b 1 0) (le-leb _ _ ge))
     ]
 
-remainder-more : (x c w : ℕ) → 0 < w → c ≤ w → (x + c) % w ≡ cond (leb w (x % w + c)) (x % w + c - w) (x % w + c)
-remainder-more x c w some few =
-    let whole : x / w * w + x % w ≡ x = div-add-mod' x w in
-    let below : x % w < w = omega arith in
-    elim (cases_lt (x % w + c) w) [
-      | inl lt ↦
-          let e : x + c ≡ x / w * w + (x % w + c) = omega arith in
-          ap (λ n. n % w) e ∙ mod-mul-add (x / w) w (x % w + c) lt ∙ sym (ap (λ b. cond b (x % w + c - w) (x % w + c)) (lt-leb _ _ lt))
-      | inr ge ↦
-          let e : x + c ≡ (x / w + 1) * w + (x % w + c - w) = omega arith in
-          ap (λ n. n % w) e ∙ mod-mul-add (x / w + 1) w (x % w + c - w) (omega arith) ∙ sym (ap (λ b. cond b (x % w + c - w) (x % w + c)) (le-leb _ _ ge))
-    ]
-
 -- Arrivals by addition and comparison: r is what is left of t times the count over whole frames' lengths. A bit arrives
 -- exactly where the remainder and the count reach a frame's length.
 pub arrived_in-suc : (s : FrameShape) (count t r : ℕ) → IsFrame s → count ≤ s.len → r ≡ t * count % s.len
@@ -121,13 +108,6 @@ arrives_at-is s count t r frame few left =
     more : (n : ℕ) (b : Bool) → ltb n (n + cond b 1 0) ≡ b
     more n true = lt-ltb _ _ (omega arith)
     more n false = le-ltb _ _ (omega arith)
-
-pub remainder-suc : (s : FrameShape) (count t r : ℕ) → IsFrame s → count ≤ s.len → r ≡ t * count % s.len
-    → suc t * count % s.len ≡ cond (leb s.len (r + count)) (r + count - s.len) (r + count)
-remainder-suc s count t r frame few left =
-    let e : suc t * count ≡ t * count + count = omega arith in
-    ap (λ n. n % s.len) e ∙ remainder-more (t * count) count s.len frame.some_slots few
-    ∙ ap (λ r. cond (leb s.len (r + count)) (r + count - s.len) (r + count)) (sym left)
 
 -- ---- what came into a store, and what was read from it
 
@@ -180,13 +160,6 @@ read_before-next s j counts n has known =
 
 -- ---- how far a node has come
 
-pub begun-frames : (s : FrameShape) (n : ℕ) → IsFrame s → begun s (n * s.len) ≡ n
-begun-frames s n frame =
-    let e : n * s.len ≡ n * s.len + 0 = omega arith in
-    let q : n * s.len / s.len ≡ n = ap (λ k. k / s.len) e ∙ div-mul-add n s.len 0 frame.some_slots in
-    let r : n * s.len % s.len ≡ 0 = ap (λ k. k % s.len) e ∙ mod-mul-add n s.len 0 frame.some_slots in
-    rw (r, q) refl
-
 -- a node takes what the frames that it has begun enter, where it made them whole
 pub taken-frames : (s : FrameShape) (counts : ℕ → ℕ) (n : ℕ) → IsFrame s → taken s counts (n * s.len) ≡ entered counts n
 taken-frames s counts zero frame =
@@ -204,15 +177,3 @@ taken-frames s counts (suc n) frame =
     not_zero : (n : ℕ) → 0 < n → eqb n 0 ≡ false
     not_zero zero h = absurd (omega arith)
     not_zero (suc n) h = eqb-suc-zero n
-
-pub arrived-most : (counts : ℕ → ℕ) (most n : ℕ) → ((k : ℕ) → counts k ≤ most) → arrived counts n ≤ most * n
-arrived-most counts most zero few = omega (arith, arrived-zero counts)
-arrived-most counts most (suc n) few = omega (arith, arrived-suc counts n, arrived-most counts most n few, few n)
-
--- what frames enter that bring no more than so many bits each
-pub entered-most : (counts : ℕ → ℕ) (most n : ℕ) → ((k : ℕ) → counts k ≤ most) → entered counts n ≤ lead + most * n
-entered-most counts most n few =
-    elim (cases_Bool (eqb n 0)) [
-      | inl none ↦ subst (λ b. cond b 0 (lead + arrived counts n) ≤ lead + most * n) (sym none) (omega arith)
-      | inr some ↦ subst (λ b. cond b 0 (lead + arrived counts n) ≤ lead + most * n) (sym some) (omega (arith, arrived-most counts most n few))
-    ]

@@ -12,11 +12,11 @@ use Rattle.pdh_shape.specs.declared.role.Role.{Role}
 use Rattle.pdh_shape.specs.declared.role.Role.TheVariants.{Align, Service, Control, Just, Info}
 use Rattle.pdh_shape.specs.Frame.{FrameShape, IsFrame, slots, breaks, is_right}
 use Rattle.pdh_shape.specs.Tributary.{reads_from, controls, control_ones, is_majority, carries_more, turned, bits_read, stripped, HasTributaries, reads_below}
-use Rattle.pdh_line.specs.Tracking.{frame_of, frames_in, every_right}
+use Rattle.pdh_line.specs.Tracking.{frame_of, frames_in}
 use Rattle.pdh_line.specs.Receiving.{received}
 use Rattle.pdh_line.specs.Sending.{sent, carried, sends_more, Source, input_bit, payload_bit, slot_bit, line_bit, front, frames_found}
 use Rattle.pdh_line.proofs.Ranges.{and_true, range_push, range_append, map-range_same_on, map-range_shift, list_all-range, count-range_same, count_none, numbered}
-use Rattle.pdh_line.proofs.RightLines.{frames_within, received-right, received-short}
+use Rattle.pdh_line.proofs.RightLines.{every_right, frames_within, received-right, received-short}
 use Rattle.pdh_line.proofs.SendingLaws.{sent-zero, sent-suc, sends_more-locked, reads_below-all}
 
 -- frame n of a sent line

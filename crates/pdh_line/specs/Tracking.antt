@@ -1,7 +1,7 @@
 -- Frame alignment over a whole received line: where it is found, which frames are delivered, where it is lost
 -- (ITU-T G.742, 4; where a search begins is this project's own).
-use Rattle.std.specs.Prelude.{ℕ, zero, suc, ◌+◌, ◌-◌, ◌*◌, ◌/◌, Bool, true, false, nat_lt, nat_le, ◌&&◌, if◌then◌else◌, List, [], ◌∷◌, ◌++◌, length, map, take, drop}
-use Rattle.std.specs.List.{range_with_len, list_all}
+use Rattle.std.specs.Prelude.{ℕ, zero, suc, ◌+◌, ◌-◌, ◌*◌, ◌/◌, Bool, true, false, nat_lt, nat_le, ◌&&◌, if◌then◌else◌, List, [], ◌∷◌, ◌++◌, length, map, take, drop, count_by}
+use Rattle.std.specs.List.{range_with_len}
 use Rattle.pdh_shape.specs.declared.role.Marks.{Marks}
 use Rattle.pdh_shape.specs.Frame.{FrameShape, wrong, clean, is_right}
 use Rattle.pdh_line.specs.Least.{least_below}
@@ -81,6 +81,11 @@ track_within (suc searches) s line =
 unfoldable pub track : FrameShape → List Bool → List Piece
 track s line = track_within (length line + 1) s line
 
--- each whole frame of the line, from its first bit on, is right
-unfoldable pub every_right : FrameShape → List Bool → Bool
-every_right s line = list_all (λ k. is_right s (frame_of s line k)) (range_with_len 0 (frames_in s line))
+-- a piece is a delivered frame
+abbrev pub is_delivered : Piece → Bool
+is_delivered (Gap n) = false
+is_delivered (Delivered frame) = true
+
+-- how many frames of a line are delivered in all
+unfoldable pub frames_delivered : FrameShape → List Bool → ℕ
+frames_delivered s line = count_by is_delivered (track s line)

@@ -1,6 +1,3 @@
-//! Lines of frames: how a received line is tracked, and what it gives each tributary.
+//! Lines of frames. It has no code: `specs/` defines how a received line is tracked and what it gives
+//! each tributary, what a node sends and which events its stores meet, and `proofs/` has the laws.
 #![tactic(auto)]
-
-mod frames;
-
-pub use frames::{every_right, received};

@@ -11,7 +11,7 @@ use Rattle.pdh_ops.specs.Run.{HasCause, ChangesOnly, Performs, IsTold, Runs, Com
 use Rattle.pdh_ops.specs.Steps.{IsLineCause}
 use Rattle.pdh_words.specs.declared.commands.Command.{Command}
 use Rattle.pdh_ops.specs.declared.answer.Stop.{Stop}
-use Rattle.pdh_ops.specs.declared.answer.Stop.TheVariants.{Memory, Usage, Read, Write, Missing, LongSchedule, BadRow, UnknownNode, CountOver, Short, Overflow, Underflow, ManyFrames, NotYet}
+use Rattle.pdh_ops.specs.declared.answer.Stop.TheVariants.{Memory, Usage, Read, Write, Missing, LongSchedule, BadRow, UnknownNode, CountOver, Short, Overflow, Underflow, ManyFrames, NoAlignment}
 use Rattle.pdh_ops.proofs.Touching.{looks_same}
 use Rattle.pdh_chain.specs.declared.chain.Chain.{Chain}
 
@@ -33,11 +33,6 @@ line_stops chain command next a b (Missing file) comes tells looks cause = recor
   outputs = looks.told;
   others = looks_others (IsOutput command) a b looks;
 }
-line_stops chain command next a b NotYet comes tells looks cause = record {
-  cause = λ files told. refused chain next a NotYet cause files (tells files told) ∙ sym (comes files);
-  outputs = looks.told;
-  others = looks_others (IsOutput command) a b looks;
-}
 line_stops chain command next a b (ManyFrames n) comes tells looks cause = record {
   cause = λ files told. refused chain next a (ManyFrames n) cause files (tells files told) ∙ sym (comes files);
   outputs = looks.told;
@@ -51,6 +46,7 @@ line_stops chain command next a b (CountOver l n m) comes tells looks cause = ab
 line_stops chain command next a b (Short f h n) comes tells looks cause = absurd cause
 line_stops chain command next a b (Overflow p) comes tells looks cause = absurd cause
 line_stops chain command next a b (Underflow p) comes tells looks cause = absurd cause
+line_stops chain command next a b (NoAlignment n) comes tells looks cause = absurd cause
 line_stops chain command next a b (Write file) comes tells looks cause = absurd cause
 
 -- where no fault rose, a command answers exactly what its inputs come to, or want of memory
@@ -62,7 +58,7 @@ exact command a b (Err Usage) files cause told reads writes = absurd cause
 exact command a b (Err (Read file)) files cause told reads writes = absurd (reads cause.rose)
 exact command a b (Err (Write file)) files cause told reads writes = absurd (writes cause.0.rose)
 exact command a b (Err (Missing file)) files cause told reads writes = inr (cause.1 files told)
-exact command a b (Err NotYet) files cause told reads writes = inr (cause files told)
+exact command a b (Err (NoAlignment n)) files cause told reads writes = inr (cause files told)
 exact command a b (Err LongSchedule) files cause told reads writes = inr (cause files told)
 exact command a b (Err (BadRow l)) files cause told reads writes = inr (cause files told)
 exact command a b (Err (UnknownNode l)) files cause told reads writes = inr (cause files told)

@@ -1,30 +1,26 @@
--- What the steps of `demux e12` leave of the files.
-use Rattle.std.proofs.Common.{◌≡◌, ◌≢◌, ℕ, ◌<◌, ◌≤◌, List, [], ◌++◌, Option, None, Some, Ok, Err, true, false, length, take, refl, ap, sym, subst, ◌∙◌, inl, inr, arith, lit<, Vec, slice_index_or}
+-- What the steps of `demux` leave of the files, and what the whole command comes to.
+use Rattle.std.proofs.Common.{◌≡◌, ◌≢◌, ℕ, ◌*◌, ◌<◌, ◌≤◌, List, [], ◌++◌, Option, None, Some, Ok, Err, length, take, refl, ap, sym, subst, ◌∙◌, inl, inr, arith, lit<, Vec, slice_index_or}
 use Rattle.std.proofs.Math.Seq.{take-length}
 use Rattle.std.proofs.lemmas.Bool.{cases_lt, cases_eq}
 use Rattle.std.specs.declared.alloc.Global.{Global}
 use Rattle.std.specs.Prelude.{unwrap_or}
 use Rattle.pdh_edge.specs.Files.{ShelfState, Told, Looks, TouchesOnly, Touches, FailsToStart, FailsToAppend, Holds, HoldsPrefix, Grows, GrowsInPart}
 use Rattle.pdh_edge.specs.Files.Told.{Untold, Known}
-use Rattle.pdh_bits.specs.Bits.{bits_of}
-use Rattle.pdh_line.specs.Tracking.{every_right}
 use Rattle.pdh_ops.specs.Names.{line_name, output_name, name_of}
-use Rattle.pdh_ops.specs.Demux.{frames_of, line_of, demuxed, output_of}
-use Rattle.pdh_ops.specs.Steps.{AreOutputs, IsFramesCause}
+use Rattle.pdh_ops.specs.Demux.{line_of, frames_received, demuxed, output_of}
+use Rattle.pdh_ops.specs.Steps.{AreOutputs}
 use Rattle.pdh_ops.specs.Writing.{IsWriteStop}
 use Rattle.pdh_ops.specs.Schedules.{Files}
 use Rattle.pdh_ops.specs.Commands.{IsOutput, AreTold, output_bytes, comes_to}
-use Rattle.pdh_ops.specs.Run.{AreCut, ChangesOnly, Performs, GoesOn, reaches_outputs}
+use Rattle.pdh_ops.specs.Run.{AreCut, AreWhole, ChangesOnly, Performs, GoesOn, reaches_outputs}
 use Rattle.pdh_words.specs.declared.commands.Command.TheVariants.{Demux}
 use Rattle.pdh_ops.specs.declared.answer.Done.TheVariants.{Demuxed}
 use Rattle.pdh_ops.specs.declared.answer.Stop.{Stop}
-use Rattle.pdh_ops.specs.declared.answer.Stop.TheVariants.{Memory, Usage, Read, Write, Missing, LongSchedule, BadRow, UnknownNode, CountOver, Short, Overflow, Underflow, ManyFrames, NotYet}
+use Rattle.pdh_ops.specs.declared.answer.Stop.TheVariants.{Memory, Usage, Read, Write, Missing, LongSchedule, BadRow, UnknownNode, CountOver, Short, Overflow, Underflow, ManyFrames, NoAlignment}
 use Rattle.pdh_ops.proofs.OutputNames.{output_name-differs}
 use Rattle.pdh_ops.proofs.Touching.{fails_since}
-use Rattle.pdh_ops.proofs.LineComes.{comes_of, demuxed-wrong, demuxed-right}
-use Rattle.pdh_ops.proofs.Causes.{looks_others}
+use Rattle.pdh_ops.proofs.LineComes.{comes_of, demuxed_none, demuxed_some, demuxed_reaches}
 use Rattle.pdh_chain.specs.declared.chain.Chain.{Chain}
-use Rattle.pdh_chain.specs.Chains.{shape_of}
 
 -- ---- one file
 
@@ -100,39 +96,19 @@ all_others chain a b c d looks starts appends = record {
 bytes_of_line : (chain : Chain) (line : List ℕ) (files : Files) (leaf : ℕ) → files line_name ≡ Some line → output_of chain line leaf ≡ output_bytes (Demux chain) files leaf
 bytes_of_line chain line files leaf e = sym (ap (λ (h : Option (List ℕ)). output_of chain (unwrap_or h []) leaf) e)
 
-comes_right : (chain : Chain) (a : ShelfState) (line : List ℕ) (files : Files) → Holds (a.told line_name) line → line_of chain (Some line) ≡ Ok line → every_right (shape_of chain) (bits_of line) ≡ true →
-    AreTold (Demux chain) a.told files → comes_to (Demux chain) files ≡ Ok (Demuxed chain (frames_of chain line))
-comes_right chain a line files holds served right told = comes_of chain (files line_name) line (demuxed chain) (line_told chain a line files holds told) served ∙ demuxed-right chain line right
+-- it is what the command comes to
+comes : (chain : Chain) (a : ShelfState) (line : List ℕ) (files : Files) → Holds (a.told line_name) line → line_of chain (Some line) ≡ Ok line → AreTold (Demux chain) a.told files → comes_to (Demux chain) files ≡ demuxed chain line
+comes chain a line files holds served told = comes_of chain (files line_name) line (demuxed chain) (line_told chain a line files holds told) served
 
-goes_on : (chain : Chain) (a : ShelfState) (line : List ℕ) → Holds (a.told line_name) line → line_of chain (Some line) ≡ Ok line → every_right (shape_of chain) (bits_of line) ≡ true → GoesOn (Demux chain) a
-goes_on chain a line holds served right files told = ap reaches_outputs (comes_right chain a line files holds served right told)
+goes_on : (chain : Chain) (a : ShelfState) (line : List ℕ) → Holds (a.told line_name) line → line_of chain (Some line) ≡ Ok line → GoesOn (Demux chain) a
+goes_on chain a line holds served files told = ap reaches_outputs (comes chain a line files holds served told) ∙ demuxed_reaches chain line
 
-pub frames_refused : (chain : Chain) (a b : ShelfState) (line bytes : List ℕ) (stop : Stop) → Looks a b → Holds (a.told line_name) line → line_of chain (Some line) ≡ Ok line → bytes ≡ line → IsFramesCause chain bytes stop → Performs (Demux chain) a b (Err stop)
-frames_refused chain a b line bytes Memory looks holds served same cause = record { cause = tt; outputs = looks.told; others = looks_others (IsOutput (Demux chain)) a b looks }
-frames_refused chain a b line bytes NotYet looks holds served same cause = record {
-  cause = λ files told. sym (comes_of chain (files line_name) line (demuxed chain) (line_told chain a line files holds told) served ∙ demuxed-wrong chain line (subst (λ l. every_right (shape_of chain) (bits_of l) ≡ false) same cause));
-  outputs = looks.told;
-  others = looks_others (IsOutput (Demux chain)) a b looks;
-}
-frames_refused chain a b line bytes Usage looks holds served same cause = absurd cause
-frames_refused chain a b line bytes (Read file) looks holds served same cause = absurd cause
-frames_refused chain a b line bytes (Write file) looks holds served same cause = absurd cause
-frames_refused chain a b line bytes (Missing file) looks holds served same cause = absurd cause
-frames_refused chain a b line bytes LongSchedule looks holds served same cause = absurd cause
-frames_refused chain a b line bytes (BadRow l) looks holds served same cause = absurd cause
-frames_refused chain a b line bytes (UnknownNode l) looks holds served same cause = absurd cause
-frames_refused chain a b line bytes (CountOver l n m) looks holds served same cause = absurd cause
-frames_refused chain a b line bytes (Short f h n) looks holds served same cause = absurd cause
-frames_refused chain a b line bytes (Overflow p) looks holds served same cause = absurd cause
-frames_refused chain a b line bytes (Underflow p) looks holds served same cause = absurd cause
-frames_refused chain a b line bytes (ManyFrames n) looks holds served same cause = absurd cause
-
-pub start_refused : (chain : Chain) (a b c : ShelfState) (line bytes : List ℕ) (stop : Stop) → Looks a b → TouchesOnly (IsOutput (Demux chain)) b c → Holds (a.told line_name) line → line_of chain (Some line) ≡ Ok line →
-    bytes ≡ line → every_right (shape_of chain) (bits_of bytes) ≡ true → IsWriteStop b c stop → AreCut (Demux chain) b c → Performs (Demux chain) a c (Err stop)
-start_refused chain a b c line bytes (Write file) looks starts holds served same right cause cut =
+pub start_refused : (chain : Chain) (a b c : ShelfState) (line : List ℕ) (stop : Stop) → Looks a b → TouchesOnly (IsOutput (Demux chain)) b c → Holds (a.told line_name) line → line_of chain (Some line) ≡ Ok line →
+    IsWriteStop b c stop → AreCut (Demux chain) b c → Performs (Demux chain) a c (Err stop)
+start_refused chain a b c line (Write file) looks starts holds served cause cut =
     let told : b.told ≡ a.told = looks.told in
     record {
-      cause = (fails_since (name_of file) a b c (omega arith) cause, goes_on chain a line holds served (subst (λ l. every_right (shape_of chain) (bits_of l) ≡ true) same right));
+      cause = (fails_since (name_of file) a b c (omega arith) cause, goes_on chain a line holds served);
       outputs = subst (λ (t : List ℕ → Told). AreCut (Demux chain) (record a { told = t }) c) told (record {
         started = cut.started;
         begun = cut.begun;
@@ -146,25 +122,25 @@ start_refused chain a b c line bytes (Write file) looks starts holds served same
         misses = omega arith;
       };
     }
-start_refused chain a b c line bytes Memory looks starts holds served same right cause cut = absurd cause
-start_refused chain a b c line bytes Usage looks starts holds served same right cause cut = absurd cause
-start_refused chain a b c line bytes (Read file) looks starts holds served same right cause cut = absurd cause
-start_refused chain a b c line bytes (Missing file) looks starts holds served same right cause cut = absurd cause
-start_refused chain a b c line bytes LongSchedule looks starts holds served same right cause cut = absurd cause
-start_refused chain a b c line bytes (BadRow l) looks starts holds served same right cause cut = absurd cause
-start_refused chain a b c line bytes (UnknownNode l) looks starts holds served same right cause cut = absurd cause
-start_refused chain a b c line bytes (CountOver l n m) looks starts holds served same right cause cut = absurd cause
-start_refused chain a b c line bytes (Short f h n) looks starts holds served same right cause cut = absurd cause
-start_refused chain a b c line bytes (Overflow p) looks starts holds served same right cause cut = absurd cause
-start_refused chain a b c line bytes (Underflow p) looks starts holds served same right cause cut = absurd cause
-start_refused chain a b c line bytes (ManyFrames n) looks starts holds served same right cause cut = absurd cause
-start_refused chain a b c line bytes NotYet looks starts holds served same right cause cut = absurd cause
+start_refused chain a b c line Memory looks starts holds served cause cut = absurd cause
+start_refused chain a b c line Usage looks starts holds served cause cut = absurd cause
+start_refused chain a b c line (Read file) looks starts holds served cause cut = absurd cause
+start_refused chain a b c line (Missing file) looks starts holds served cause cut = absurd cause
+start_refused chain a b c line LongSchedule looks starts holds served cause cut = absurd cause
+start_refused chain a b c line (BadRow l) looks starts holds served cause cut = absurd cause
+start_refused chain a b c line (UnknownNode l) looks starts holds served cause cut = absurd cause
+start_refused chain a b c line (CountOver l n m) looks starts holds served cause cut = absurd cause
+start_refused chain a b c line (Short f h n) looks starts holds served cause cut = absurd cause
+start_refused chain a b c line (Overflow p) looks starts holds served cause cut = absurd cause
+start_refused chain a b c line (Underflow p) looks starts holds served cause cut = absurd cause
+start_refused chain a b c line (ManyFrames n) looks starts holds served cause cut = absurd cause
+start_refused chain a b c line (NoAlignment n) looks starts holds served cause cut = absurd cause
 
 pub append_refused : (chain : Chain) (a b c d : ShelfState) (line bytes : List ℕ) (outs : List (Vec ℕ Global)) (e : Vec ℕ Global) (stop : Stop) → Looks a b → TouchesOnly (IsOutput (Demux chain)) b c → TouchesOnly (IsOutput (Demux chain)) c d →
-    Holds (a.told line_name) line → line_of chain (Some line) ≡ Ok line → bytes ≡ line → every_right (shape_of chain) (bits_of bytes) ≡ true → AreOutputs chain bytes outs → IsWriteStop c d stop →
+    Holds (a.told line_name) line → line_of chain (Some line) ≡ Ok line → bytes ≡ line → AreOutputs chain bytes outs → IsWriteStop c d stop →
     ((leaf : ℕ) → leaf < 4 → HoldsPrefix (d.told (output_name leaf)) (slice_index_or outs leaf e).items) → Performs (Demux chain) a d (Err stop)
-append_refused chain a b c d line bytes outs e (Write file) looks starts appends holds served same right are cause prefixes = record {
-  cause = (fails_since (name_of file) a c d (omega arith) cause, goes_on chain a line holds served (subst (λ l. every_right (shape_of chain) (bits_of l) ≡ true) same right));
+append_refused chain a b c d line bytes outs e (Write file) looks starts appends holds served same are cause prefixes = record {
+  cause = (fails_since (name_of file) a c d (omega arith) cause, goes_on chain a line holds served);
   outputs = record {
     started = 4;
     begun = λ files i told lt low. subst (HoldsPrefix (d.told (output_name i))) (are.each i e low ∙ ap (λ (l : List ℕ). output_of chain l i) same ∙ bytes_of_line chain line files i (line_told chain a line files holds told)) (prefixes i low);
@@ -173,25 +149,45 @@ append_refused chain a b c d line bytes outs e (Write file) looks starts appends
   };
   others = all_others chain a b c d looks starts appends;
 }
-append_refused chain a b c d line bytes outs e Memory looks starts appends holds served same right are cause prefixes = absurd cause
-append_refused chain a b c d line bytes outs e Usage looks starts appends holds served same right are cause prefixes = absurd cause
-append_refused chain a b c d line bytes outs e (Read file) looks starts appends holds served same right are cause prefixes = absurd cause
-append_refused chain a b c d line bytes outs e (Missing file) looks starts appends holds served same right are cause prefixes = absurd cause
-append_refused chain a b c d line bytes outs e LongSchedule looks starts appends holds served same right are cause prefixes = absurd cause
-append_refused chain a b c d line bytes outs e (BadRow l) looks starts appends holds served same right are cause prefixes = absurd cause
-append_refused chain a b c d line bytes outs e (UnknownNode l) looks starts appends holds served same right are cause prefixes = absurd cause
-append_refused chain a b c d line bytes outs e (CountOver l n m) looks starts appends holds served same right are cause prefixes = absurd cause
-append_refused chain a b c d line bytes outs e (Short f h n) looks starts appends holds served same right are cause prefixes = absurd cause
-append_refused chain a b c d line bytes outs e (Overflow p) looks starts appends holds served same right are cause prefixes = absurd cause
-append_refused chain a b c d line bytes outs e (Underflow p) looks starts appends holds served same right are cause prefixes = absurd cause
-append_refused chain a b c d line bytes outs e (ManyFrames n) looks starts appends holds served same right are cause prefixes = absurd cause
-append_refused chain a b c d line bytes outs e NotYet looks starts appends holds served same right are cause prefixes = absurd cause
+append_refused chain a b c d line bytes outs e Memory looks starts appends holds served same are cause prefixes = absurd cause
+append_refused chain a b c d line bytes outs e Usage looks starts appends holds served same are cause prefixes = absurd cause
+append_refused chain a b c d line bytes outs e (Read file) looks starts appends holds served same are cause prefixes = absurd cause
+append_refused chain a b c d line bytes outs e (Missing file) looks starts appends holds served same are cause prefixes = absurd cause
+append_refused chain a b c d line bytes outs e LongSchedule looks starts appends holds served same are cause prefixes = absurd cause
+append_refused chain a b c d line bytes outs e (BadRow l) looks starts appends holds served same are cause prefixes = absurd cause
+append_refused chain a b c d line bytes outs e (UnknownNode l) looks starts appends holds served same are cause prefixes = absurd cause
+append_refused chain a b c d line bytes outs e (CountOver l n m) looks starts appends holds served same are cause prefixes = absurd cause
+append_refused chain a b c d line bytes outs e (Short f h n) looks starts appends holds served same are cause prefixes = absurd cause
+append_refused chain a b c d line bytes outs e (Overflow p) looks starts appends holds served same are cause prefixes = absurd cause
+append_refused chain a b c d line bytes outs e (Underflow p) looks starts appends holds served same are cause prefixes = absurd cause
+append_refused chain a b c d line bytes outs e (ManyFrames n) looks starts appends holds served same are cause prefixes = absurd cause
+append_refused chain a b c d line bytes outs e (NoAlignment n) looks starts appends holds served same are cause prefixes = absurd cause
 
-pub done : (chain : Chain) (a b c d : ShelfState) (line bytes : List ℕ) (outs : List (Vec ℕ Global)) (e : Vec ℕ Global) → Looks a b → TouchesOnly (IsOutput (Demux chain)) b c → TouchesOnly (IsOutput (Demux chain)) c d →
-    Holds (a.told line_name) line → line_of chain (Some line) ≡ Ok line → bytes ≡ line → every_right (shape_of chain) (bits_of bytes) ≡ true → AreOutputs chain bytes outs →
-    ((leaf : ℕ) → leaf < 4 → Holds (d.told (output_name leaf)) (slice_index_or outs leaf e).items) → Performs (Demux chain) a d (Ok (Demuxed chain (frames_of chain line)))
-done chain a b c d line bytes outs e looks starts appends holds served same right are wholes = record {
-  cause = λ files told. sym (comes_right chain a line files holds served (subst (λ l. every_right (shape_of chain) (bits_of l) ≡ true) same right) told);
-  outputs = λ files i told low. subst (Holds (d.told (output_name i))) (are.each i e low ∙ ap (λ (l : List ℕ). output_of chain l i) same ∙ bytes_of_line chain line files i (line_told chain a line files holds told)) (wholes i low);
-  others = all_others chain a b c d looks starts appends;
-}
+-- each output has all its bytes
+whole : (chain : Chain) (a d : ShelfState) (line bytes : List ℕ) (outs : List (Vec ℕ Global)) (e : Vec ℕ Global) → Holds (a.told line_name) line → bytes ≡ line → AreOutputs chain bytes outs →
+    ((leaf : ℕ) → leaf < 4 → Holds (d.told (output_name leaf)) (slice_index_or outs leaf e).items) → AreWhole (Demux chain) a d
+whole chain a d line bytes outs e holds same are wholes files i told low =
+    subst (Holds (d.told (output_name i))) (are.each i e low ∙ ap (λ (l : List ℕ). output_of chain l i) same ∙ bytes_of_line chain line files i (line_told chain a line files holds told)) (wholes i low)
+
+pub done : (chain : Chain) (a b c d : ShelfState) (line bytes : List ℕ) (outs : List (Vec ℕ Global)) (e : Vec ℕ Global) (frames : ℕ) → Looks a b → TouchesOnly (IsOutput (Demux chain)) b c → TouchesOnly (IsOutput (Demux chain)) c d →
+    Holds (a.told line_name) line → line_of chain (Some line) ≡ Ok line → bytes ≡ line → AreOutputs chain bytes outs → frames ≡ frames_received chain bytes → frames ≢ 0 →
+    ((leaf : ℕ) → leaf < 4 → Holds (d.told (output_name leaf)) (slice_index_or outs leaf e).items) → Performs (Demux chain) a d (Ok (Demuxed chain frames))
+done chain a b c d line bytes outs e frames looks starts appends holds served same are frames_are some wholes =
+    let count : frames_received chain line ≡ frames = sym (frames_are ∙ ap (frames_received chain) same) in
+    record {
+      cause = λ files told. sym (comes chain a line files holds served told ∙ demuxed_some chain line (subst (λ n. n ≢ 0) (sym count) some) ∙ ap (λ n. Ok (Demuxed chain n)) count);
+      outputs = whole chain a d line bytes outs e holds same are wholes;
+      others = all_others chain a b c d looks starts appends;
+    }
+
+-- no frame was delivered
+pub no_alignment : (chain : Chain) (a b c d : ShelfState) (line bytes : List ℕ) (outs : List (Vec ℕ Global)) (e : Vec ℕ Global) (frames bits : ℕ) → Looks a b → TouchesOnly (IsOutput (Demux chain)) b c → TouchesOnly (IsOutput (Demux chain)) c d →
+    Holds (a.told line_name) line → line_of chain (Some line) ≡ Ok line → bytes ≡ line → AreOutputs chain bytes outs → frames ≡ frames_received chain bytes → frames ≡ 0 → bits ≡ 8 * length line →
+    ((leaf : ℕ) → leaf < 4 → Holds (d.told (output_name leaf)) (slice_index_or outs leaf e).items) → Performs (Demux chain) a d (Err (NoAlignment bits))
+no_alignment chain a b c d line bytes outs e frames bits looks starts appends holds served same are frames_are none long wholes =
+    let count : frames_received chain line ≡ 0 = sym (frames_are ∙ ap (frames_received chain) same) ∙ none in
+    record {
+      cause = λ files told. sym (comes chain a line files holds served told ∙ demuxed_none chain line count ∙ ap (λ n. Err (NoAlignment n)) (sym long));
+      outputs = whole chain a d line bytes outs e holds same are wholes;
+      others = all_others chain a b c d looks starts appends;
+    }

@@ -3,6 +3,7 @@ pub mod Touching
 pub mod LineComes
 pub mod Causes
 pub mod DemuxFiles
+pub mod Received
 pub mod Texts
 pub mod Refusing
 pub mod ScheduleComes

@@ -22,7 +22,7 @@ use Rattle.pdh_words.specs.declared.commands.Command.TheVariants.{Mux}
 use Rattle.pdh_ops.specs.declared.file.File.TheVariants.{Line, Schedule, Leaf, Output}
 use Rattle.pdh_ops.specs.declared.mux.InputSizes.{InputSizes}
 use Rattle.pdh_ops.specs.declared.answer.Stop.{Stop}
-use Rattle.pdh_ops.specs.declared.answer.Stop.TheVariants.{Memory, Usage, Read, Write, Missing, LongSchedule, BadRow, UnknownNode, CountOver, Short, Overflow, Underflow, ManyFrames, NotYet}
+use Rattle.pdh_ops.specs.declared.answer.Stop.TheVariants.{Memory, Usage, Read, Write, Missing, LongSchedule, BadRow, UnknownNode, CountOver, Short, Overflow, Underflow, ManyFrames, NoAlignment}
 use Rattle.pdh_ops.proofs.Touching.{has_length_still}
 use Rattle.pdh_chain.specs.declared.chain.Chain.{Chain}
 
@@ -178,7 +178,7 @@ enough_refuses chain sizes rows a b (UnknownNode l) are has cause = absurd cause
 enough_refuses chain sizes rows a b (CountOver l n m) are has cause = absurd cause
 enough_refuses chain sizes rows a b (Overflow p) are has cause = absurd cause
 enough_refuses chain sizes rows a b (Underflow p) are has cause = absurd cause
-enough_refuses chain sizes rows a b NotYet are has cause = absurd cause
+enough_refuses chain sizes rows a b (NoAlignment n) are has cause = absurd cause
 
 -- the bytes of a leaf's file that were read give its bits
 pub bits_are : (chain : Chain) (a : ShelfState) (k : ℕ) (bytes : List ℕ) (files : Files) → k < 4 → Holds (a.told (leaf_name k)) bytes → AreTold (Mux chain) a.told files → leaf_bits files k ≡ bits_of bytes

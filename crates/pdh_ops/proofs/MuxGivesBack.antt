@@ -25,7 +25,7 @@ use Rattle.pdh_words.specs.declared.commands.Command.TheVariants.{Demux, Mux, Cl
 use Rattle.pdh_ops.specs.declared.answer.Done.{Done}
 use Rattle.pdh_ops.specs.declared.answer.Done.TheVariants.{Muxed}
 use Rattle.pdh_ops.specs.declared.answer.Stop.{Stop}
-use Rattle.pdh_ops.specs.declared.answer.Stop.TheVariants.{Memory, Usage, Read, Write, Missing, LongSchedule, BadRow, UnknownNode, CountOver, Short, Overflow, Underflow, ManyFrames, NotYet}
+use Rattle.pdh_ops.specs.declared.answer.Stop.TheVariants.{Memory, Usage, Read, Write, Missing, LongSchedule, BadRow, UnknownNode, CountOver, Short, Overflow, Underflow, ManyFrames, NoAlignment}
 use Rattle.pdh_ops.specs.declared.file.File.TheVariants.{Leaf}
 use Rattle.pdh_ops.proofs.MuxComes.{is_short_leaf}
 use Rattle.pdh_chain.specs.declared.chain.Chain.{Chain}
@@ -50,7 +50,7 @@ stop_status (Short f h n) = omega arith
 stop_status (Overflow p) = omega arith
 stop_status (Underflow p) = omega arith
 stop_status (ManyFrames n) = omega arith
-stop_status NotYet = omega arith
+stop_status (NoAlignment n) = omega arith
 
 not_short : (files : Files) (rows : List Row) (n : ℕ) → short_leaf files rows ≡ None → n ≤ 4 → (k : ℕ) → k < n → nat_lt (bits_held files k) (bits_needed rows k) ≡ false
 not_short files rows zero none few k h = absurd (omega arith)

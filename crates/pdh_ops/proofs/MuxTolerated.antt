@@ -27,7 +27,7 @@ use Rattle.pdh_ops.specs.declared.file.File.{File}
 use Rattle.pdh_ops.specs.declared.file.File.TheVariants.{Leaf}
 use Rattle.pdh_ops.specs.declared.answer.Done.TheVariants.{Muxed}
 use Rattle.pdh_ops.specs.declared.answer.Stop.{Stop}
-use Rattle.pdh_ops.specs.declared.answer.Stop.TheVariants.{Memory, Usage, Read, Write, Missing, LongSchedule, BadRow, UnknownNode, CountOver, Short, Overflow, Underflow, ManyFrames, NotYet}
+use Rattle.pdh_ops.specs.declared.answer.Stop.TheVariants.{Memory, Usage, Read, Write, Missing, LongSchedule, BadRow, UnknownNode, CountOver, Short, Overflow, Underflow, ManyFrames, NoAlignment}
 use Rattle.pdh_ops.proofs.MuxGivesBack.{IsDone, mux_done, frames_there, long_there, gives, stop_status}
 use Rattle.pdh_chain.specs.declared.chain.Chain.{Chain}
 use Rattle.pdh_chain.specs.Chains.{shape_of, levels_of, delay_of}
@@ -88,7 +88,7 @@ no_eight chain a b (UnknownNode l) files eight cause told none = absurd (omega a
 no_eight chain a b (CountOver l n m) files eight cause told none = absurd (omega arith)
 no_eight chain a b (Short f h n) files eight cause told none = absurd (omega arith)
 no_eight chain a b (ManyFrames n) files eight cause told none = absurd (omega arith)
-no_eight chain a b NotYet files eight cause told none = absurd (omega arith)
+no_eight chain a b (NoAlignment n) files eight cause told none = absurd (omega arith)
 
 answer_no_event : (chain : Chain) (a b : ShelfState) (k l : SinkState) (status : ℕ) (answer : Answer) → Performs (Mux chain) a b answer → IsTold answer k l status → HasNoEvent (Some (Mux chain)) a status
 answer_no_event chain a b k l status (Ok done) performs tells files told within eight = elim tells [ inl sent ↦ absurd (omega (arith, sent.0, eight)) | inr failed ↦ absurd (omega (arith, failed.0, eight)) ]

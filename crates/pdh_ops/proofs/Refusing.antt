@@ -10,7 +10,7 @@ use Rattle.pdh_ops.specs.Run.{Comes, Performs}
 use Rattle.pdh_ops.specs.Refusing.{Refuses}
 use Rattle.pdh_ops.specs.declared.file.File.{File}
 use Rattle.pdh_ops.specs.declared.answer.Stop.{Stop}
-use Rattle.pdh_ops.specs.declared.answer.Stop.TheVariants.{Memory, Usage, Read, Write, Missing, LongSchedule, BadRow, UnknownNode, CountOver, Short, Overflow, Underflow, ManyFrames, NotYet}
+use Rattle.pdh_ops.specs.declared.answer.Stop.TheVariants.{Memory, Usage, Read, Write, Missing, LongSchedule, BadRow, UnknownNode, CountOver, Short, Overflow, Underflow, ManyFrames, NoAlignment}
 use Rattle.pdh_ops.proofs.Causes.{looks_others}
 
 comes_before : (command : Command) (a b : ShelfState) (answer : Answer) → Looks a b → Comes command b answer → Comes command a answer
@@ -33,7 +33,7 @@ refuses_since command a b c (Short f h n) looks cause = comes_before command a b
 refuses_since command a b c (Overflow p) looks cause = absurd cause
 refuses_since command a b c (Underflow p) looks cause = absurd cause
 refuses_since command a b c (ManyFrames n) looks cause = comes_before command a b _ looks cause
-refuses_since command a b c NotYet looks cause = comes_before command a b _ looks cause
+refuses_since command a b c (NoAlignment n) looks cause = absurd cause
 
 -- it ends the command
 pub refuses_performs : (command : Command) (a b : ShelfState) (stop : Stop) → Looks a b → Refuses command a b stop → Performs command a b (Err stop)
@@ -50,7 +50,7 @@ refuses_performs command a b (Short f h n) looks cause = record { cause = cause;
 refuses_performs command a b (Overflow p) looks cause = absurd cause
 refuses_performs command a b (Underflow p) looks cause = absurd cause
 refuses_performs command a b (ManyFrames n) looks cause = record { cause = cause; outputs = looks.told; others = looks_others (IsOutput command) a b looks }
-refuses_performs command a b NotYet looks cause = record { cause = cause; outputs = looks.told; others = looks_others (IsOutput command) a b looks }
+refuses_performs command a b (NoAlignment n) looks cause = absurd cause
 
 -- ---- why a size isn't known, and why bytes aren't read
 
@@ -69,7 +69,7 @@ size_stop file a b (Short f h n) cause = absurd cause
 size_stop file a b (Overflow p) cause = absurd cause
 size_stop file a b (Underflow p) cause = absurd cause
 size_stop file a b (ManyFrames n) cause = absurd cause
-size_stop file a b NotYet cause = absurd cause
+size_stop file a b (NoAlignment n) cause = absurd cause
 
 pub read_refuses : (command : Command) (file : File) (a b : ShelfState) (stop : Stop) → IsReadStop file a b stop → Refuses command a b stop
 read_refuses command file a b Memory cause = tt
@@ -85,4 +85,4 @@ read_refuses command file a b (Short f h n) cause = absurd cause
 read_refuses command file a b (Overflow p) cause = absurd cause
 read_refuses command file a b (Underflow p) cause = absurd cause
 read_refuses command file a b (ManyFrames n) cause = absurd cause
-read_refuses command file a b NotYet cause = absurd cause
+read_refuses command file a b (NoAlignment n) cause = absurd cause

@@ -19,7 +19,7 @@ use Rattle.pdh_ops.specs.Refusing.{Refuses}
 use Rattle.pdh_ops.specs.ScheduleSteps.{RowsAre, IsScheduleStop}
 use Rattle.pdh_ops.specs.declared.file.File.TheVariants.{Schedule}
 use Rattle.pdh_ops.specs.declared.answer.Stop.{Stop}
-use Rattle.pdh_ops.specs.declared.answer.Stop.TheVariants.{Memory, Usage, Read, Write, Missing, LongSchedule, BadRow, UnknownNode, CountOver, Short, Overflow, Underflow, ManyFrames, NotYet}
+use Rattle.pdh_ops.specs.declared.answer.Stop.TheVariants.{Memory, Usage, Read, Write, Missing, LongSchedule, BadRow, UnknownNode, CountOver, Short, Overflow, Underflow, ManyFrames, NoAlignment}
 use Rattle.pdh_chain.specs.declared.chain.Chain.{Chain}
 use Rattle.pdh_chain.specs.Chains.{levels_of}
 
@@ -49,7 +49,7 @@ read_stops chain a b (Short f h n) cause = absurd cause
 read_stops chain a b (Overflow p) cause = absurd cause
 read_stops chain a b (Underflow p) cause = absurd cause
 read_stops chain a b (ManyFrames n) cause = absurd cause
-read_stops chain a b NotYet cause = absurd cause
+read_stops chain a b (NoAlignment n) cause = absurd cause
 
 -- the text that was read is the schedule's
 text_is : (a : ShelfState) (read text : List ℕ) → Holds (a.told schedule_name) read → a.told schedule_name ≡ Known (Some text) → text ≡ read
@@ -103,7 +103,7 @@ schedule_refuses chain command next a b (Short f h n) begins cause = absurd caus
 schedule_refuses chain command next a b (Overflow p) begins cause = absurd cause
 schedule_refuses chain command next a b (Underflow p) begins cause = absurd cause
 schedule_refuses chain command next a b (ManyFrames n) begins cause = absurd cause
-schedule_refuses chain command next a b NotYet begins cause = absurd cause
+schedule_refuses chain command next a b (NoAlignment n) begins cause = absurd cause
 
 -- and with rows it comes to what they come to
 pub comes_on : (chain : Chain) (command : Command) (next : Files → List Row → Answer) (a : ShelfState) (rows : List Row) (files : Files) → Begins chain command next a → RowsAre chain a (Ok rows) → AreTold command a.told files →

@@ -8,7 +8,7 @@ use Rattle.pdh_ops.specs.declared.answer.Done.{Done}
 use Rattle.pdh_ops.specs.declared.answer.Done.TheVariants.{Demuxed, Muxed, ClockInside, ClockOutside, ClockMade}
 use Rattle.pdh_ops.specs.declared.answer.OutOfTolerance.{OutOfTolerance}
 use Rattle.pdh_ops.specs.declared.answer.Stop.{Stop}
-use Rattle.pdh_ops.specs.declared.answer.Stop.TheVariants.{Memory, Usage, Read, Write, Missing, LongSchedule, BadRow, UnknownNode, CountOver, Short, Overflow, Underflow, ManyFrames, NotYet}
+use Rattle.pdh_ops.specs.declared.answer.Stop.TheVariants.{Memory, Usage, Read, Write, Missing, LongSchedule, BadRow, UnknownNode, CountOver, Short, Overflow, Underflow, ManyFrames, NoAlignment}
 
 -- what was done, or why not
 abbrev pub Answer : Type 0
@@ -33,7 +33,7 @@ status_of (Short file have need) = 7
 status_of (Overflow place) = 8
 status_of (Underflow place) = 8
 status_of (ManyFrames frames) = 10
-status_of NotYet = 13
+status_of (NoAlignment bits) = 11
 
 -- a place as texts have it: tributaries are counted from 1, frames and slots from 0
 abbrev pub place_text : Place → List ℕ
@@ -67,7 +67,7 @@ stop_text (Short file have need) = codes "short: " ++ name_of file ++ codes ": h
 stop_text (Overflow place) = codes "overflow: " ++ place_text place ++ codes "\n"
 stop_text (Underflow place) = codes "underflow: " ++ place_text place ++ codes "\n"
 stop_text (ManyFrames frames) = codes "too many frames: " ++ decimal frames ++ codes "\n"
-stop_text NotYet = codes "not yet: line.bits\n"
+stop_text (NoAlignment bits) = codes "no alignment: " ++ decimal bits ++ codes " bits\n"
 
 abbrev pub text_of : Answer → List ℕ
 text_of (Ok done) = done_text done

@@ -1,16 +1,16 @@
 -- What `demux` comes to, and what its outputs hold.
-use Rattle.std.specs.Prelude.{ℕ, ◌/◌, nat_lt, List, Option, Some, None, Result, Ok, Err, length, if◌then◌else◌}
+use Rattle.std.specs.Prelude.{ℕ, ◌*◌, ◌/◌, ◌==◌, nat_lt, List, Option, Some, None, Result, Ok, Err, length, if◌then◌else◌}
 use Rattle.pdh_bits.specs.Bits.{bits_of, bytes_of}
 use Rattle.pdh_shape.specs.Frame.{FrameShape}
 use Rattle.pdh_chain.specs.Chains.{shape_of, frame_bytes_of}
 use Rattle.pdh_chain.specs.declared.chain.Chain.{Chain}
-use Rattle.pdh_line.specs.Tracking.{every_right}
+use Rattle.pdh_line.specs.Tracking.{frames_delivered}
 use Rattle.pdh_line.specs.Receiving.{received}
 use Rattle.pdh_ops.specs.Answer.{Answer}
 use Rattle.pdh_ops.specs.declared.file.File.TheVariants.{Line}
 use Rattle.pdh_ops.specs.declared.answer.Done.TheVariants.{Demuxed}
 use Rattle.pdh_ops.specs.declared.answer.Stop.{Stop}
-use Rattle.pdh_ops.specs.declared.answer.Stop.TheVariants.{Missing, ManyFrames, NotYet}
+use Rattle.pdh_ops.specs.declared.answer.Stop.TheVariants.{Missing, ManyFrames, NoAlignment}
 
 -- how many whole frames a line holds
 abbrev pub frames_of : Chain → List ℕ → ℕ
@@ -19,13 +19,15 @@ frames_of chain line = length line / frame_bytes_of chain
 -- the line that is held, or why it is refused before it is read
 abbrev pub line_of : Chain → Option (List ℕ) → Result (List ℕ) Stop
 line_of chain None = Err (Missing Line)
-line_of chain (Some line) =
-    (if nat_lt 16384 (frames_of chain line) then Err (ManyFrames (frames_of chain line))
-    else (if nat_lt (frames_of chain line) 3 then Err NotYet else Ok line))
+line_of chain (Some line) = (if nat_lt 16384 (frames_of chain line) then Err (ManyFrames (frames_of chain line)) else Ok line)
 
--- the frames of a line whose alignment signals are all right
+-- how many frames of the line are delivered
+abbrev pub frames_received : Chain → List ℕ → ℕ
+frames_received chain line = frames_delivered (shape_of chain) (bits_of line)
+
+-- how many frames of the line are delivered; or none is, and then how many bits the line has
 unfoldable pub demuxed : Chain → List ℕ → Answer
-demuxed chain line = (if every_right (shape_of chain) (bits_of line) then Ok (Demuxed chain (frames_of chain line)) else Err NotYet)
+demuxed chain line = (if frames_received chain line == 0 then Err (NoAlignment (8 * length line)) else Ok (Demuxed chain (frames_received chain line)))
 
 -- what a leaf's output holds: the whole bytes of the received line of its tributary
 unfoldable pub output_with : FrameShape → List ℕ → ℕ → List ℕ

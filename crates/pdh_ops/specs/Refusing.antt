@@ -5,7 +5,7 @@ use Rattle.pdh_words.specs.declared.commands.Command.{Command}
 use Rattle.pdh_ops.specs.Names.{name_of}
 use Rattle.pdh_ops.specs.Run.{Comes}
 use Rattle.pdh_ops.specs.declared.answer.Stop.{Stop}
-use Rattle.pdh_ops.specs.declared.answer.Stop.TheVariants.{Memory, Usage, Read, Write, Missing, Overflow, Underflow}
+use Rattle.pdh_ops.specs.declared.answer.Stop.TheVariants.{Memory, Usage, Read, Write, Missing, Overflow, Underflow, NoAlignment}
 
 -- memory is wanting, a call failed to read, or the inputs come to this stop
 abbrev pub Refuses : Command → ShelfState → ShelfState → Stop → Type 0
@@ -16,4 +16,5 @@ Refuses command old new (Write file) = ⊥
 Refuses command old new (Missing file) = Rose old.misses new.misses × Comes command old (Err (Missing file))
 Refuses command old new (Overflow place) = ⊥
 Refuses command old new (Underflow place) = ⊥
+Refuses command old new (NoAlignment bits) = ⊥
 Refuses command old new stop = Comes command old (Err stop)

@@ -8,7 +8,7 @@ use Rattle.pdh_ops.specs.Answer.{Answer, status_of, done_text, stop_text}
 use Rattle.pdh_ops.specs.Commands.{outputs, output_bytes, comes_to, AreTold, IsOutput}
 use Rattle.pdh_words.specs.declared.commands.Command.{Command}
 use Rattle.pdh_ops.specs.declared.answer.Stop.{Stop}
-use Rattle.pdh_ops.specs.declared.answer.Stop.TheVariants.{Memory, Usage, Read, Write, Missing, Overflow, Underflow}
+use Rattle.pdh_ops.specs.declared.answer.Stop.TheVariants.{Memory, Usage, Read, Write, Missing, Overflow, Underflow, NoAlignment}
 
 -- ---- why a command answers
 
@@ -16,11 +16,13 @@ use Rattle.pdh_ops.specs.declared.answer.Stop.TheVariants.{Memory, Usage, Read, 
 abbrev pub Comes : Command → ShelfState → Answer → Type 0
 Comes command old answer = (files : Files) → AreTold command old.told files → answer ≡ comes_to command files
 
--- no step before the outputs refuses the inputs; an event of a store comes in the run, behind the start of the outputs
+-- no step before the outputs refuses the inputs; an event of a store, and a line without an alignment, are told behind the
+-- start of the outputs
 abbrev pub reaches_outputs : Answer → Bool
 reaches_outputs (Ok done) = true
 reaches_outputs (Err (Overflow place)) = true
 reaches_outputs (Err (Underflow place)) = true
+reaches_outputs (Err (NoAlignment bits)) = true
 reaches_outputs (Err stop) = false
 
 abbrev pub GoesOn : Command → ShelfState → Type 0
@@ -65,12 +67,14 @@ pub record AreCut (command : Command) (old new : ShelfState) : Type 0 where
   pub next : started < (outputs command).count → IsSame command old new started ⊎ (new.told ((outputs command).name started) ≡ Known (Some []))
   pub later : (i : ℕ) → started < i → i < (outputs command).count → IsSame command old new i
 
--- How an answer leaves the files. What was done and an event of a store leave whole outputs; what refuses before the
--- first start leaves the files as they were; a read may fail before that, or after all outputs are started.
+-- How an answer leaves the files. What was done, an event of a store and a line without an alignment leave whole outputs;
+-- what refuses before the first start leaves the files as they were; a read may fail before that, or after all outputs are
+-- started.
 abbrev pub AreLeft : Command → ShelfState → ShelfState → Answer → Type 0
 AreLeft command old new (Ok done) = AreWhole command old new
 AreLeft command old new (Err (Overflow place)) = AreWhole command old new
 AreLeft command old new (Err (Underflow place)) = AreWhole command old new
+AreLeft command old new (Err (NoAlignment bits)) = AreWhole command old new
 AreLeft command old new (Err (Read file)) = (new.told ≡ old.told) ⊎ AreBegun (outputs command).count command old new
 AreLeft command old new (Err (Write file)) = AreCut command old new
 AreLeft command old new (Err stop) = new.told ≡ old.told

@@ -59,8 +59,8 @@ pub enum Stop {
     Underflow(Place),
     /// The line has more frames than 16,384.
     ManyFrames(u64),
-    /// The line is of a form that isn't demultiplexed yet.
-    NotYet,
+    /// No frame of the line was delivered: its bits.
+    NoAlignment(u64),
 }
 
 impl Stop {
@@ -85,7 +85,7 @@ impl Stop {
             Stop::Overflow(_) => 8,
             Stop::Underflow(_) => 8,
             Stop::ManyFrames(_) => 10,
-            Stop::NotYet => 13,
+            Stop::NoAlignment(_) => 11,
         }
     }
 }

@@ -1,15 +1,13 @@
-ghost use Rattle.std.specs.Prelude.{◌≡◌, ◌<◌, ◌≤◌, ℕ, [], length, true, IfOk, OnOk, OnErr, IfErr, Some, Ok, Vec, slice_index_or};
+ghost use Rattle.std.specs.Prelude.{◌≡◌, ◌<◌, ℕ, [], ◌∷◌, length, replicate, IsTrue, IfOk, OnOk, OnErr, IfErr, Some, Ok, Vec, slice_index_or};
 ghost use Rattle.std.specs.declared.alloc.Global.{Global};
-ghost use Rattle.pdh_bits.specs.Bits.{bits_of as bits_in};
 ghost use Rattle.pdh_edge.specs.Files.{TouchesOnly, Holds, HoldsPrefix};
-ghost use Rattle.pdh_chain.specs.Chains.{shape_of};
-ghost use Rattle.pdh_line.specs.Tracking.{frames_in, every_right as is_every_right};
+ghost use Rattle.pdh_edge.specs.MemLists.{inputs_of, outputs_of};
 ghost use Rattle.pdh_ops.specs.Names.{output_name};
-ghost use Rattle.pdh_ops.specs.Demux.{line_of, output_of};
+ghost use Rattle.pdh_ops.specs.Demux.{line_of};
 ghost use Rattle.pdh_ops.specs.Commands.{IsOutput};
 ghost use Rattle.pdh_ops.specs.Run.{AreCut, Performs};
 ghost use Rattle.pdh_words.specs.declared.commands.Command.TheVariants.{Demux};
-ghost use Rattle.pdh_ops.specs.Steps.{AreOutputs, AreOutputsWith, IsFramesCause, IsFramesCauseWith};
+ghost use Rattle.pdh_ops.specs.Steps.{AreBytes, IsReceived};
 ghost use Rattle.pdh_ops.specs.Writing.{IsWriteStop};
 
 use crate::answer::{Done, Stop};
@@ -17,46 +15,75 @@ use crate::file::File;
 use crate::files::{append, start};
 use crate::line::read_line;
 use pdh_bits::{bits_of, bytes_of};
-use pdh_chain::{Chain, frame_bytes};
-use pdh_edge::Shelf;
-use pdh_line::{every_right, received};
-use pdh_shape::{E2, E3, E4, Shape};
-use std::alloc::Global;
+use pdh_chain::{Chain, leaves};
+use pdh_edge::{Drain, Feed, MemPort, Port, Shelf};
+use pdh_watch::Quiet;
+use std::alloc::{AllocError, Global};
 
-// The bytes of the four outputs of a line of a shape.
-fn outputs_with<S: Shape>(alloc: Global, line: &[u8]) -> Result<Vec<Vec<u8>>, Stop>
-    requires tribs { S.TRIBS ≡ 4 }
-    requires three { 3 ≤ frames_in S.shape (bits_in line.now) }
-    ensures ok { IfOk result (λ outputs. AreOutputsWith S.shape line.now outputs.items) }
-    ensures right { OnOk result (is_every_right S.shape (bits_in line.now) ≡ true) }
-    ensures err { IfErr result (IsFramesCauseWith S.shape line.now) }
+// What a line gives: the bytes of each leaf, and how many frames are delivered.
+#[derive(Drop)]
+struct Received {
+    outputs: Vec<Vec<u8>>,
+    frames: u64,
+}
+
+// Makes room for so many bits in the list of each leaf.
+fn make_room(port: &mut MemPort, leaves: u32, bits: usize) -> Result<(), AllocError>
+    requires { (k : ℕ) → k < leaves → IsTrue ((⟦<MemPort as Drain>⟧.outputs port.old).holds k) }
+    ensures inputs { ⟦<MemPort as Feed>⟧.inputs port.new ≡ ⟦<MemPort as Feed>⟧.inputs port.old }
+    ensures outputs { ⟦<MemPort as Drain>⟧.outputs port.new ≡ ⟦<MemPort as Drain>⟧.outputs port.old }
+    ensures fresh { ⟦<MemPort as Port>⟧.fresh port.old → ⟦<MemPort as Port>⟧.fresh port.new }
 {
-    let bits = bits_of(alloc, line)?;
-    if !every_right::<S>(&bits) {
-        return Err(Stop::NotYet);
+    for leaf in 0..leaves {
+        port.room(leaf, bits)?;
     }
+    Ok(())
+}
+
+// A port that gives a line and takes what its leaves receive. There is room for all of that: a line
+// carries no more bits of its leaves than it has.
+fn port_of(alloc: Global, line: Vec<bool>, leaves: u32) -> Result<MemPort, AllocError>
+    requires { 0 < leaves }
+    ensures inputs { IfOk result (λ port. ⟦<MemPort as Feed>⟧.inputs port ≡ inputs_of (line.items ∷ [])) }
+    ensures outputs { IfOk result (λ port. ⟦<MemPort as Drain>⟧.outputs port ≡ outputs_of (replicate leaves [])) }
+    ensures fresh { IfOk result ⟦<MemPort as Port>⟧.fresh }
+{
+    let bits = line.len() / leaves as usize;
+    let mut inputs = Vec::new(alloc);
+    inputs.push(line)?;
+    let mut port = MemPort::open(alloc, inputs, leaves)?;
+    make_room(&mut port, leaves, bits)?;
+    Ok(port)
+}
+
+// The whole bytes of the list of each leaf.
+fn leaf_bytes(alloc: Global, port: &MemPort, leaves: u32) -> Result<Vec<Vec<u8>>, AllocError>
+    requires { (k : ℕ) → k < leaves → IsTrue ((⟦<MemPort as Drain>⟧.outputs port.now).holds k) }
+    ensures { IfOk result (λ outputs. AreBytes (⟦<MemPort as Drain>⟧.outputs port.now) leaves outputs.items) }
+{
     let mut outputs = Vec::new(alloc);
-    for leaf in 0..4 {
-        let output = bytes_of(alloc, &received::<S>(alloc, &bits, leaf)?)?;
-        if outputs.push(output).is_err() {
-            return Err(Stop::Memory);
-        }
+    for leaf in 0..leaves {
+        outputs.push(bytes_of(alloc, port.output(leaf))?)?;
     }
     Ok(outputs)
 }
 
-// Those of a line of a chain.
-fn outputs(alloc: Global, chain: Chain, line: &[u8]) -> Result<Vec<Vec<u8>>, Stop>
-    requires { line_of chain (Some line.now) ≡ Ok line.now }
-    ensures ok { IfOk result (λ outputs. AreOutputs chain line.now outputs.items) }
-    ensures right { OnOk result (is_every_right (shape_of chain) (bits_in line.now) ≡ true) }
-    ensures err { IfErr result (IsFramesCause chain line.now) }
+// What a line gives.
+fn receive(alloc: Global, chain: Chain, line: &[u8]) -> Result<Received, Stop>
+    ensures ok { IfOk result (IsReceived chain line.now) }
+    ensures err { IfErr result (λ stop. stop ≡ Stop.Memory) }
 {
-    match chain {
-        Chain::E12 => outputs_with::<E2>(alloc, line),
-        Chain::E23 => outputs_with::<E3>(alloc, line),
-        Chain::E34 => outputs_with::<E4>(alloc, line),
-    }
+    let bits = bits_of(alloc, line)?;
+    let count = bits.len() as u64;
+    let leaves = leaves(chain);
+    let mut port = port_of(alloc, bits, leaves)?;
+    let frames = match pdh_chain::demux(alloc, chain, count, &mut port, &mut Quiet) {
+        Ok(frames) => frames,
+        // The line has its bits, and the port its memory.
+        Err(_) => return Err(Stop::Memory),
+    };
+    let outputs = leaf_bytes(alloc, &port, leaves)?;
+    Ok(Received { outputs, frames })
 }
 
 // Makes the outputs empty, in order.
@@ -89,14 +116,17 @@ fn append_all<S: Shelf>(chain: Chain, shelf: &mut S, outputs: &[Vec<u8>]) -> Res
     Ok(())
 }
 
-/// Reads the line, writes each tributary's bits, and answers the number of frames.
+/// Reads the line, writes each tributary's bits, and answers the number of frames that were
+/// delivered, or that none was.
 pub fn demux<S: Shelf>(alloc: Global, chain: Chain, shelf: &mut S) -> Result<Done, Stop>
     ensures { Performs (Demux chain) (S.state shelf.old) (S.state shelf.new) result }
 {
     let line = read_line(alloc, chain, shelf)?;
-    let outputs = outputs(alloc, chain, &line)?;
+    let received = receive(alloc, chain, &line)?;
     start_all(chain, shelf)?;
-    append_all(chain, shelf, &outputs)?;
-    let frames = line.len() as u64 / u64::from(frame_bytes(chain));
-    Ok(Done::Demuxed(chain, frames))
+    append_all(chain, shelf, &received.outputs)?;
+    if received.frames == 0 {
+        return Err(Stop::NoAlignment(8 * line.len() as u64));
+    }
+    Ok(Done::Demuxed(chain, received.frames))
 }

@@ -1,6 +1,8 @@
 //! The top call: it does all that the program does.
 #![tactic(auto)]
 
+#[cfg(test)]
+mod alignment_tests;
 mod answer;
 #[cfg(test)]
 mod chain_tests;

@@ -12,7 +12,7 @@ use pdh_chain::{Chain, frame_bytes};
 use pdh_edge::Shelf;
 use std::alloc::Global;
 
-// The bytes of the line, if it has a number of frames that can be demultiplexed yet.
+// The bytes of the line, if it has no more frames than a line may have.
 pub fn read_line<S: Shelf>(alloc: Global, chain: Chain, shelf: &mut S) -> Result<Vec<u8>, Stop>
     ensures looks { Looks (S.state shelf.old) (S.state shelf.new) }
     ensures line { IfOk result (λ line. Holds ((S.state shelf.old).told line_name) line.items) }
@@ -23,9 +23,6 @@ pub fn read_line<S: Shelf>(alloc: Global, chain: Chain, shelf: &mut S) -> Result
     let frames = bytes / u64::from(frame_bytes(chain));
     if frames > MOST_FRAMES {
         return Err(Stop::ManyFrames(frames));
-    }
-    if frames < 3 {
-        return Err(Stop::NotYet);
     }
     read(alloc, shelf, File::Line, bytes)
 }

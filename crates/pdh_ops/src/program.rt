@@ -53,8 +53,8 @@ fn answer<S: Shelf>(alloc: Global, words: &[String], shelf: &mut S) -> Result<Do
 /// table; 3, a call of the shelf failed to read; 4, a call of the shelf failed to write, or the
 /// sink failed to take the text of status 0; 5, an input isn't held; 6, the schedule's text has a
 /// fault; 7, a leaf's file has too few bits; 8, an elastic store overflows or underflows, and the line
-/// ends before that frame; 10, the line, or the schedule that is asked for, has too many frames; 13, the
-/// line is of a form that isn't demultiplexed yet.
+/// ends before that frame; 10, the line, or the schedule that is asked for, has too many frames; 11, no
+/// frame of the line was delivered, and the outputs hold what a search for one gives.
 pub fn run<S: Shelf, K: Sink>(
     alloc: Global,
     words: &[String],

@@ -145,6 +145,18 @@ fn over(line: u32, count: u64, most: u32) -> Text
     text
 }
 
+// The line of a line without an alignment.
+#[tactic(auto, using(crate::proofs::Texts::digits))]
+fn no_alignment(bits: u64) -> Text
+    ensures { result ≡ codes "no alignment: " ++ decimal bits ++ codes " bits\n" }
+{
+    let mut text = Text::new();
+    text.text("no alignment: ");
+    text.number(bits);
+    text.text(" bits\n");
+    text
+}
+
 // The line of a file with too few bits.
 #[tactic(auto, using(crate::proofs::Texts::digits))]
 fn short(file: File, have: u64, need: u64) -> Text
@@ -192,7 +204,7 @@ fn stop_text(stop: Stop) -> Text
         Stop::Overflow(place) => placed("overflow: ", place),
         Stop::Underflow(place) => placed("underflow: ", place),
         Stop::ManyFrames(frames) => counted("too many frames: ", frames),
-        Stop::NotYet => plain("not yet: line.bits"),
+        Stop::NoAlignment(bits) => no_alignment(bits),
     }
 }
 

@@ -80,12 +80,6 @@ const USAGE: Expected = Expected {
     outputs: NOTHING,
 };
 
-const NOT_YET: Expected = Expected {
-    status: 13,
-    text: b"not yet: line.bits\n",
-    outputs: NOTHING,
-};
-
 const MANY: Expected = Expected {
     status: 10,
     text: b"too many frames: 16385\n",
@@ -124,6 +118,14 @@ fn of_frames(frames: usize) -> Given<'static> {
     }
 }
 
+fn unaligned(text: &'static [u8]) -> Expected<'static> {
+    Expected {
+        status: 11,
+        text,
+        outputs: [Some(0); 4],
+    }
+}
+
 fn write_fault(text: &'static [u8], outputs: [Option<usize>; 4]) -> Expected<'static> {
     Expected {
         status: 4,
@@ -158,8 +160,8 @@ fn answers(rt: HostRuntime) -> Result<(), Fail> {
     };
     let cases = [
         (FINE, DONE),
-        (second, NOT_YET),
-        (of_frames(2), NOT_YET),
+        (second, unaligned(b"no alignment: 2544 bits\n")),
+        (of_frames(2), unaligned(b"no alignment: 1696 bits\n")),
         (of_frames(16_385), MANY),
         (missing, MISSING),
         (failing(Call::Size, 0), READ_FAULT),

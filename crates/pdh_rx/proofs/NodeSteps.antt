@@ -1,29 +1,26 @@
 -- One more received bit of a demultiplexer.
-use Rattle.std.proofs.Common.{◌≡◌, inl, inr, ℕ, suc, ◌+◌, ◌*◌, ◌-◌, ◌/◌, ◌%◌, ◌^◌, ◌<◌, min, ◌==◌, Bool, true, false, cond, List, [], ◌∷◌, ◌++◌, length, map, replicate, drop, refl, sym, ◌∙◌, ap, subst, arith, append_assoc}
+use Rattle.std.proofs.Common.{◌≡◌, inl, inr, ℕ, suc, ◌+◌, ◌*◌, ◌-◌, ◌/◌, ◌%◌, ◌^◌, ◌<◌, min, ◌==◌, Bool, true, cond, List, [], ◌∷◌, ◌++◌, length, map, replicate, refl, sym, ◌∙◌, ap, subst, arith, append_assoc}
 use Rattle.std.specs.Prelude.{flat_map, count_by}
-use Rattle.std.specs.List.{range_with_len}
 use Rattle.std.proofs.lemmas.List.{append-nil, length-map, replicate-append-replicate}
-use Rattle.std.proofs.lemmas.List.Sums.{sum_by-append, sum_by-cons}
 use Rattle.std.proofs.lemmas.Grind.{flat_map-append}
-use Rattle.std.proofs.lemmas.Bool.{cases_eq, eq-eqb, ne_eqb, le-ltb, false≢true}
+use Rattle.std.proofs.lemmas.Bool.{cases_eq, eq-eqb, ne_eqb, false≢true}
 use Rattle.std.proofs.lemmas.Nat.{div-mul-add, mod-mul-add}
 use Rattle.std.proofs.Math.Nat.{zero-div, suc-mul}
 use Rattle.pdh_edge.specs.Ports.{Outputs}
 use Rattle.pdh_shape.specs.declared.place.Path.{Path}
 use Rattle.pdh_shape.specs.Frame.{FrameShape, IsFrame}
 use Rattle.pdh_shape.specs.Tributary.{stripped}
-use Rattle.pdh_line.specs.Least.{least_below}
-use Rattle.pdh_line.specs.Tracking.{Piece, is_confirmed, positions, gap_of, is_found, delivered, aligned, frame_of, track}
+use Rattle.pdh_line.specs.Tracking.{Piece, track, is_delivered, frames_delivered}
 use Rattle.pdh_line.specs.Tracking.Piece.{Gap, Delivered}
 use Rattle.pdh_line.specs.Receiving.{piece_bits, received}
-use Rattle.pdh_line.proofs.LeastLaws.{least_below-zero}
 use Rattle.pdh_align.specs.declared.step.Step.{Step}
 use Rattle.pdh_align.specs.declared.step.Step.TheVariants.{Nothing, Rejected, Aligned, Frame, Lost}
 use Rattle.pdh_align.specs.Aligning.{Held, StandsFor, Grows, Tracks, frames_gained}
 use Rattle.pdh_rx.specs.Meaning.{Meaning, Gains, GainsPart}
-use Rattle.pdh_rx.specs.Node.{EachStands, IsDisjoint, received_lines, node_meaning, with_more, Gives, GivesPart, frames_bits, gap_after, frames_after, step_bits, IsGap, is_delivered, frames_counted, NodeStands}
+use Rattle.pdh_rx.specs.Node.{EachStands, IsDisjoint, received_lines, node_meaning, with_more, Gives, GivesPart, frames_bits, gap_after, frames_after, step_bits, IsGap, frames_counted, NodeStands}
 use Rattle.pdh_rx.specs.NodeLaws.{got_by_same}
-use Rattle.pdh_align.proofs.TrackingLaws.{gap_of_is, delivered_none, is_lost_none, one_search_is, track_open}
+use Rattle.pdh_line.proofs.DeliveredLaws.{count_append, count_frames, count_gap, frames_delivered-le}
+use Rattle.pdh_line.proofs.RightLines.{piece_bits_gap, track-short, received-short}
 use Rattle.pdh_rx.proofs.Gains.{each_same, gains_is, part_is}
 
 -- ---- what a step gives
@@ -31,10 +28,6 @@ use Rattle.pdh_rx.proofs.Gains.{each_same, gains_is, part_is}
 received_is : (s : FrameShape) (j : ℕ) (line : List Bool) → received s j line ≡ flat_map (piece_bits s j) (track s line)
 unfolding received
 received_is s j line = refl
-
-gap_is : (s : FrameShape) (j n : ℕ) → piece_bits s j (Gap n) ≡ replicate (n / s.len * s.low) true
-unfolding piece_bits
-gap_is s j n = refl
 
 frames_are : (s : FrameShape) (j : ℕ) (ready : List (List Bool)) → flat_map (piece_bits s j) (map Delivered ready) ≡ frames_bits s ready j
 unfolding piece_bits
@@ -53,14 +46,14 @@ gap_more s j n gap shape is =
           let quotient : suc n / s.len ≡ suc q = ap (λ v. v / s.len) next ∙ div-mul-add (suc q) s.len 0 shape.some_slots in
           let more : suc q * s.low ≡ q * s.low + s.low = suc-mul q s.low in
           let now : gap_after s Rejected gap ≡ 0 = ap (λ b. cond b 0 (suc gap)) (eq-eqb (suc gap) s.len last) in
-          gap_is s j (suc n) ∙ ap (λ v. replicate (v * s.low) true) quotient ∙ ap (λ v. replicate v true) more
-          ∙ sym (replicate-append-replicate (q * s.low) s.low true) ∙ ap (λ v. v ++ replicate s.low true) (sym (gap_is s j n))
+          piece_bits_gap s j (suc n) ∙ ap (λ v. replicate (v * s.low) true) quotient ∙ ap (λ v. replicate v true) more
+          ∙ sym (replicate-append-replicate (q * s.low) s.low true) ∙ ap (λ v. v ++ replicate s.low true) (sym (piece_bits_gap s j n))
           ∙ ap (λ v. piece_bits s j (Gap n) ++ cond (v == 0) (replicate s.low true) []) (sym now)
       | inr more ↦
           let next : suc n ≡ q * s.len + suc gap = omega (arith, place) in
           let quotient : suc n / s.len ≡ q = ap (λ v. v / s.len) next ∙ div-mul-add q s.len (suc gap) (within gap s.len inside more) in
           let now : gap_after s Rejected gap ≡ suc gap = ap (λ b. cond b 0 (suc gap)) (ne_eqb (suc gap) s.len more) in
-          gap_is s j (suc n) ∙ ap (λ v. replicate (v * s.low) true) quotient ∙ sym (gap_is s j n) ∙ sym (append-nil (piece_bits s j (Gap n)))
+          piece_bits_gap s j (suc n) ∙ ap (λ v. replicate (v * s.low) true) quotient ∙ sym (piece_bits_gap s j n) ∙ sym (append-nil (piece_bits s j (Gap n)))
           ∙ ap (λ b. piece_bits s j (Gap n) ++ cond b (replicate s.low true) []) (sym (ap (λ v. v == 0) now ∙ ne_eqb (suc gap) 0 (λ e. omega arith)))
     ]
   where
@@ -89,7 +82,7 @@ pieces_gain s j Frame ready before after gap shape is g =
 pieces_gain s j Lost ready before after gap shape is g =
     let none : 0 / s.len * s.low ≡ 0 = ap (λ v. v * s.low) (zero-div s.len) ∙ omega arith in
     ap (flat_map (piece_bits s j)) g.1 ∙ flat_map-append (piece_bits s j) before (Gap 0 ∷ [])
-    ∙ ap (λ v. flat_map (piece_bits s j) before ++ v) (append-nil (piece_bits s j (Gap 0)) ∙ gap_is s j 0 ∙ ap (λ v. replicate v true) none)
+    ∙ ap (λ v. flat_map (piece_bits s j) before ++ v) (append-nil (piece_bits s j (Gap 0)) ∙ piece_bits_gap s j 0 ∙ ap (λ v. replicate v true) none)
 
 -- ---- the state after a step
 
@@ -162,18 +155,8 @@ gap_inside s Lost gap inside = omega (arith, inside)
 
 -- ---- frames
 
-abbrev one_count : Piece → ℕ
-one_count p = cond (is_delivered p) 1 0
-
-count_append : (xs ys : List Piece) → count_by is_delivered (xs ++ ys) ≡ count_by is_delivered xs + count_by is_delivered ys
-count_append xs ys = sum_by-append one_count xs ys
-
-count_frames : (ready : List (List Bool)) → count_by is_delivered (map Delivered ready) ≡ length ready
-count_frames [] = refl
-count_frames (frame ∷ ready) = sum_by-cons one_count (Delivered frame) (map Delivered ready) ∙ ap (λ n. 1 + n) (count_frames ready) ∙ omega arith
-
-count_gap : (n : ℕ) → ◌≡◌ {A = ℕ} (count_by is_delivered (Gap n ∷ [])) 0
-count_gap n = sum_by-cons one_count (Gap n) []
+made : (ready : List (List Bool)) → count_by is_delivered (map Delivered ready) ≡ length ready
+made ready = count_frames (λ frame. frame) ready
 
 counts_go : (step : Step) (ready : List (List Bool)) (before after : List Piece) → Grows step ready before after → count_by is_delivered after ≡ count_by is_delivered before + frames_gained step
 counts_go Nothing ready before after g = ap (count_by is_delivered) g.1 ∙ omega arith
@@ -182,20 +165,25 @@ counts_go Rejected ready before after g =
     let b = ap (count_by is_delivered) g.4 ∙ count_append g.0 (Gap (suc g.1) ∷ []) in
     omega (arith, a, b, count_gap g.1, count_gap (suc g.1))
 counts_go Aligned ready before after g =
-    let b = ap (count_by is_delivered) g.4 ∙ count_append before (map Delivered ready) in omega (arith, b, count_frames ready, g.2)
+    let b = ap (count_by is_delivered) g.4 ∙ count_append before (map Delivered ready) in omega (arith, b, made ready, g.2)
 counts_go Frame ready before after g =
-    let b = ap (count_by is_delivered) g.1 ∙ count_append before (map Delivered ready) in omega (arith, b, count_frames ready, g.0)
+    let b = ap (count_by is_delivered) g.1 ∙ count_append before (map Delivered ready) in omega (arith, b, made ready, g.0)
 counts_go Lost ready before after g =
     let b = ap (count_by is_delivered) g.1 ∙ count_append before (Gap 0 ∷ []) in omega (arith, b, count_gap 0)
 
 stays : (a b most : ℕ) → min (min a most + b) most ≡ min (a + b) most
 stays a b most = omega arith
 
-pub frames_go : (step : Step) (ready : List (List Bool)) (before after : List Piece) (frames : ℕ) → frames ≡ frames_counted before → Grows step ready before after → frames_after step frames ≡ frames_counted after
+pub frames_go : (s : FrameShape) (step : Step) (ready : List (List Bool)) (before after : List Bool) (frames : ℕ) → frames ≡ frames_counted s before → Grows step ready (track s before) (track s after) → frames_after step frames ≡ frames_counted s after
+unfolding frames_counted frames_delivered
+frames_go s step ready before after frames is g =
+    ap (λ n. min (n + frames_gained step) (2 ^ 64 - 1)) is ∙ stays (count_by is_delivered (track s before)) (frames_gained step) (2 ^ 64 - 1)
+    ∙ ap (λ n. min n (2 ^ 64 - 1)) (sym (counts_go step ready (track s before) (track s after) g))
+
+-- a line of a length that a list can have is counted exactly
+pub frames_exact : (s : FrameShape) (line : List Bool) → IsFrame s → length line < 2 ^ 63 → frames_counted s line ≡ frames_delivered s line
 unfolding frames_counted
-frames_go step ready before after frames is g =
-    ap (λ n. min (n + frames_gained step) (2 ^ 64 - 1)) is ∙ stays (count_by is_delivered before) (frames_gained step) (2 ^ 64 - 1)
-    ∙ ap (λ n. min n (2 ^ 64 - 1)) (sym (counts_go step ready before after g))
+frames_exact s line shape short = omega (arith, short, frames_delivered-le s line shape)
 
 -- ---- the whole
 
@@ -218,7 +206,7 @@ module _ {C : Type 0} (stands : C → List Bool → Type 0) (meaning : C → Mea
     aligner = tracks.stands;
     inside = (let below = gap_inside s step gap node.inside in omega (arith, now, below));
     gap_is = λ others n e. now ∙ gap_goes s step held'.ready (track s line) (track s (line ++ bit ∷ [])) gap shape node.gap_is tracks.grows others n e;
-    frames_are = delivers ∙ frames_go step held'.ready (track s line) (track s (line ++ bit ∷ [])) frames node.frames_are tracks.grows;
+    frames_are = delivers ∙ frames_go s step held'.ready line (line ++ bit ∷ []) frames node.frames_are tracks.grows;
   }
 
   pub node_gains : (new : List C) (o p : Outputs) → Gives stands (map meaning children) (step_bits s step held'.ready gap') children new o p
@@ -233,21 +221,13 @@ module _ {C : Type 0} (stands : C → List Bool → Type 0) (meaning : C → Mea
 
 -- no bit is a gap of no positions
 track_none : (s : FrameShape) → IsFrame s → track s [] ≡ Gap 0 ∷ []
-track_none s shape =
-    let short : positions s [] ≡ 0 = omega (arith, shape.some_slots) in
-    let gap : gap_of s [] ≡ 0 = gap_of_is s [] ∙ ap (λ n. least_below n (λ p. is_confirmed s (drop p []))) short ∙ least_below-zero (λ p. is_confirmed s (drop p [])) in
-    let none : is_found s [] ≡ false = le-ltb (gap_of s []) (positions s []) (omega (arith, short)) in
-    track_open s [] (is_lost_none s [] none) ∙ one_search_is s []
-    ∙ ap (λ n. Gap n ∷ map (λ k. Delivered (frame_of s (aligned s []) k)) (range_with_len 0 (delivered s []))) gap
-    ∙ ap (λ n. Gap 0 ∷ map (λ k. Delivered (frame_of s (aligned s []) k)) (range_with_len 0 n)) (delivered_none s [] none)
+track_none s shape = track-short s [] (omega (arith, shape.some_slots))
 
 received_none : (s : FrameShape) (j : ℕ) → IsFrame s → [] ≡ received_lines s [] j
-received_none s j shape =
-    let none : 0 / s.len * s.low ≡ 0 = ap (λ v. v * s.low) (zero-div s.len) ∙ omega arith in
-    sym (received_is s j [] ∙ ap (flat_map (piece_bits s j)) (track_none s shape) ∙ append-nil (piece_bits s j (Gap 0)) ∙ gap_is s j 0 ∙ ap (λ v. replicate v true) none)
+received_none s j shape = sym (received-short s j [] shape (omega (arith, shape.some_slots)))
 
-no_frames : (s : FrameShape) → IsFrame s → 0 ≡ frames_counted (track s [])
-unfolding frames_counted
+no_frames : (s : FrameShape) → IsFrame s → 0 ≡ frames_counted s []
+unfolding frames_counted frames_delivered
 no_frames s shape = sym (ap (λ p. min (count_by is_delivered p) (2 ^ 64 - 1)) (track_none s shape) ∙ ap (λ n. min n (2 ^ 64 - 1)) (count_gap 0))
 
 pub opened : {C : Type 0} (stands : C → List Bool → Type 0) (meaning : C → Meaning) (s : FrameShape) → IsFrame s → (children : List C) (ones : List ℕ) (held : Held) → length children ≡ s.tribs → length ones ≡ s.tribs → IsDisjoint (map meaning children)

@@ -1,7 +1,7 @@
 -- Leaves that are numbered from 0.
-use Rattle.std.proofs.Common.{◌≡◌, ℕ, zero, suc, ◌+◌, List, [], ◌∷◌, ◌++◌, map, length, Some, None, slice_get, refl, ap, sym, ◌∙◌, arith}
+use Rattle.std.proofs.Common.{◌≡◌, ℕ, zero, suc, ◌+◌, ◌<◌, ◌==◌, ◌||◌, true, inl, inr, List, [], ◌∷◌, ◌++◌, map, length, Some, None, slice_get, refl, ap, sym, ◌∙◌, arith}
 use Rattle.std.specs.List.{range_with_len}
-use Rattle.std.proofs.lemmas.Bool.{eqb-true}
+use Rattle.std.proofs.lemmas.Bool.{eqb-true, cases_Bool, false≢true}
 use Rattle.std.proofs.lemmas.List.{map-append, length-map}
 use Rattle.std.proofs.lemmas.List.FromFn.{length-range_with_len}
 use Rattle.pdh_line.proofs.Ranges.{range_push}
@@ -9,7 +9,7 @@ use Rattle.pdh_shape.specs.declared.place.Path.{Path}
 use Rattle.pdh_rx.specs.declared.tail.Tail.{Tail}
 use Rattle.pdh_rx.specs.Meaning.{Meaning}
 use Rattle.pdh_rx.specs.Tail.{tail_meaning, tail_meanings}
-use Rattle.pdh_rx.specs.Node.{IsDisjoint, ArePlaced}
+use Rattle.pdh_rx.specs.Node.{IsDisjoint, ArePlaced, any_leaf}
 
 abbrev pub one_tail : ℕ → Tail
 one_tail leaf = record { leaf = leaf }
@@ -50,3 +50,14 @@ disjoint_tails n i j k a b at at' is is' =
 pub placed_tails : (n : ℕ) (path : Path) → ArePlaced path (tail_meanings n)
 placed_tails n path j m below at is =
     absurd (let none : None ≡ Some below = sym (ap (λ (m : Meaning). m.path) (tail_found n j m at)) ∙ is in cc)
+
+-- a leaf below these is one of the numbers
+pub leaf_below : (n k : ℕ) → any_leaf (tail_meanings n) k ≡ true → k < n
+leaf_below n k is = omega (arith, from 0 n is)
+  where
+    from : (a n : ℕ) → any_leaf (map tail_meaning (range_with_len a n)) k ≡ true → k < a + n
+    from a zero is = absurd (false≢true is)
+    from a (suc n) is = elim (cases_Bool (k == a)) [
+      | inl here ↦ omega (arith, eqb-true k a here)
+      | inr other ↦ omega (arith, from (a + 1) n (ap (λ b. b || any_leaf (map tail_meaning (range_with_len (a + 1) n)) k) (sym other) ∙ is))
+    ]

@@ -1,19 +1,19 @@
 -- The slots of a frame one after another: what each gives the tributaries.
-use Rattle.std.proofs.Common.{◌≡◌, inl, inr, ℕ, zero, suc, ◌+◌, ◌-◌, ◌<◌, ◌≤◌, Bool, true, false, ◌&&◌, ◌==◌, not, cond, List, [], ◌∷◌, ◌++◌, length, map, filter, Some, None, refl, sym, ap, ◌∙◌, arith, slice_index_or, replicate, take, drop}
+use Rattle.std.proofs.Common.{◌≡◌, inl, inr, ℕ, zero, suc, ◌+◌, ◌-◌, ◌<◌, ◌≤◌, Bool, true, false, ◌&&◌, ◌==◌, not, cond, List, [], ◌∷◌, ◌++◌, length, map, filter, Some, None, refl, sym, ap, ◌∙◌, arith, slice_index_or, replicate, take, drop, add-one, zero-add}
 use Rattle.std.specs.Prelude.{count_by, flat_map}
 use Rattle.std.specs.List.{range_with_len}
 use Rattle.std.proofs.lemmas.List.{append-nil, map-append, take_more}
 use Rattle.std.proofs.lemmas.List.Elements.{filter-append}
+use Rattle.std.proofs.lemmas.List.Sums.{sum_by-cons}
 use Rattle.std.proofs.lemmas.Bool.{cases_eq, cases_Bool, ne_eqb, eq-eqb, false≢true}
 use Rattle.pdh_edge.specs.Ports.{only, IsPrefix}
 use Rattle.pdh_shape.specs.declared.role.Role.{Role}
 use Rattle.pdh_shape.specs.declared.role.Role.TheVariants.{Align, Service, Control, Just, Info}
-use Rattle.pdh_shape.specs.Frame.{FrameShape}
+use Rattle.pdh_shape.specs.Frame.{FrameShape, slots}
 use Rattle.pdh_shape.specs.Tributary.{reads_from, turned, controls, control_ones, carries_more, is_majority, stripped, HasTributaries}
 use Rattle.std.proofs.lemmas.Grind.{flat_map-append}
 use Rattle.pdh_align.specs.Aligning.{frame_back}
-use Rattle.pdh_line.proofs.Ranges.{range_append, count_push}
-use Rattle.pdh_line.proofs.FrameLoops.{bits_push, stripped-all}
+use Rattle.pdh_line.proofs.Ranges.{range_push, range_append, count_push}
 use Rattle.pdh_rx.specs.Node.{read_of, role_bits, names_below, frames_bits}
 
 -- ---- one slot
@@ -81,6 +81,25 @@ ones_few s j frame (suc t) =
     one true = omega arith
     one false = omega arith
 
+add_le : (a b x y : ℕ) → a ≤ b → x ≤ y → a + x ≤ b + y
+add_le a b x y h h' = omega arith
+
+-- a narrower test passes no more
+count_and_le : (p q : ℕ → Bool) (xs : List ℕ) → count_by (λ x. p x && q x) xs ≤ count_by p xs
+count_and_le p q [] = omega arith
+count_and_le p q (x ∷ xs) =
+    rw (sum_by-cons (λ x. cond (p x && q x) 1 0) x xs, sum_by-cons (λ x. cond (p x) 1 0) x xs) (add_le (cond (p x && q x) 1 0) (cond (p x) 1 0) _ _ (one (p x) (q x)) (count_and_le p q xs))
+  where
+    one : (a b : Bool) → cond (a && b) 1 0 ≤ cond a 1 0
+    one true true = omega arith
+    one true false = omega arith
+    one false b = omega arith
+
+-- a tributary has no more control slots than copies
+pub control_ones-le : (s : FrameShape) (j : ℕ) (frame : List Bool) → HasTributaries s → j < s.tribs → control_ones s j frame ≤ s.copies
+control_ones-le s j frame has known =
+    rw (← has.copies j known) (count_and_le (λ slot. controls j (s.role slot)) (λ slot. slice_index_or frame slot false) (slots s))
+
 -- from slot t on no slot holds such a copy
 no_more_ones : (s : FrameShape) (j : ℕ) (frame : List Bool) (t n : ℕ) → ((u : ℕ) → t ≤ u → u < t + n → controls j (s.role u) ≡ false) → ones_before s j frame (t + n) ≡ ones_before s j frame t
 no_more_ones s j frame t zero none = let e : t + zero ≡ t = omega arith in ap (ones_before s j frame) e
@@ -131,6 +150,12 @@ reads_same s frame (Service n) more h j = refl
 
 -- ---- the first slots of a frame
 
+-- one more number that is filtered
+filter_push : (p : ℕ → Bool) (n : ℕ) → filter p (range_with_len 0 (n + 1)) ≡ filter p (range_with_len 0 n) ++ cond (p n) (n ∷ []) []
+filter_push p n =
+    let e : 0 + n ≡ n = zero-add n in
+    ap (λ k. filter p (range_with_len 0 k)) (add-one n) ∙ ap (filter p) (range_push 0 n) ∙ filter-append p (range_with_len 0 n) ((0 + n) ∷ []) ∙ ap (λ k. filter p (range_with_len 0 n) ++ filter p (k ∷ [])) e
+
 -- what the slots before slot t give a tributary
 abbrev pub part : FrameShape → List Bool → ℕ → ℕ → List Bool
 part s frame t j = map (λ slot. turned (s.inverted j) (slice_index_or frame slot false)) (filter (λ slot. reads_from j (carries_more s j frame) (s.role slot)) (range_with_len 0 t))
@@ -140,7 +165,7 @@ pub part_push : (s : FrameShape) (frame : List Bool) (t : ℕ) (more : Bool) →
 part_push s frame t more h j =
     let f : ℕ → Bool = λ slot. turned (s.inverted j) (slice_index_or frame slot false) in
     let p : ℕ → Bool = λ slot. reads_from j (carries_more s j frame) (s.role slot) in
-    sym (bits_push f p [] (part s frame t j) t refl)
+    ap (map f) (filter_push p t) ∙ map-append f (filter p (range_with_len 0 t)) (cond (p t) (t ∷ []) [])
     ∙ ap (λ x. part s frame t j ++ x) (one (p t) ∙ ap (λ b. cond b (f t ∷ []) []) (sym (reads_same s frame (s.role t) more h j)))
   where
     one : (b : Bool) → map (λ slot. turned (s.inverted j) (slice_index_or frame slot false)) (cond b (t ∷ []) []) ≡ cond b (turned (s.inverted j) (slice_index_or frame t false) ∷ []) []
@@ -148,7 +173,8 @@ part_push s frame t more h j =
     one false = refl
 
 pub part_all : (s : FrameShape) (frame : List Bool) (t j : ℕ) → t ≡ s.len → stripped s j frame ≡ part s frame t j
-part_all s frame t j e = sym (stripped-all s j frame (carries_more s j frame) t e refl)
+unfolding stripped
+part_all s frame t j e = sym (ap (λ t. part s frame t j) e)
 
 pub part_begins : (s : FrameShape) (frame : List Bool) (t j : ℕ) → t ≤ s.len → IsPrefix (part s frame t j) (stripped s j frame)
 part_begins s frame t j le =

@@ -15,7 +15,7 @@ use Rattle.pdh_line.specs.Tracking.Piece.{Gap, Delivered}
 use Rattle.pdh_line.specs.Receiving.{piece_bits, received}
 use Rattle.pdh_line.proofs.Ranges.{range_append}
 use Rattle.pdh_line.proofs.LeastLaws.{least_below-le, least_below_before, least_below_past}
-use Rattle.pdh_align.proofs.TrackingLaws.{is_confirmed-drop-append, gap_of_is, gap_of-append, aligned-append, is_found-append, completes_loss-append, frames_in-append, delivered_is, delivered_none, delivered_within, after_loss_shorter, one_search_is, frames-append, track_lost, track_open, track_lost-append}
+use Rattle.pdh_line.proofs.TrackingLaws.{is_confirmed-drop-append, gap_of_is, gap_of-append, aligned-append, is_found-append, completes_loss-append, frames_in-append, delivered_is, delivered_none, delivered_within, after_loss_shorter, one_search_is, frames-append, track_lost, track_open, track_lost-append}
 
 pub prefix_same : (xs : List Bool) → IsPrefix xs xs
 prefix_same xs = ([], sym (append-nil xs))

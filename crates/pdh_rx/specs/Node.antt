@@ -1,13 +1,13 @@
 -- A demultiplexer over children: what each of them receives, and what leaves get by that.
-use Rattle.std.specs.Prelude.{◌≡◌, ℕ, suc, ◌+◌, ◌%◌, ◌^◌, ◌-◌, ◌<◌, min, Bool, true, false, ◌||◌, List, [], ◌∷◌, ◌++◌, length, map, take, if◌then◌else◌, slice_get, Some, count_by, None, Option, flat_map, replicate, ◌==◌}
+use Rattle.std.specs.Prelude.{◌≡◌, ℕ, suc, ◌+◌, ◌%◌, ◌^◌, ◌-◌, ◌<◌, min, Bool, true, false, ◌||◌, List, [], ◌∷◌, ◌++◌, length, map, take, if◌then◌else◌, slice_get, Some, None, Option, flat_map, replicate, ◌==◌}
 use Rattle.pdh_shape.specs.declared.place.Path.{Path}
 use Rattle.pdh_shape.specs.declared.role.Role.{Role}
 use Rattle.pdh_shape.specs.declared.role.Role.TheVariants.{Info, Just}
 use Rattle.pdh_shape.specs.Frame.{FrameShape}
 use Rattle.pdh_shape.specs.Tributary.{reads_from, turned, stripped}
 use Rattle.pdh_edge.specs.Ports.{Outputs}
-use Rattle.pdh_line.specs.Tracking.{Piece, track}
-use Rattle.pdh_line.specs.Tracking.Piece.{Gap, Delivered}
+use Rattle.pdh_line.specs.Tracking.{Piece, track, frames_delivered}
+use Rattle.pdh_line.specs.Tracking.Piece.{Gap}
 use Rattle.pdh_line.specs.Receiving.{received}
 use Rattle.pdh_align.specs.declared.step.Step.{Step}
 use Rattle.pdh_align.specs.declared.step.Step.TheVariants.{Rejected, Aligned, Frame, Lost}
@@ -117,13 +117,9 @@ step_bits s _ ready gap j = []
 abbrev pub IsGap : FrameShape → ℕ → List Piece → Type 0
 IsGap s gap pieces = (others : List Piece) (n : ℕ) → pieces ≡ others ++ Gap n ∷ [] → gap ≡ n % s.len
 
-abbrev pub is_delivered : Piece → Bool
-is_delivered (Gap n) = false
-is_delivered (Delivered frame) = true
-
 -- how many frames of a line are delivered, where a count that reaches its type's end stands there
-unfoldable pub frames_counted : List Piece → ℕ
-frames_counted pieces = min (count_by is_delivered pieces) (2 ^ 64 - 1)
+unfoldable pub frames_counted : FrameShape → List Bool → ℕ
+frames_counted s line = min (frames_delivered s line) (2 ^ 64 - 1)
 
 -- what a demultiplexer's state is, after these received bits
 pub record NodeStands {C : Type 0} (stands : C → List Bool → Type 0) (meaning : C → Meaning) (s : FrameShape) (children : List C) (ones : List ℕ) (held : Held) (gap frames : ℕ) (line : List Bool) : Type 0 where
@@ -134,4 +130,4 @@ pub record NodeStands {C : Type 0} (stands : C → List Bool → Type 0) (meanin
   pub aligner : StandsFor s held.phase line
   pub inside : gap < s.len
   pub gap_is : IsGap s gap (track s line)
-  pub frames_are : frames ≡ frames_counted (track s line)
+  pub frames_are : frames ≡ frames_counted s line

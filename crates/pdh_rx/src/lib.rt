@@ -7,6 +7,8 @@ mod node;
 mod rx;
 mod slots;
 mod tail;
+#[cfg(test)]
+mod tests;
 
 pub use node::RxNode;
 pub use rx::Rx;

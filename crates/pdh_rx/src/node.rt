@@ -1,6 +1,5 @@
 ghost use Rattle.std.specs.Prelude.{◌≡◌, ◌<◌, ℕ, All, Bool, List, [], ◌∷◌, ◌++◌, length, map, IfOk, OnOk, OnErr};
 ghost use Rattle.pdh_edge.specs.Ports.{HasCause};
-ghost use Rattle.pdh_line.specs.Tracking.{track};
 ghost use Rattle.pdh_rx.specs.Meaning.{Meaning, HoldsAll, Gains, GainsPart};
 ghost use Rattle.pdh_rx.specs.Node.{EachStands, IsDisjoint, ArePlaced, node_meaning, NodeStands, gap_after as gap_after_step, frames_after as frames_after_step, frames_counted};
 ghost use Rattle.pdh_rx.specs.NodeLaws.{node_sound};
@@ -95,7 +94,7 @@ impl<S: Shape, C: Rx> RxNode<S, C> {
     /// How many frames it has delivered. At `u64::MAX` the count stands.
     pub fn frames(&self) -> u64
         ensures { (line : List Bool) → ⟦<RxNode<S, C> as Rx>⟧.stands self.now line
-            → result ≡ frames_counted (track S.shape line) }
+            → result ≡ frames_counted S.shape line }
     {
         self.frames
     }

@@ -1,13 +1,11 @@
-use Rattle.std.proofs.Common.{◌∙◌, ◌≡◌, ℕ, ◌/◌, Vec, Ok, sym, subst, length, refl, arith, lit<}
+use Rattle.std.proofs.Common.{◌≡◌, ◌≢◌, ℕ, ◌*◌, Vec, sym, length, refl, arith, lit<}
 use Rattle.std.proofs.lemmas.Grind.{common_steps}
 use Rattle.std.proofs.lemmas.Result.{err_from_is_err_and}
 use Rattle.std.specs.declared.alloc.Global.{Global}
 use Rattle.pdh_ops.specs.Demux.{demuxed}
-use Rattle.pdh_ops.specs.Run.{Performs}
 use Rattle.pdh_words.specs.declared.commands.Command.TheVariants.{Demux}
-use Rattle.pdh_ops.specs.declared.answer.Done.TheVariants.{Demuxed}
 use Rattle.pdh_ops.proofs.Causes.{line_stops}
-use Rattle.pdh_ops.proofs.DemuxFiles.{frames_refused, start_refused, append_refused, done}
+use Rattle.pdh_ops.proofs.DemuxFiles.{start_refused, append_refused, no_alignment, done}
 use Rattle.pdh_ops.proofs.demux.demux.Goals as goal
 
 pub returns-in_err-line : goal.returns-in_err-line
@@ -16,18 +14,12 @@ returns-in_err-line g c =
     let line = c.in_err-line.ensures in
     rw (p.1, p.2) (line_stops c.args.chain (Demux c.args.chain) (demuxed c.args.chain) _ _ _ (λ files. refl) (λ files told. told 0 (lit< tt)) line.looks line.err)
 
-pub returns-in_err-outputs : goal.returns-in_err-outputs
-returns-in_err-outputs g c =
-    let p = err_from_is_err_and c.from_residual-in_err-outputs.result c.from_residual-in_err-outputs.ensures.1 in
-    let line = c.in_ok-line.ensures in
-    rw (p.1, p.2) (frames_refused c.args.chain _ _ c.in_ok-line.line.items _ _ line.looks line.line line.served c.deref.ensures.value c.in_err-outputs.ensures.err)
-
 pub returns-in_err-start_all : goal.returns-in_err-start_all
 returns-in_err-start_all g c =
     let p = err_from_is_err_and c.from_residual-in_err-start_all.result c.from_residual-in_err-start_all.ensures.1 in
     let line = c.in_ok-line.ensures in
     let stop = c.in_err-start_all.ensures in
-    rw (p.1, p.2) (start_refused c.args.chain _ (g.S.Shelf.state c.read_line.new.shelf) _ c.in_ok-line.line.items _ _ line.looks stop.kept line.line line.served c.deref.ensures.value c.in_ok-outputs.ensures.right stop.err stop.cut)
+    rw (p.1, p.2) (start_refused c.args.chain _ (g.S.Shelf.state c.read_line.new.shelf) _ c.in_ok-line.line.items _ line.looks stop.kept line.line line.served stop.err stop.cut)
 
 pub returns-in_err-append_all : goal.returns-in_err-append_all
 returns-in_err-append_all g c =
@@ -35,14 +27,21 @@ returns-in_err-append_all g c =
     let line = c.in_ok-line.ensures in
     let d : Vec ℕ Global = c.in_ok-line.line in
     rw (p.1, p.2) (append_refused c.args.chain _ (g.S.Shelf.state c.read_line.new.shelf) (g.S.Shelf.state c.start_all.new.shelf) _ c.in_ok-line.line.items _ c.deref-2.result.now d _ line.looks c.start_all.ensures.kept c.append_all.ensures.kept line.line line.served c.deref.ensures.value
-    c.in_ok-outputs.ensures.right (rw (sym c.deref-2.ensures.value) at c.in_ok-outputs.ensures.ok) c.in_err-append_all.ensures.err (λ leaf low. c.in_err-append_all.ensures.cut leaf d low))
+    (rw (sym c.deref-2.ensures.value) at c.in_ok-received.ensures.ok.outputs) c.in_err-append_all.ensures.err (λ leaf low. c.in_err-append_all.ensures.cut leaf d low))
+
+pub returns-then-received-eq0 : goal.returns-then-received-eq0
+returns-then-received-eq0 g c =
+    let line = c.in_ok-line.ensures in
+    let d : Vec ℕ Global = c.in_ok-line.line in
+    let none : c.in_ok-received.received.frames ≡ 0 = omega arith in
+    let bits : 8 * c.len.result ≡ 8 * length c.in_ok-line.line.items = grind (arith, common_steps) in
+    no_alignment c.args.chain _ (g.S.Shelf.state c.read_line.new.shelf) (g.S.Shelf.state c.start_all.new.shelf) _ c.in_ok-line.line.items _ c.deref-2.result.now d c.in_ok-received.received.frames _ line.looks c.start_all.ensures.kept c.append_all.ensures.kept line.line line.served c.deref.ensures.value
+    (rw (sym c.deref-2.ensures.value) at c.in_ok-received.ensures.ok.outputs) c.in_ok-received.ensures.ok.frames_are none bits (λ leaf low. c.in_ok-append_all.ensures.ok leaf d low)
 
 pub returns : goal.returns
 returns g c =
     let line = c.in_ok-line.ensures in
     let d : Vec ℕ Global = c.in_ok-line.line in
-    let long : c.len.result ≡ length c.in_ok-line.line.items = grind (arith, common_steps) in
-    subst (λ n. Performs (Demux c.args.chain) (g.S.Shelf.state c.args.shelf.now) (g.S.Shelf.state c.append_all.new.shelf) (Ok (Demuxed c.args.chain (n / c.from.result)))) (sym long)
-    (subst (λ k. Performs (Demux c.args.chain) (g.S.Shelf.state c.args.shelf.now) (g.S.Shelf.state c.append_all.new.shelf) (Ok (Demuxed c.args.chain (length c.in_ok-line.line.items / k)))) (sym (c.from.ensures ∙ c.frame_bytes.ensures.value))
-    (done c.args.chain _ (g.S.Shelf.state c.read_line.new.shelf) (g.S.Shelf.state c.start_all.new.shelf) _ c.in_ok-line.line.items _ c.deref-2.result.now d line.looks c.start_all.ensures.kept c.append_all.ensures.kept line.line line.served c.deref.ensures.value
-    c.in_ok-outputs.ensures.right (rw (sym c.deref-2.ensures.value) at c.in_ok-outputs.ensures.ok) (λ leaf low. c.in_ok-append_all.ensures.ok leaf d low)))
+    let some : c.in_ok-received.received.frames ≢ 0 = omega arith in
+    done c.args.chain _ (g.S.Shelf.state c.read_line.new.shelf) (g.S.Shelf.state c.start_all.new.shelf) _ c.in_ok-line.line.items _ c.deref-2.result.now d c.in_ok-received.received.frames line.looks c.start_all.ensures.kept c.append_all.ensures.kept line.line line.served c.deref.ensures.value
+    (rw (sym c.deref-2.ensures.value) at c.in_ok-received.ensures.ok.outputs) c.in_ok-received.ensures.ok.frames_are some (λ leaf low. c.in_ok-append_all.ensures.ok leaf d low)

@@ -1,0 +1,101 @@
+-- What comes back was given: where a chain has no event, no more of a leaf's bits come back than the leaf has given, and it
+-- gives no more than it enters. So what a leaf receives is a prefix of its list.
+use Rattle.std.proofs.Common.{◌≡◌, ℕ, ◌+◌, ◌*◌, ◌/◌, ◌%◌, ◌<◌, ◌≤◌, Bool, false, List, [], ◌∷◌, length, take, slice_index_or, sym, ap, ◌∙◌, subst, inl, inr, arith}
+use Rattle.std.proofs.lemmas.List.{get_or-take, length-take-le}
+use Rattle.std.proofs.lemmas.List.FromFn.{fill_by_all}
+use Rattle.std.proofs.lemmas.Nat.{div-mul-add, mod-mul-add}
+use Rattle.std.proofs.Math.Nat.{mul-le-mul_right}
+use Rattle.pdh_shape.specs.declared.role.Service.{Service as Say}
+use Rattle.pdh_shape.specs.Frame.{FrameShape}
+use Rattle.pdh_line.specs.Sending.{begun, taken, entered, front, given_back}
+use Rattle.pdh_line.specs.Events.{underflows}
+use Rattle.pdh_nesting.specs.Chains.{width, child, top_len, AreFrames}
+use Rattle.pdh_nesting.specs.Sending.{Counts, chain_line, given_below, entered_below, ArriveSingly}
+use Rattle.pdh_nesting.specs.Receiving.{far, back_below}
+use Rattle.pdh_nesting.specs.Events.{events_in, events_below}
+use Rattle.pdh_nesting.proofs.Nodes.{taken_once, taken-entered, given_back-grows, given_back-taken}
+use Rattle.pdh_nesting.proofs.EventParts.{lead_none, arrival_none, underflow_none, events_below-each}
+use Rattle.pdh_nesting.proofs.RoundTrip.{leaf-tributary, leaf-below, div-one, far_front}
+
+-- of a longer line no fewer of a leaf's bits come back
+pub back_below-grows : (chain : List FrameShape) (counts : Counts) (path : List ℕ) (x y k : ℕ) → AreFrames chain → x ≤ y
+    → back_below chain counts path x k ≤ back_below chain counts path y k
+unfolding back_below
+back_below-grows [] counts path x y k are h = h
+back_below-grows (s ∷ below) counts path x y k are h =
+    let j : ℕ = k / width below in
+    back_below-grows below counts (child path j) (given_back s (counts path j) (x / s.len)) (given_back s (counts path j) (y / s.len)) (k % width below) are.2
+    (given_back-grows s (counts path j) x y are.0 h)
+
+-- ---- no more comes back than was given
+
+-- where no bit before a node's bit x has an event, none of the bits has one that a tributary made for it
+none_taken : (s : FrameShape) (below : List FrameShape) (counts : Counts) (path : List ℕ) (x j i : ℕ) → AreFrames (s ∷ below) → j < s.tribs
+    → ((n : ℕ) → n < begun s x → counts path j n ≤ s.len) → ((y : ℕ) → y < x → events_in (s ∷ below) counts path y ≡ []) → i < taken s (counts path j) x
+    → events_in below counts (child path j) i ≡ []
+none_taken s below counts path x j i are known single none h =
+    elim (taken_once s (counts path j) x i are.0 single h) [
+      | inl leads ↦ lead_none s below counts path j i (none 0 leads.0) known leads.1
+      | inr arrived ↦
+          let y : ℕ = arrived.0 in
+          subst (λ i. events_in below counts (child path j) i ≡ []) arrived.3 (arrival_none s below counts path j y (none y arrived.1) known arrived.2)
+    ]
+
+-- and no tributary of the node underflows before its bit x
+none_underflows : (s : FrameShape) (below : List FrameShape) (counts : Counts) (path : List ℕ) (x j : ℕ) → j < s.tribs → ((y : ℕ) → y < x → events_in (s ∷ below) counts path y ≡ [])
+    → (m u : ℕ) → u < s.len → m * s.len + u < x → underflows s j (counts path j) m u ≡ false
+none_underflows s below counts path x j known none m u inside h =
+    ap (λ n. underflows s j (counts path j) n u) (sym (div-mul-add m s.len u inside))
+    ∙ ap (underflows s j (counts path j) ((m * s.len + u) / s.len)) (sym (mod-mul-add m s.len u inside))
+    ∙ underflow_none s below counts path j (m * s.len + u) (none (m * s.len + u) h) known
+
+-- Where no bit before a node's bit x has an event, no more of a leaf's bits come back than the leaf has given. A slot that
+-- brings two bits would list the events of the first alone, so at most one arrives in a slot.
+pub back-given : (chain : List FrameShape) (counts : Counts) (path : List ℕ) (x k : ℕ) → AreFrames chain → ArriveSingly chain counts path x → k < width chain
+    → ((y : ℕ) → y < x → events_in chain counts path y ≡ []) → back_below chain counts path x k ≤ given_below chain counts path x k
+unfolding back_below given_below ArriveSingly
+back-given [] counts path x k are singly h none = omega arith
+back-given (s ∷ below) counts path x k are singly h none =
+    let j : ℕ = k / width below in
+    let known : j < s.tribs = leaf-tributary s.tribs (width below) k h in
+    let x' : ℕ = taken s (counts path j) x in
+    let held : given_back s (counts path j) (x / s.len) ≤ x' = given_back-taken s (counts path j) j x are.0 are.1 known (none_underflows s below counts path x j known none) in
+    let fewer = back_below-grows below counts (child path j) (given_back s (counts path j) (x / s.len)) x' (k % width below) are.2 held in
+    let rest = back-given below counts (child path j) x' (k % width below) are.2 (singly j known).1 (leaf-below s.tribs (width below) k h)
+    (λ i lt. none_taken s below counts path x j i are known (singly j known).0 none lt) in
+    omega arith
+
+-- ---- no more is given than is entered
+
+-- whatever events there are
+pub given-entered : (chain : List FrameShape) (counts : Counts) (path : List ℕ) (x k : ℕ) → AreFrames chain → given_below chain counts path x k ≤ entered_below chain counts path x k
+unfolding given_below entered_below
+given-entered [] counts path x k are = omega arith
+given-entered (s ∷ []) counts path x k are =
+    subst (λ j. taken s (counts path j) x ≤ entered (counts path k) (begun s x)) (sym (div-one k)) (taken-entered s (counts path k) x are.0)
+given-entered (s ∷ t ∷ below) counts path x k are =
+    let j : ℕ = k / width (t ∷ below) in
+    given-entered (t ∷ below) counts (child path j) (taken s (counts path j) x) (k % width (t ∷ below)) are.2
+
+-- ---- prefixes of lists
+
+-- the first bits of a place's bits, where these are a list's
+front-list : (bits : List Bool) (input : ℕ → Bool) (n : ℕ) → ((i : ℕ) → input i ≡ slice_index_or bits i false) → n ≤ length bits → front input n ≡ take n bits
+front-list bits input n same h =
+    sym (fill_by_all input (take n bits) n false (length-take-le n bits h) (λ i lt. get_or-take n bits i false lt ∙ sym (same i)))
+
+-- A chain made so many frames of its top from lists that held what these frames enter, and met no event. Then of each front
+-- of whole frames each leaf receives a prefix of its list.
+pub far-prefix : (chain : List FrameShape) (counts : Counts) (bits : ℕ → ℕ → Bool) (lists : ℕ → List Bool) (says : ℕ → Say) (n m k : ℕ) → AreFrames chain
+    → ((k i : ℕ) → bits k i ≡ slice_index_or (lists k) i false) → ArriveSingly chain counts [] (n * top_len chain)
+    → events_below chain counts (n * top_len chain) ≡ [] → entered_below chain counts [] (n * top_len chain) k ≤ length (lists k) → m ≤ n → k < width chain
+    → far chain (front (chain_line chain counts bits says [] 0) (m * top_len chain)) k ≡ take (back_below chain counts [] (m * top_len chain) k) (lists k)
+far-prefix chain counts bits lists says n m k are same singly none long h known =
+    let whole : ℕ = n * top_len chain in
+    let back : ℕ = back_below chain counts [] (m * top_len chain) k in
+    let first : 0 + k ≡ k = omega arith in
+    let fewer : back ≤ back_below chain counts [] whole k = back_below-grows chain counts [] (m * top_len chain) whole k are (mul-le-mul_right (top_len chain) h) in
+    let held : back_below chain counts [] whole k ≤ given_below chain counts [] whole k = back-given chain counts [] whole k are singly known (λ y lt. events_below-each chain counts whole y none lt) in
+    far_front chain counts bits says [] 0 (m * top_len chain) k are known
+    ∙ ap (λ i. front (bits i) back) first
+    ∙ front-list (lists k) (bits k) back (same k) (omega (arith, given-entered chain counts [] whole k are))

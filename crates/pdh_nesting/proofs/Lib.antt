@@ -1,0 +1,15 @@
+pub mod Worked
+pub mod WorkedEvents
+pub mod KnownChains
+pub mod RoundTrip
+pub mod Nodes
+pub mod EventParts
+pub mod NoEvents
+pub mod Given
+pub mod Within
+pub mod Delay
+pub mod Growth
+pub mod Orders
+pub mod Keys
+pub mod KeyedEvents
+pub mod StepOrder

@@ -1,0 +1,199 @@
+-- The events of a chain come in the order of their lists, so that the first event is that with the least list.
+use Rattle.std.proofs.Common.{◌≡◌, ℕ, suc, ◌*◌, ◌/◌, ◌%◌, ◌<◌, Bool, true, false, cond, eqb, List, [], ◌∷◌, ◌++◌, length, map, get_or, Some, refl, sym, ap, ◌∙◌, subst, inl, inr, arith, append_assoc}
+use Rattle.std.specs.Prelude.{flat_map, slice_get}
+use Rattle.std.specs.List.{range_with_len, AllPairs}
+use Rattle.std.proofs.lemmas.Bool.{eqb-true, cases_lt}
+use Rattle.pdh_shape.specs.declared.role.Role.{Role}
+use Rattle.pdh_shape.specs.declared.role.Role.TheVariants.{Align, Service, Control, Just, Info}
+use Rattle.pdh_shape.specs.Frame.{FrameShape}
+use Rattle.pdh_shape.specs.Tributary.{reads_from}
+use Rattle.pdh_line.specs.Sending.{lead, arrives_at, sends_more, came_before}
+use Rattle.pdh_line.specs.Events.{overflows, underflows, overflow_at, underflow_at}
+use Rattle.pdh_line.proofs.Ranges.{and_true}
+use Rattle.pdh_nesting.specs.Chains.{child, top_len}
+use Rattle.pdh_nesting.specs.Sending.{Counts}
+use Rattle.pdh_nesting.specs.Events.{first_event}
+use Rattle.pdh_nesting.specs.StepOrder.{comes_before, Keyed, at_key, below_key, Before, keyed_in, keyed_below}
+use Rattle.pdh_nesting.proofs.Orders.{Each, Ordered, each-append, each-flat, each-weaker, across-by, ordered-append, ordered-flat, ordered-pairs}
+use Rattle.pdh_nesting.proofs.Keys.{comes_before-same, comes_before-self, comes_before-other, Begins, begins-below, begins-at, less-after, across-less, ordered-below, ordered-if, each-if, ordered-one, across-one}
+use Rattle.pdh_nesting.proofs.KeyedEvents.{keyed_made, keyed_lead, keyed_arrival, keyed_read, keyed_below-events}
+
+-- ---- the events of a bit
+
+-- a slot carries a bit of one tributary at most
+reads_one : (j k : ℕ) (more more' : Bool) (r : Role) → reads_from j more r ≡ true → reads_from k more' r ≡ true → j ≡ k
+reads_one j k more more' (Info i) h h' = sym (eqb-true i j h) ∙ eqb-true i k h'
+reads_one j k more more' (Just i) h h' = sym (eqb-true i j (and_true (eqb i j) more h).0) ∙ eqb-true i k (and_true (eqb i k) more' h').0
+reads_one j k more more' (Align signal) h h' = cc
+reads_one j k more more' (Service number) h h' = cc
+reads_one j k more more' (Control i copy) h h' = cc
+
+module _ (s : FrameShape) (below : List FrameShape) (counts : Counts) (path : List ℕ) (inner : (j k : ℕ) → Ordered Before (keyed_in below counts (child path j) k)) where
+  ordered-made : (mark j k : ℕ) → Ordered Before (keyed_made below counts path mark j k)
+  ordered-made mark j k = ordered-below (mark ∷ suc j ∷ k ∷ []) (keyed_in below counts (child path j) k) (inner j k)
+
+  begins-made : (mark j k : ℕ) → Each (Begins (mark ∷ suc j ∷ k ∷ [])) (keyed_made below counts path mark j k)
+  begins-made mark j k = begins-below (mark ∷ suc j ∷ k ∷ []) (keyed_in below counts (child path j) k)
+
+  ordered-lead : (j : ℕ) → Ordered Before (keyed_lead below counts path j)
+  ordered-lead j =
+      ordered-flat Before (keyed_made below counts path 0 j) 0 lead (ordered-made 0 j)
+      (λ k l h h'. across-less (0 ∷ suc j ∷ []) k l (keyed_made below counts path 0 j k) (keyed_made below counts path 0 j l) h (begins-made 0 j k) (begins-made 0 j l))
+
+  begins-lead : (j : ℕ) → Each (Begins (0 ∷ suc j ∷ [])) (keyed_lead below counts path j)
+  begins-lead j =
+      each-flat (Begins (0 ∷ suc j ∷ [])) (keyed_made below counts path 0 j) 0 lead
+      (λ k h h'. each-weaker (Begins (0 ∷ suc j ∷ k ∷ [])) (Begins (0 ∷ suc j ∷ [])) (keyed_made below counts path 0 j k) (λ event begins. (k ∷ begins.0, begins.1)) (begins-made 0 j k))
+
+  ordered-leads : Ordered Before (flat_map (keyed_lead below counts path) (range_with_len 0 s.tribs))
+  ordered-leads =
+      ordered-flat Before (keyed_lead below counts path) 0 s.tribs ordered-lead
+      (λ j i h h'. across-less (0 ∷ []) (suc j) (suc i) (keyed_lead below counts path j) (keyed_lead below counts path i) (omega arith) (begins-lead j) (begins-lead i))
+
+  begins-leads : Each (Begins (0 ∷ [])) (flat_map (keyed_lead below counts path) (range_with_len 0 s.tribs))
+  begins-leads =
+      each-flat (Begins (0 ∷ [])) (keyed_lead below counts path) 0 s.tribs
+      (λ j h h'. each-weaker (Begins (0 ∷ suc j ∷ [])) (Begins (0 ∷ [])) (keyed_lead below counts path j) (λ event begins. (suc j ∷ begins.0, begins.1)) (begins-lead j))
+
+  module _ (n t : ℕ) where
+    abbrev made_at : ℕ → List Keyed
+    made_at j = cond (arrives_at s (counts path j n) t) (keyed_made below counts path 1 j (came_before s (counts path j) n t)) []
+
+    abbrev over_at : ℕ → List Keyed
+    over_at j = at_key (1 ∷ suc j ∷ []) (overflow_at s path j (counts path j) n t)
+
+    ordered-arrival : (j : ℕ) → Ordered Before (keyed_arrival s below counts path n t j)
+    ordered-arrival j =
+        let bit : ℕ = came_before s (counts path j) n t in
+        ordered-append Before (made_at j) (over_at j) (ordered-if (arrives_at s (counts path j n) t) (keyed_made below counts path 1 j bit) (ordered-made 1 j bit))
+        (ordered-one (1 ∷ suc j ∷ []) (overflows s j (counts path j) n t) _)
+        (across-by Before (Begins (1 ∷ suc j ∷ bit ∷ [])) (λ event. event.0 ≡ 1 ∷ suc j ∷ []) (made_at j) (over_at j)
+        (λ a b ea eb. ap (comes_before a.0) eb ∙ ap (λ key. comes_before key (1 ∷ suc j ∷ [])) ea.1 ∙ comes_before-same (1 ∷ suc j ∷ []) (bit ∷ ea.0) [])
+        (each-if (Begins (1 ∷ suc j ∷ bit ∷ [])) (arrives_at s (counts path j n) t) (keyed_made below counts path 1 j bit) (begins-made 1 j bit))
+        (begins-at (1 ∷ suc j ∷ []) (overflow_at s path j (counts path j) n t)))
+
+    begins-arrival : (j : ℕ) → Each (Begins (1 ∷ suc j ∷ [])) (keyed_arrival s below counts path n t j)
+    begins-arrival j =
+        let bit : ℕ = came_before s (counts path j) n t in
+        each-append (Begins (1 ∷ suc j ∷ [])) (made_at j) (over_at j)
+        (each-if (Begins (1 ∷ suc j ∷ [])) (arrives_at s (counts path j n) t) (keyed_made below counts path 1 j bit)
+        (each-weaker (Begins (1 ∷ suc j ∷ bit ∷ [])) (Begins (1 ∷ suc j ∷ [])) (keyed_made below counts path 1 j bit) (λ event begins. (bit ∷ begins.0, begins.1)) (begins-made 1 j bit)))
+        (each-weaker (λ event. event.0 ≡ 1 ∷ suc j ∷ []) (Begins (1 ∷ suc j ∷ [])) (over_at j) (λ event is. ([], is)) (begins-at (1 ∷ suc j ∷ []) (overflow_at s path j (counts path j) n t)))
+
+    abbrev arrivals : List Keyed
+    arrivals = flat_map (keyed_arrival s below counts path n t) (range_with_len 0 s.tribs)
+
+    abbrev reads : List Keyed
+    reads = flat_map (keyed_read s counts path n t) (range_with_len 0 s.tribs)
+
+    ordered-arrivals : Ordered Before arrivals
+    ordered-arrivals =
+        ordered-flat Before (keyed_arrival s below counts path n t) 0 s.tribs ordered-arrival
+        (λ j i h h'. across-less (1 ∷ []) (suc j) (suc i) (keyed_arrival s below counts path n t j) (keyed_arrival s below counts path n t i) (omega arith) (begins-arrival j) (begins-arrival i))
+
+    -- a slot has one underflow at most
+    ordered-reads : Ordered Before reads
+    ordered-reads =
+        ordered-flat Before (keyed_read s counts path n t) 0 s.tribs (λ j. ordered-one (1 ∷ suc s.tribs ∷ []) (underflows s j (counts path j) n t) _)
+        (λ j i h h'. across-one (1 ∷ suc s.tribs ∷ []) (underflows s j (counts path j) n t) (underflows s i (counts path i) n t) _ _ (λ u u'. two_reads j i h u u'))
+      where
+        two_reads : (j i : ℕ) → j < i → underflows s j (counts path j) n t ≡ true → underflows s i (counts path i) n t ≡ true → ⊥
+        two_reads j i h u u' =
+            let same : j ≡ i = reads_one j i (sends_more s (counts path j) n) (sends_more s (counts path i) n) (s.role t) (and_true _ _ u).0 (and_true _ _ u').0 in
+            absurd (omega arith)
+
+    begins-reads : Each (Begins (1 ∷ suc s.tribs ∷ [])) reads
+    begins-reads =
+        each-flat (Begins (1 ∷ suc s.tribs ∷ [])) (keyed_read s counts path n t) 0 s.tribs
+        (λ j h h'. each-weaker (λ event. event.0 ≡ 1 ∷ suc s.tribs ∷ []) (Begins (1 ∷ suc s.tribs ∷ [])) (keyed_read s counts path n t j) (λ event is. ([], is))
+        (begins-at (1 ∷ suc s.tribs ∷ []) (underflow_at s path j (counts path j) n t)))
+
+    -- a list of one of the node's tributaries, of an arrival
+    abbrev IsArrival : Keyed → Type 0
+    IsArrival event = (j : ℕ) × (j < s.tribs) × Begins (1 ∷ suc j ∷ []) event
+
+    begins-arrivals : Each IsArrival arrivals
+    begins-arrivals =
+        each-flat IsArrival (keyed_arrival s below counts path n t) 0 s.tribs
+        (λ j h h'. each-weaker (Begins (1 ∷ suc j ∷ [])) IsArrival (keyed_arrival s below counts path n t j) (λ event begins. (j, omega arith, begins)) (begins-arrival j))
+
+    -- the steps of a slot: the arrivals, then the read
+    ordered-slot : Ordered Before (arrivals ++ reads)
+    ordered-slot =
+        ordered-append Before arrivals reads ordered-arrivals ordered-reads
+        (across-by Before IsArrival (Begins (1 ∷ suc s.tribs ∷ [])) arrivals reads (λ a b ea eb. less-after (1 ∷ []) (suc ea.0) (suc s.tribs) a b (omega (arith, ea.1)) ea.2 eb) begins-arrivals begins-reads)
+
+    begins-slot : Each (Begins (1 ∷ [])) (arrivals ++ reads)
+    begins-slot =
+        each-append (Begins (1 ∷ [])) arrivals reads
+        (each-weaker IsArrival (Begins (1 ∷ [])) arrivals (λ event is. (suc is.0 ∷ is.2.0, is.2.1)) begins-arrivals)
+        (each-weaker (Begins (1 ∷ suc s.tribs ∷ [])) (Begins (1 ∷ [])) reads (λ event begins. (suc s.tribs ∷ begins.0, begins.1)) begins-reads)
+
+    -- the leads come before them
+    ordered-bit : (first : Bool) → Ordered Before (cond first (flat_map (keyed_lead below counts path) (range_with_len 0 s.tribs)) [] ++ (arrivals ++ reads))
+    ordered-bit first =
+        let leads : List Keyed = flat_map (keyed_lead below counts path) (range_with_len 0 s.tribs) in
+        ordered-append Before (cond first leads []) (arrivals ++ reads) (ordered-if first leads ordered-leads) ordered-slot
+        (across-less [] 0 1 (cond first leads []) (arrivals ++ reads) (omega arith) (each-if (Begins (0 ∷ [])) first leads begins-leads) begins-slot)
+
+-- ---- the events of a chain
+
+-- those in making a bit of a node's line come in the order of their lists
+pub keyed_in-ordered : (chain : List FrameShape) (counts : Counts) (path : List ℕ) (x : ℕ) → Ordered Before (keyed_in chain counts path x)
+unfolding keyed_in
+keyed_in-ordered [] counts path x = tt
+keyed_in-ordered (s ∷ below) counts path x =
+    let n : ℕ = x / s.len in
+    let t : ℕ = x % s.len in
+    subst (Ordered Before)
+    (sym (append_assoc (cond (eqb x 0) (flat_map (keyed_lead below counts path) (range_with_len 0 s.tribs)) []) (flat_map (keyed_arrival s below counts path n t) (range_with_len 0 s.tribs)) (flat_map (keyed_read s counts path n t) (range_with_len 0 s.tribs))))
+    (ordered-bit s below counts path (λ j k. keyed_in-ordered below counts (child path j) k) n t (eqb x 0))
+
+-- each before all later ones,
+pub keyed_in-pairs : (chain : List FrameShape) (counts : Counts) (path : List ℕ) (x : ℕ) → AllPairs Before (keyed_in chain counts path x)
+keyed_in-pairs chain counts path x = ordered-pairs Before (keyed_in chain counts path x) (keyed_in-ordered chain counts path x)
+
+-- and so do those of a run,
+pub keyed_below-ordered : (chain : List FrameShape) (counts : Counts) (x : ℕ) → Ordered Before (keyed_below chain counts x)
+unfolding keyed_below
+keyed_below-ordered chain counts x =
+    let bits : ℕ → List Keyed = λ bit. below_key (bit ∷ []) (keyed_in chain counts [] bit) in
+    ordered-flat Before bits 0 x (λ bit. ordered-below (bit ∷ []) (keyed_in chain counts [] bit) (keyed_in-ordered chain counts [] bit))
+    (λ a b h h'. across-less [] a b (bits a) (bits b) h (begins-below (a ∷ []) (keyed_in chain counts [] a)) (begins-below (b ∷ []) (keyed_in chain counts [] b)))
+
+-- each before all later ones
+pub keyed_below-pairs : (chain : List FrameShape) (counts : Counts) (x : ℕ) → AllPairs Before (keyed_below chain counts x)
+keyed_below-pairs chain counts x = ordered-pairs Before (keyed_below chain counts x) (keyed_below-ordered chain counts x)
+
+-- no event of the list comes before that at a place
+abbrev pub IsLeast : List Keyed → ℕ → Keyed → Type 0
+IsLeast keyed i none = (k : ℕ) → k < length keyed → comes_before (get_or keyed k none).0 (get_or keyed i none).0 ≡ false
+
+-- an event of a run with the least list is the first event
+pub least-first : (chain : List FrameShape) (counts : Counts) (frames i : ℕ) (none : Keyed)
+    → i < length (keyed_below chain counts (frames * top_len chain)) → IsLeast (keyed_below chain counts (frames * top_len chain)) i none
+    → first_event chain counts frames ≡ Some (get_or (keyed_below chain counts (frames * top_len chain)) i none).1
+least-first chain counts frames i none h least =
+    let keyed : List Keyed = keyed_below chain counts (frames * top_len chain) in
+    elim (cases_lt 0 i) [
+      | inl later ↦ absurd (let e : false ≡ true = sym (least 0 (omega arith)) ∙ keyed_below-pairs chain counts (frames * top_len chain) 0 i none later h in cc)
+      | inr first ↦
+          let e : i ≡ 0 = omega arith in
+          ap (λ events. slice_get events 0) (sym (keyed_below-events chain counts (frames * top_len chain)))
+          ∙ first_of keyed none (omega arith) ∙ ap (λ i. Some (get_or keyed i none).1) (sym e)
+    ]
+  where
+    first_of : (keyed : List Keyed) (none : Keyed) → 0 < length keyed → slice_get (map (λ event. event.1) keyed) 0 ≡ Some (get_or keyed 0 none).1
+    first_of [] none some = absurd (omega arith)
+    first_of (event ∷ keyed) none some = refl
+
+-- and the first event has the least list
+pub first-least : (chain : List FrameShape) (counts : Counts) (frames : ℕ) (none : Keyed) → IsLeast (keyed_below chain counts (frames * top_len chain)) 0 none
+first-least chain counts frames none k h =
+    let keyed : List Keyed = keyed_below chain counts (frames * top_len chain) in
+    elim (cases_lt 0 k) [
+      | inl later ↦ comes_before-other (get_or keyed 0 none).0 (get_or keyed k none).0 (keyed_below-pairs chain counts (frames * top_len chain) 0 k none later h)
+      | inr first ↦
+          let e : k ≡ 0 = omega arith in
+          ap (λ k. comes_before (get_or keyed k none).0 (get_or keyed 0 none).0) e ∙ comes_before-self (get_or keyed 0 none).0
+    ]

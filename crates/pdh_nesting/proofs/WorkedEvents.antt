@@ -1,0 +1,67 @@
+-- Worked examples of events in chains and of the order of their lists, computed by the checker.
+use Rattle.std.proofs.Common.{◌≡◌, ℕ, ◌*◌, true, false, [], ◌∷◌, None, refl, arith}
+use Rattle.std.specs.Prelude.{◌==◌, ◌&&◌, if◌then◌else◌}
+use Rattle.pdh_shape.specs.Sets.{e2, e3, set_role}
+use Rattle.pdh_line.specs.Sending.{arrived, sent, begun, taken}
+use Rattle.pdh_line.specs.Events.{Event}
+use Rattle.pdh_line.specs.Events.Kind.{Underflow}
+use Rattle.pdh_line.proofs.WithinTolerance.{within-each}
+use Rattle.pdh_nesting.specs.Sending.{Counts, AllWithin}
+use Rattle.pdh_nesting.specs.Events.{events_in, first_event}
+use Rattle.pdh_nesting.specs.StepOrder.{comes_before, keyed_in}
+use Rattle.pdh_nesting.proofs.KnownChains.{e3_e2_frames, e3_e2_stores}
+use Rattle.pdh_nesting.proofs.NoEvents.{first_event-none}
+
+-- the smaller number first, and of two lists of which one begins the other the longer
+pub orders : comes_before (5 ∷ 0 ∷ 9 ∷ []) (5 ∷ 1 ∷ []) ≡ true
+orders = refl
+
+pub longer_first : comes_before (5 ∷ 1 ∷ 2 ∷ 7 ∷ 1 ∷ 3 ∷ []) (5 ∷ 1 ∷ 2 ∷ []) ≡ true
+longer_first = refl
+
+pub shorter_later : comes_before (5 ∷ 1 ∷ 2 ∷ []) (5 ∷ 1 ∷ 2 ∷ 7 ∷ 1 ∷ 3 ∷ []) ≡ false
+shorter_later = refl
+
+-- E3 over E2, where the first tributary of the first E2 node brings nothing and all others the least
+unfoldable pub silent_first : Counts
+silent_first [] j n = 377
+silent_first (a ∷ []) j n = (if (a == 1) && (j == 0) then 0 else 205)
+silent_first (a ∷ b ∷ path) j n = 0
+
+unfoldable pub silent_underflow : Event
+silent_underflow = record { kind = Underflow; path = 1 ∷ []; trib = 0; frame = 0; slot = 108 }
+
+-- Its 24 bits are used up at its 25th slot, slot 108 of the E2 node: bit 84 after the E3 node's lead. That bit arrives in
+-- slot 346 of the E3 frame: 85 times 1536 is more than 346 times 377, and no more than 347 times 377.
+pub silent_in : events_in (e3 ∷ e2 ∷ []) silent_first [] 346 ≡ silent_underflow ∷ []
+unfolding silent_first silent_underflow events_in sent arrived set_role
+silent_in = refl
+
+-- its list, below the top's bit: the arrival of bit 108 of the first E2 node, and the step after the four arrivals
+pub silent_keyed : keyed_in (e3 ∷ e2 ∷ []) silent_first [] 346 ≡ (1 ∷ 1 ∷ 108 ∷ 1 ∷ 5 ∷ [], silent_underflow) ∷ []
+unfolding silent_first silent_underflow keyed_in sent arrived set_role
+silent_keyed = refl
+
+-- the bit before has none
+pub silent_before : events_in (e3 ∷ e2 ∷ []) silent_first [] 345 ≡ []
+unfolding silent_first events_in sent arrived set_role
+silent_before = refl
+
+-- ---- E3 over E2 where each frame brings the least that it carries
+
+unfoldable pub least_each : Counts
+least_each [] j n = 377
+least_each (a ∷ path) j n = 205
+
+-- each tributary is within the tolerance, over any number of frames,
+pub least-within : (x : ℕ) → AllWithin (e3 ∷ e2 ∷ []) least_each [] x
+unfolding least_each AllWithin
+least-within x =
+    λ j known. (
+      within-each e3 (λ n. 377) (begun e3 x) (λ n. omega arith) (λ n. omega arith),
+      λ i known'. (within-each e2 (λ n. 205) (begun e2 (taken e3 (λ n. 377) x)) (λ n. omega arith) (λ n. omega arith), tt),
+    )
+
+-- so no run has an event
+pub least-none : (frames : ℕ) → first_event (e3 ∷ e2 ∷ []) least_each frames ≡ None
+least-none frames = first_event-none (e3 ∷ e2 ∷ []) least_each frames e3_e2_frames e3_e2_stores (least-within (frames * 1536))

@@ -1,0 +1,5 @@
+pub mod Chains
+pub mod Sending
+pub mod Events
+pub mod StepOrder
+pub mod Receiving

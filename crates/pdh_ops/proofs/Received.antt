@@ -1,0 +1,67 @@
+-- What taking a line apart gives.
+use Rattle.std.proofs.Common.{◌≡◌, ℕ, zero, suc, ◌<◌, nat_lt, List, [], ◌∷◌, ◌++◌, Bool, true, Option, None, Some, length, take, replicate, refl, ap, sym, ◌∙◌, subst, arith}
+use Rattle.std.specs.Prelude.{IsTrue, slice_get}
+use Rattle.std.proofs.Math.Seq.{take-length, take-append_seam}
+use Rattle.std.proofs.lemmas.Bool.{lt-ltb}
+use Rattle.std.proofs.lemmas.List.{length-replicate}
+use Rattle.pdh_bits.specs.Bits.{bits_of, bytes_of}
+use Rattle.pdh_edge.specs.Ports.{Inputs, Outputs, before, after}
+use Rattle.pdh_edge.specs.MemLists.{inputs_of, outputs_of}
+use Rattle.pdh_line.specs.Tracking.{frames_delivered}
+use Rattle.pdh_line.specs.Receiving.{received}
+use Rattle.pdh_chain.specs.declared.chain.Chain.{Chain}
+use Rattle.pdh_chain.specs.Chains.{shape_of}
+use Rattle.pdh_chain.specs.Demuxes.{Demuxes, received_of}
+use Rattle.pdh_chain.proofs.ChainLaws.{four_tributaries}
+use Rattle.pdh_ops.specs.Demux.{output_with}
+use Rattle.pdh_ops.specs.Steps.{AreBytes, IsReceived}
+use Rattle.pdh_ops.specs.declared.demux.Received.{Received}
+
+-- ---- empty lists
+
+-- so many are held, from 0 on
+pub lists_hold : (n k : ℕ) {outputs : Outputs} → outputs ≡ outputs_of (replicate n []) → k < n → IsTrue (outputs.holds k)
+lists_hold n k is low = ap (λ (o : Outputs). o.holds k) is ∙ ap (nat_lt k) (length-replicate n []) ∙ lt-ltb k n low
+
+-- and is told
+empty_list : (n k : ℕ) → k < n → ◌≡◌ {A = Option (List Bool)} (slice_get (replicate n []) k) (Some [])
+empty_list zero k low = absurd (omega arith)
+empty_list (suc n) zero low = refl
+empty_list (suc n) (suc k) low = empty_list n k (omega arith)
+
+-- ---- the line
+
+-- a list that gave as many bits as it has gave all
+all_given : (rest : Option (List Bool)) (given bits : List Bool) → Some bits ≡ before given rest → length given ≡ length bits → given ≡ bits
+all_given None given bits told long = absurd (cc)
+all_given (Some rest) given bits told long =
+    let whole : bits ≡ given ++ rest = cc in
+    let front : take (length given) bits ≡ given = ap (take (length given)) whole ∙ take-append_seam given rest in
+    sym front ∙ ap (λ n. take n bits) long ∙ take-length bits
+
+-- what was put to a leaf's list
+list_put : (chain : Chain) (given : List Bool) (k : ℕ) (outputs outputs_now : Outputs) → k < 4 → outputs.told k ≡ Some [] → outputs_now.told k ≡ after (received_of (shape_of chain) given k) (outputs.told k) →
+    outputs_now.told k ≡ Some (received (shape_of chain) k given)
+list_put chain given k outputs outputs_now low empty put =
+    let known : nat_lt k (shape_of chain).tribs ≡ true = ap (nat_lt k) (four_tributaries chain) ∙ lt-ltb k 4 low in
+    let bits : received_of (shape_of chain) given k ≡ received (shape_of chain) k given = rw known refl in
+    put ∙ ap (after (received_of (shape_of chain) given k)) empty ∙ ap Some bits
+
+-- a line that was taken apart whole, and the bytes of what was put
+pub is_received : (chain : Chain) (line : List ℕ) (bits : List Bool) (count leaves : ℕ) (inputs inputs_now : Inputs) (outputs outputs_now : Outputs) (result : Received) → bits ≡ bits_of line → count ≡ length bits → leaves ≡ 4 →
+    inputs ≡ inputs_of (bits ∷ []) → outputs ≡ outputs_of (replicate leaves []) → Demuxes (shape_of chain) count result.frames inputs inputs_now outputs outputs_now → AreBytes outputs_now leaves result.outputs.items → IsReceived chain line result
+unfolding output_with
+is_received chain line bits count leaves inputs inputs_now outputs outputs_now result made long four inputs_are outputs_are demuxes bytes =
+    let told : Some bits ≡ before demuxes.given (inputs_now.told 0) = sym (ap (λ (i : Inputs). i.told 0) inputs_are) ∙ demuxes.line.takes.bits 0 in
+    let same : demuxes.given ≡ bits_of line = all_given (inputs_now.told 0) demuxes.given bits told (demuxes.count ∙ long) ∙ made in
+    record {
+      outputs = record {
+        count = bytes.count ∙ four;
+        each = λ leaf d low.
+            let known : leaf < leaves = subst (λ n. leaf < n) (sym four) low in
+            let empty : outputs.told leaf ≡ Some [] = ap (λ (o : Outputs). o.told leaf) outputs_are ∙ empty_list leaves leaf known in
+            bytes.each leaf d (received (shape_of chain) leaf demuxes.given) known (list_put chain demuxes.given leaf outputs outputs_now low empty (demuxes.line.puts leaf))
+            ∙ ap (λ (b : List Bool). bytes_of (received (shape_of chain) leaf b)) same;
+      };
+      frames_are = demuxes.frames_are ∙ ap (frames_delivered (shape_of chain)) same;
+    }

@@ -1,0 +1,121 @@
+ghost use Rattle.std.specs.Prelude.{◌≡◌, ◌<◌, ℕ, IsTrue, Bool, List, [], IfOk};
+ghost use Rattle.pdh_shape.specs.Sets.{e2};
+ghost use Rattle.pdh_rx.specs.Meaning.{HoldsAll};
+ghost use Rattle.pdh_rx.specs.Tail.{tail_meanings};
+ghost use Rattle.pdh_rx.specs.Node.{node_meaning};
+
+use crate::{Rx, RxNode, Tail, tails};
+use pdh_edge::{Drain, Failed, MemPort};
+use pdh_shape::{E2, Path};
+use pdh_watch::Quiet;
+use std::alloc::{AllocError, Global};
+use std::test::Fail;
+
+const TOP: Path = Path {
+    depth: 0,
+    first: 0,
+    second: 0,
+};
+
+// A demultiplexer of the leaves 0 to 3.
+fn node(alloc: Global) -> Result<RxNode<E2, Tail>, AllocError>
+    ensures meaning { IfOk result (λ node. ⟦<RxNode<E2, Tail> as Rx>⟧.meaning node
+        ≡ node_meaning e2 (record { depth = 0; first = 0; second = 0 }) (tail_meanings 4)) }
+    ensures stands { IfOk result (λ node. ⟦<RxNode<E2, Tail> as Rx>⟧.stands node []) }
+{
+    RxNode::open(alloc, TOP, tails(alloc, 4)?)
+}
+
+// Adds so many bits of one value.
+fn add_bits(bits: &mut Vec<bool>, count: usize, bit: bool) -> Result<(), AllocError> {
+    for _added in 0..count {
+        bits.push(bit)?;
+    }
+    Ok(())
+}
+
+// Adds a frame of 106 bytes: its first byte, 0x10 and zeros.
+fn add_frame(bits: &mut Vec<bool>, first: u8) -> Result<(), AllocError> {
+    for place in 0..848u32 {
+        let byte = match place / 8 {
+            0 => first,
+            1 => 0x10,
+            _ => 0,
+        };
+        bits.push((byte >> (7 - place % 8)) & 1 == 1)?;
+    }
+    Ok(())
+}
+
+// A line of so many zeros and then frames, by the first byte of each.
+fn line(alloc: Global, zeros: usize, frames: &[u8]) -> Result<Vec<bool>, AllocError> {
+    let mut bits = Vec::new(alloc);
+    add_bits(&mut bits, zeros, false)?;
+    for first in frames {
+        add_frame(&mut bits, *first)?;
+    }
+    Ok(bits)
+}
+
+// So many zeros, then so many ones, and then so many zeros.
+fn zeros_ones_zeros(alloc: Global, counts: [usize; 3]) -> Result<Vec<bool>, AllocError> {
+    let mut bits = Vec::new(alloc);
+    add_bits(&mut bits, counts[0], false)?;
+    add_bits(&mut bits, counts[1], true)?;
+    add_bits(&mut bits, counts[2], false)?;
+    Ok(bits)
+}
+
+// Takes the bits of a line.
+fn receive<R: Rx, D: Drain>(rx: &mut R, bits: &[bool], drain: &mut D) -> Result<(), Failed>
+    requires stands { (line : List Bool) × R.stands rx.old line }
+    requires lists { HoldsAll (R.meaning rx.old).leaves (D.outputs drain.old) }
+    ensures { (D.outputs drain.new).holds ≡ (D.outputs drain.old).holds }
+{
+    for bit in bits {
+        rx.push(*bit, drain, &mut Quiet)?;
+    }
+    Ok(())
+}
+
+// Whether each of the leaves 0 to 3 got these bits.
+fn each_got(port: &MemPort, bits: &[bool]) -> bool
+    requires { (k : ℕ) → k < 4 → IsTrue ((⟦<MemPort as Drain>⟧.outputs port.now).holds k) }
+{
+    for leaf in 0..4 {
+        if *port.output(leaf) != *bits {
+            return false;
+        }
+    }
+    true
+}
+
+// Whether each leaf gets these bits of a line, and how many frames are delivered.
+fn run(alloc: Global, line: &[bool], bits: &[bool]) -> Result<(bool, u64), Fail> {
+    let mut node = node(alloc)?;
+    let mut port = MemPort::open(alloc, Vec::new(alloc), 4)?;
+    receive(&mut node, line, &mut port)?;
+    Ok((each_got(&port, bits), node.frames()))
+}
+
+// A frame whose first byte is 0xF4 is right; 4 is a wrong one.
+#[test]
+fn lines_and_leaves(rt: HostRuntime) -> Result<(), Fail> {
+    let alloc = rt.alloc();
+    let three: &[u8] = &[0xF4, 0xF4, 0xF4];
+    let two: &[u8] = &[0xF4, 0xF4];
+    let lost: &[u8] = &[0xF4, 0xF4, 0xF4, 4, 4, 4, 4, 0xF4, 0xF4, 0xF4, 0xF4, 0xF4];
+    let none: &[u8] = &[];
+    let cases = [
+        (848, three, [0, 205, 618], 3),
+        (0, two, [0, 0, 0], 0),
+        (0, lost, [1236, 205, 1030], 11),
+        (8480, none, [0, 1435, 0], 0),
+    ];
+    for (zeros, frames, counts, delivered) in cases {
+        let line = line(alloc, zeros, frames)?;
+        let bits = zeros_ones_zeros(alloc, counts)?;
+        assert_eq!(rt; run(alloc, &line, &bits)?, (true, delivered));
+    }
+    Ok(())
+}
