@@ -4,3 +4,9 @@ pub mod Frames
 pub mod Muxed
 pub mod Received
 pub mod Demuxed
+pub mod Numbered
+pub mod TreeLeaves
+pub mod Receivers
+pub mod Senders
+pub mod Stops
+pub mod SenderStops

@@ -1,5 +1,5 @@
 -- Bits that are given to a receiver, one after another.
-use Rattle.std.proofs.Common.{◌≡◌, ℕ, ◌+◌, ◌-◌, ◌^◌, ◌<◌, ◌≤◌, min, Bool, List, [], ◌∷◌, ◌++◌, length, refl, sym, ap, subst, ◌∙◌, arith}
+use Rattle.std.proofs.Common.{◌≡◌, ℕ, ◌+◌, ◌<◌, ◌≤◌, Bool, List, [], ◌∷◌, ◌++◌, length, refl, sym, ap, subst, ◌∙◌, arith}
 use Rattle.std.proofs.lemmas.List.{append-nil, length-append}
 use Rattle.pdh_edge.specs.Files.{Rose}
 use Rattle.pdh_edge.specs.Ports.{Inputs, Outputs, Takes, only, nothing, before as told_before}
@@ -10,7 +10,7 @@ use Rattle.pdh_rx.proofs.Gains.{gains_nothing, gains_join, part_after}
 use Rattle.pdh_chain.specs.Demuxing.{Receives, ReceivesFewer, IsReceiveStop, feed_stop}
 use Rattle.pdh_chain.specs.Muxing.{as_line}
 use Rattle.pdh_chain.specs.declared.stop.DemuxStop.TheVariants.{WriteFailed}
-use Rattle.pdh_chain.proofs.Lists.{takes_none, takes_then, takes_line, takes_no_line}
+use Rattle.pdh_chain.proofs.Lists.{takes_then, takes_line, takes_no_line}
 
 pub receives_none : (m : Meaning) (stands : List Bool → Type 0) (x : Inputs) (o : Outputs) → stands [] → Receives m stands 0 x x o o
 receives_none m stands x o here = record {

@@ -1,54 +1,60 @@
 -- What `demux` takes of its port and puts to it.
-use Rattle.std.specs.Prelude.{◌≡◌, ⊤, ℕ, ◌<◌, ◌≤◌, nat_lt, Bool, if◌then◌else◌, List, [], length, Ok, Err, Result}
+use Rattle.std.specs.Prelude.{◌≡◌, ⊤, ℕ, ◌<◌, ◌≤◌, nat_lt, Bool, if◌then◌else◌, List, [], ◌∷◌, length, Ok, Err, Result}
 use Rattle.pdh_edge.specs.Files.{Rose}
 use Rattle.pdh_edge.specs.Ports.{Inputs, Outputs, Takes, Puts, PutsPart}
 use Rattle.pdh_shape.specs.Frame.{FrameShape}
 use Rattle.pdh_line.specs.Tracking.{frames_delivered}
-use Rattle.pdh_line.specs.Receiving.{received}
+use Rattle.pdh_nesting.specs.Chains.{width}
+use Rattle.pdh_nesting.specs.Receiving.{far}
 use Rattle.pdh_chain.specs.Muxing.{as_line}
 use Rattle.pdh_chain.specs.declared.stop.DemuxStop.{DemuxStop}
 use Rattle.pdh_chain.specs.declared.stop.DemuxStop.TheVariants.{Memory, Ended, ReadFailed, WriteFailed}
 
--- what each leaf receives of a line
-abbrev pub received_of : FrameShape → List Bool → ℕ → List Bool
-received_of s line leaf = (if nat_lt leaf s.tribs then received s leaf line else [])
+-- what each leaf of a chain receives of its top's line
+abbrev pub received_of : List FrameShape → List Bool → ℕ → List Bool
+received_of shapes line leaf = (if nat_lt leaf (width shapes) then far shapes line leaf else [])
+
+-- how many frames of the top are delivered
+abbrev pub top_delivered : List FrameShape → List Bool → ℕ
+top_delivered [] line = 0
+top_delivered (s ∷ below) line = frames_delivered s line
 
 -- these bits of the line were taken, and what each leaf receives by them was put
-pub record PutsReceived (s : FrameShape) (given : List Bool) (inputs inputs_now : Inputs) (outputs outputs_now : Outputs) : Type 0 where
+pub record PutsReceived (shapes : List FrameShape) (given : List Bool) (inputs inputs_now : Inputs) (outputs outputs_now : Outputs) : Type 0 where
   pub takes : Takes (as_line given) inputs inputs_now
-  pub puts : Puts (received_of s given) outputs outputs_now
+  pub puts : Puts (received_of shapes given) outputs outputs_now
 
 -- so many bits of the line came, of which these frames were delivered
-pub record Demuxes (s : FrameShape) (bits frames : ℕ) (inputs inputs_now : Inputs) (outputs outputs_now : Outputs) : Type 0 where
+pub record Demuxes (shapes : List FrameShape) (bits frames : ℕ) (inputs inputs_now : Inputs) (outputs outputs_now : Outputs) : Type 0 where
   pub given : List Bool
   pub count : length given ≡ bits
-  pub line : PutsReceived s given inputs inputs_now outputs outputs_now
-  pub frames_are : frames ≡ frames_delivered s given
+  pub line : PutsReceived shapes given inputs inputs_now outputs outputs_now
+  pub frames_are : frames ≡ top_delivered shapes given
 
 -- fewer bits came
-pub record DemuxesFewer (s : FrameShape) (bits : ℕ) (inputs inputs_now : Inputs) (outputs outputs_now : Outputs) : Type 0 where
+pub record DemuxesFewer (shapes : List FrameShape) (bits : ℕ) (inputs inputs_now : Inputs) (outputs outputs_now : Outputs) : Type 0 where
   pub given : List Bool
   pub fewer : length given < bits
-  pub line : PutsReceived s given inputs inputs_now outputs outputs_now
+  pub line : PutsReceived shapes given inputs inputs_now outputs outputs_now
 
 -- some bits came, and what was put is a prefix of what the leaves receive by them
-pub record DemuxesPart (s : FrameShape) (bits : ℕ) (inputs inputs_now : Inputs) (outputs outputs_now : Outputs) : Type 0 where
+pub record DemuxesPart (shapes : List FrameShape) (bits : ℕ) (inputs inputs_now : Inputs) (outputs outputs_now : Outputs) : Type 0 where
   pub given : List Bool
   pub upto : length given ≤ bits
   pub takes : Takes (as_line given) inputs inputs_now
-  pub puts : PutsPart (received_of s given) outputs outputs_now
+  pub puts : PutsPart (received_of shapes given) outputs outputs_now
 
 -- Why `demux` stops: memory was wanting, and nothing was taken or put; the line is shorter than so many bits; a call for a
 -- bit failed; a call that puts a bit failed.
-abbrev pub IsDemuxStop : FrameShape → ℕ → Inputs → Inputs → Outputs → Outputs → ℕ → ℕ → ℕ → ℕ → DemuxStop → Type 0
-IsDemuxStop s bits inputs inputs_now outputs outputs_now reads reads_now writes writes_now Memory =
+abbrev pub IsDemuxStop : List FrameShape → ℕ → Inputs → Inputs → Outputs → Outputs → ℕ → ℕ → ℕ → ℕ → DemuxStop → Type 0
+IsDemuxStop shapes bits inputs inputs_now outputs outputs_now reads reads_now writes writes_now Memory =
     (inputs_now ≡ inputs) × (outputs_now ≡ outputs)
-IsDemuxStop s bits inputs inputs_now outputs outputs_now reads reads_now writes writes_now Ended =
-    (inputs.left 0 < bits) × DemuxesFewer s bits inputs inputs_now outputs outputs_now
-IsDemuxStop s bits inputs inputs_now outputs outputs_now reads reads_now writes writes_now ReadFailed =
-    Rose reads reads_now × DemuxesFewer s bits inputs inputs_now outputs outputs_now
-IsDemuxStop s bits inputs inputs_now outputs outputs_now reads reads_now writes writes_now WriteFailed =
-    Rose writes writes_now × DemuxesPart s bits inputs inputs_now outputs outputs_now
+IsDemuxStop shapes bits inputs inputs_now outputs outputs_now reads reads_now writes writes_now Ended =
+    (inputs.left 0 < bits) × DemuxesFewer shapes bits inputs inputs_now outputs outputs_now
+IsDemuxStop shapes bits inputs inputs_now outputs outputs_now reads reads_now writes writes_now ReadFailed =
+    Rose reads reads_now × DemuxesFewer shapes bits inputs inputs_now outputs outputs_now
+IsDemuxStop shapes bits inputs inputs_now outputs outputs_now reads reads_now writes writes_now WriteFailed =
+    Rose writes writes_now × DemuxesPart shapes bits inputs inputs_now outputs outputs_now
 
 -- the port is fresh still where memory was wanting, and else ready, unless a call that puts bits failed
 abbrev pub IsDemuxLeft : (fresh ready : Type 0) → Result ℕ DemuxStop → Type 0

@@ -1,5 +1,6 @@
 pub mod Chains
 pub mod Muxing
+pub mod Trees
 pub mod Muxes
 pub mod Demuxing
 pub mod Demuxes

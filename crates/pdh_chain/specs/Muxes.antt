@@ -1,44 +1,51 @@
--- What `mux` puts to its port and takes of it.
-use Rattle.std.specs.Prelude.{◌≡◌, ⊤, ℕ, ◌+◌, ◌*◌, ◌<◌, ◌≤◌, Bool, true, false, List, [], length, Some, None, Ok, Err, Result}
+-- What `mux` puts to its port and takes of it. `counts` tells how many bits of each tributary of the node at a path arrive in
+-- each of its frames, and `scheduled` how many frames the node has.
+use Rattle.std.specs.Prelude.{◌≡◌, ⊤, ℕ, suc, ◌+◌, ◌*◌, ◌<◌, ◌≤◌, ◌⊎◌, Bool, true, false, List, [], ◌∷◌, length, Some, None, Ok, Err, Result, slice_get}
 use Rattle.std.specs.List.{slice_index_or}
 use Rattle.pdh_edge.specs.Files.{Rose}
 use Rattle.pdh_edge.specs.Ports.{Inputs, Outputs, Takes, Puts, PutsPart}
 use Rattle.pdh_shape.specs.Frame.{FrameShape, idle}
 use Rattle.pdh_shape.specs.declared.place.Place.{Place}
-use Rattle.pdh_line.specs.Sending.{Source, front, line_bit, entered}
-use Rattle.pdh_line.specs.Events.{Event, Kind, first_event}
+use Rattle.pdh_shape.specs.declared.place.Path.{Path}
+use Rattle.pdh_line.specs.Sending.{front, begun, taken}
+use Rattle.pdh_line.specs.Events.{Event, Kind}
 use Rattle.pdh_line.specs.Events.Kind.{Overflow, Underflow}
+use Rattle.pdh_nesting.specs.Chains.{width, child, top_len}
+use Rattle.pdh_nesting.specs.Sending.{Counts, chain_line, given_below}
+use Rattle.pdh_nesting.specs.Events.{events_in, first_event}
 use Rattle.pdh_tx.specs.declared.tx.TxStop.{TxStop}
 use Rattle.pdh_tx.specs.declared.tx.TxStop.TheVariants.{Overflow as TxOverflow, Underflow as TxUnderflow, NoFrame as TxNoFrame, Failed as TxFailed, Ended as TxEnded}
-use Rattle.pdh_shape.specs.declared.place.Path.{Path}
 use Rattle.pdh_chain.specs.Muxing.{as_line}
+use Rattle.pdh_chain.specs.Trees.{path_of}
 use Rattle.pdh_chain.specs.declared.stop.MuxStop.{MuxStop}
 use Rattle.pdh_chain.specs.declared.stop.MuxStop.TheVariants.{Memory, Event as MeetsEvent, NoFrame, Ended, ReadFailed, WriteFailed}
 
--- what decides the line: the counts, the leaves' bits, and idle service bits
-abbrev pub source_with : (ℕ → ℕ → ℕ) → (ℕ → List Bool) → Source
-source_with counts lists = record { counts = counts; inputs = λ j i. slice_index_or (lists j) i false; says = λ n. idle }
+-- ---- the line
 
--- so many frames of the line
-abbrev pub frames_of_line : FrameShape → (ℕ → ℕ → ℕ) → (ℕ → List Bool) → ℕ → List Bool
-frames_of_line s counts lists frames = front (line_bit s (source_with counts lists)) (frames * s.len)
+-- the bits of the leaves' lists
+abbrev pub bits_of : (ℕ → List Bool) → ℕ → ℕ → Bool
+bits_of lists k i = slice_index_or (lists k) i false
+
+-- so many frames of a chain's line, whose service bits are idle
+abbrev pub frames_of_line : List FrameShape → Counts → (ℕ → List Bool) → ℕ → List Bool
+frames_of_line shapes counts lists frames = front (chain_line shapes counts (bits_of lists) (λ n. idle) [] 0) (frames * top_len shapes)
 
 -- the leaves' lists begin with the bits that were given
 abbrev pub BeginWith : ℕ → (ℕ → List Bool) → (ℕ → List Bool) → Type 0
 BeginWith leaves given lists = (k i : ℕ) → k < leaves → i < length (given k) → slice_index_or (given k) i false ≡ slice_index_or (lists k) i false
 
 -- The leaves gave so many bits, and whatever lists begin with these, the line that such lists give was put: so many frames.
-pub record PutsFrames (s : FrameShape) (counts : ℕ → ℕ → ℕ) (frames : ℕ) (inputs inputs_now : Inputs) (outputs outputs_now : Outputs) : Type 0 where
+pub record PutsFrames (shapes : List FrameShape) (counts : Counts) (frames : ℕ) (inputs inputs_now : Inputs) (outputs outputs_now : Outputs) : Type 0 where
   pub given : ℕ → List Bool
   pub takes : Takes given inputs inputs_now
-  pub others : (k : ℕ) → s.tribs ≤ k → given k ≡ []
-  pub puts : (lists : ℕ → List Bool) → BeginWith s.tribs given lists → Puts (as_line (frames_of_line s counts lists frames)) outputs outputs_now
+  pub others : (k : ℕ) → width shapes ≤ k → given k ≡ []
+  pub puts : (lists : ℕ → List Bool) → BeginWith (width shapes) given lists → Puts (as_line (frames_of_line shapes counts lists frames)) outputs outputs_now
 
--- all frames were put, in which no store met an event, and each leaf gave exactly the bits that enter
-pub record Muxes (s : FrameShape) (counts : ℕ → ℕ → ℕ) (frames : ℕ) (inputs inputs_now : Inputs) (outputs outputs_now : Outputs) : Type 0 where
-  pub line : PutsFrames s counts frames inputs inputs_now outputs outputs_now
-  pub entered_is : (k : ℕ) → k < s.tribs → inputs.left k ≡ entered (counts k) frames + inputs_now.left k
-  pub no_event : first_event s counts frames ≡ None
+-- all frames were put, in which no store met an event, and each leaf gave exactly the bits that these frames take of it
+pub record Muxes (shapes : List FrameShape) (counts : Counts) (frames : ℕ) (inputs inputs_now : Inputs) (outputs outputs_now : Outputs) : Type 0 where
+  pub line : PutsFrames shapes counts frames inputs inputs_now outputs outputs_now
+  pub given_is : (k : ℕ) → k < width shapes → inputs.left k ≡ given_below shapes counts [] (frames * top_len shapes) k + inputs_now.left k
+  pub no_event : first_event shapes counts frames ≡ None
 
 -- ---- why it stops
 
@@ -46,51 +53,74 @@ abbrev pub is_overflow : Kind → Bool
 is_overflow Overflow = true
 is_overflow Underflow = false
 
--- the top's path
-abbrev pub top : Path
-top = record { depth = 0; first = 0; second = 0 }
+-- the place of an event, with its tributary counted from 1
+abbrev pub place_of : Event → Place
+place_of event = record { path = path_of event.path; trib = event.trib + 1; frame = event.frame; slot = event.slot }
 
--- the place of an event of the top, with its tributary counted from 1
-abbrev pub top_place : Event → Place
-top_place event = record { path = top; trib = event.trib + 1; frame = event.frame; slot = event.slot }
-
--- the first event stands here, and the whole frames before it were put
-pub record StopsAtEvent (s : FrameShape) (counts : ℕ → ℕ → ℕ) (frames : ℕ) (over : Bool) (place : Place) (inputs inputs_now : Inputs) (outputs outputs_now : Outputs) : Type 0 where
+-- The first event stands here. It is met in making this bit of the line, before which none is met, and the whole frames
+-- before that bit were put.
+pub record StopsAtEvent (shapes : List FrameShape) (counts : Counts) (frames : ℕ) (over : Bool) (place : Place) (inputs inputs_now : Inputs) (outputs outputs_now : Outputs) : Type 0 where
   pub event : Event
-  pub first : first_event s counts frames ≡ Some event
+  pub first : first_event shapes counts frames ≡ Some event
   pub kind : over ≡ is_overflow event.kind
-  pub place_is : place ≡ top_place event
-  pub line : PutsFrames s counts event.frame inputs inputs_now outputs outputs_now
+  pub place_is : place ≡ place_of event
+  pub made : ℕ
+  pub met : slice_get (events_in shapes counts [] made) 0 ≡ Some event
+  pub quiet : (x : ℕ) → x < made → events_in shapes counts [] x ≡ []
+  pub whole : ℕ
+  pub begun : whole * top_len shapes ≤ made
+  pub within : made < suc whole * top_len shapes
+  pub line : PutsFrames shapes counts whole inputs inputs_now outputs outputs_now
 
 -- some whole frames were put, fewer than so many
-pub record PutsFewer (s : FrameShape) (counts : ℕ → ℕ → ℕ) (frames : ℕ) (inputs inputs_now : Inputs) (outputs outputs_now : Outputs) : Type 0 where
+pub record PutsFewer (shapes : List FrameShape) (counts : Counts) (frames : ℕ) (inputs inputs_now : Inputs) (outputs outputs_now : Outputs) : Type 0 where
   pub whole : ℕ
   pub fewer : whole < frames
-  pub line : PutsFrames s counts whole inputs inputs_now outputs outputs_now
+  pub line : PutsFrames shapes counts whole inputs inputs_now outputs outputs_now
 
 -- some frames were made, and what was put is a prefix of them
-pub record PutsPrefix (s : FrameShape) (counts : ℕ → ℕ → ℕ) (frames : ℕ) (inputs inputs_now : Inputs) (outputs outputs_now : Outputs) : Type 0 where
+pub record PutsPrefix (shapes : List FrameShape) (counts : Counts) (frames : ℕ) (inputs inputs_now : Inputs) (outputs outputs_now : Outputs) : Type 0 where
   pub made : ℕ
   pub upto : made ≤ frames
   pub given : ℕ → List Bool
   pub takes : Takes given inputs inputs_now
-  pub others : (k : ℕ) → s.tribs ≤ k → given k ≡ []
-  pub puts : (lists : ℕ → List Bool) → BeginWith s.tribs given lists → PutsPart (as_line (frames_of_line s counts lists made)) outputs outputs_now
+  pub others : (k : ℕ) → width shapes ≤ k → given k ≡ []
+  pub puts : (lists : ℕ → List Bool) → BeginWith (width shapes) given lists → PutsPart (as_line (frames_of_line shapes counts lists made)) outputs outputs_now
 
--- Why `mux` stops: memory was wanting, and nothing was taken or put; the first event of a store; never for want of a frame, since the schedule has them;
--- a list is shorter than what enters; a call for bits failed; a call that puts bits failed.
-abbrev pub IsMuxStop : FrameShape → (ℕ → ℕ → ℕ) → ℕ → Inputs → Inputs → Outputs → Outputs → ℕ → ℕ → ℕ → ℕ → MuxStop → Type 0
-IsMuxStop s counts frames inputs inputs_now outputs outputs_now reads reads_now writes writes_now Memory =
+-- this node is the one at a path, which makes so many bits of its line, or one below it, and it begins more frames than are
+-- scheduled
+unfoldable pub LacksFrames : List FrameShape → Counts → (List ℕ → ℕ) → List ℕ → ℕ → List ℕ → Type 0
+LacksFrames [] counts scheduled path x node = ⊥
+LacksFrames (s ∷ below) counts scheduled path x node =
+    ((node ≡ path) × (scheduled path < begun s x)) ⊎ ((j : ℕ) × (j < s.tribs) × LacksFrames below counts scheduled (child path j) (taken s (counts path j) x) node)
+
+-- the same of a node below the top
+abbrev pub LacksBelow : List FrameShape → Counts → (List ℕ → ℕ) → ℕ → List ℕ → Type 0
+LacksBelow [] counts scheduled x node = ⊥
+LacksBelow (s ∷ below) counts scheduled x node = (j : ℕ) × (j < s.tribs) × LacksFrames below counts scheduled (child [] j) (taken s (counts [] j) x) node
+
+-- a node below the top has fewer frames than it begins by so many frames of the top
+pub record StopsForFrame (shapes : List FrameShape) (counts : Counts) (scheduled : List ℕ → ℕ) (frames : ℕ) (node : Path) : Type 0 where
+  pub steps : List ℕ
+  pub node_is : node ≡ path_of steps
+  pub lacks : LacksBelow shapes counts scheduled (frames * top_len shapes) steps
+
+-- Why `mux` stops: memory was wanting, and nothing was taken or put; the first event of a store; the schedule has too few
+-- frames of a node below the top; a list is shorter than what the frames take of it; a call for bits failed; a call that puts
+-- bits failed.
+abbrev pub IsMuxStop : List FrameShape → Counts → (List ℕ → ℕ) → ℕ → Inputs → Inputs → Outputs → Outputs → ℕ → ℕ → ℕ → ℕ → MuxStop → Type 0
+IsMuxStop shapes counts scheduled frames inputs inputs_now outputs outputs_now reads reads_now writes writes_now Memory =
     (inputs_now ≡ inputs) × (outputs_now ≡ outputs)
-IsMuxStop s counts frames inputs inputs_now outputs outputs_now reads reads_now writes writes_now (MeetsEvent over place) =
-    StopsAtEvent s counts frames over place inputs inputs_now outputs outputs_now
-IsMuxStop s counts frames inputs inputs_now outputs outputs_now reads reads_now writes writes_now (NoFrame node) = ⊥
-IsMuxStop s counts frames inputs inputs_now outputs outputs_now reads reads_now writes writes_now (Ended leaf) =
-    (leaf < s.tribs) × (inputs.left leaf < entered (counts leaf) frames) × PutsFewer s counts frames inputs inputs_now outputs outputs_now
-IsMuxStop s counts frames inputs inputs_now outputs outputs_now reads reads_now writes writes_now ReadFailed =
-    Rose reads reads_now × PutsFewer s counts frames inputs inputs_now outputs outputs_now
-IsMuxStop s counts frames inputs inputs_now outputs outputs_now reads reads_now writes writes_now WriteFailed =
-    Rose writes writes_now × PutsPrefix s counts frames inputs inputs_now outputs outputs_now
+IsMuxStop shapes counts scheduled frames inputs inputs_now outputs outputs_now reads reads_now writes writes_now (MeetsEvent over place) =
+    StopsAtEvent shapes counts frames over place inputs inputs_now outputs outputs_now
+IsMuxStop shapes counts scheduled frames inputs inputs_now outputs outputs_now reads reads_now writes writes_now (NoFrame node) =
+    StopsForFrame shapes counts scheduled frames node × PutsFewer shapes counts frames inputs inputs_now outputs outputs_now
+IsMuxStop shapes counts scheduled frames inputs inputs_now outputs outputs_now reads reads_now writes writes_now (Ended leaf) =
+    (leaf < width shapes) × (inputs.left leaf < given_below shapes counts [] (frames * top_len shapes) leaf) × PutsFewer shapes counts frames inputs inputs_now outputs outputs_now
+IsMuxStop shapes counts scheduled frames inputs inputs_now outputs outputs_now reads reads_now writes writes_now ReadFailed =
+    Rose reads reads_now × PutsFewer shapes counts frames inputs inputs_now outputs outputs_now
+IsMuxStop shapes counts scheduled frames inputs inputs_now outputs outputs_now reads reads_now writes writes_now WriteFailed =
+    Rose writes writes_now × PutsPrefix shapes counts frames inputs inputs_now outputs outputs_now
 
 -- the port is fresh still where memory was wanting, and else ready, unless a call that puts bits failed
 abbrev pub IsLeftReady : (fresh ready : Type 0) → Result (Unit {0}) MuxStop → Type 0

@@ -1,7 +1,8 @@
 ghost use Rattle.std.specs.Prelude.{◌≡◌, ◌*◌, All, IfOk, length};
+ghost use Rattle.pdh_nesting.specs.Chains.{width};
 ghost use Rattle.pdh_clock.specs.Chain.{AreLevels};
 ghost use Rattle.pdh_clock.specs.Made.{IsRated};
-ghost use Rattle.pdh_chain.specs.Chains.{name_of, shape_of, frame_bytes_of, leaves_of, level_of, levels_of, delay_of};
+ghost use Rattle.pdh_chain.specs.Chains.{name_of, shapes_of, shape_of, frame_bytes_of, leaves_of, levels_of, delay_of};
 
 use pdh_shape::{Level, Path};
 use std::alloc::{AllocError, Global};
@@ -22,6 +23,13 @@ pub enum Chain {
     E23,
     /// Four streams of 34368 kbit/s in one of 139264 kbit/s (ITU-T G.751).
     E34,
+    /// Sixteen streams of 2048 kbit/s in one of 34368 kbit/s, by way of four of 8448 kbit/s.
+    E13,
+    /// Sixteen streams of 8448 kbit/s in one of 139264 kbit/s, by way of four of 34368 kbit/s.
+    E24,
+    /// Sixty-four streams of 2048 kbit/s in one of 139264 kbit/s, by way of four of 34368 kbit/s and
+    /// sixteen of 8448 kbit/s.
+    E14,
 }
 
 impl Chain {
@@ -34,6 +42,9 @@ impl Chain {
             Chain::E12 => "e12",
             Chain::E23 => "e23",
             Chain::E34 => "e34",
+            Chain::E13 => "e13",
+            Chain::E24 => "e24",
+            Chain::E14 => "e14",
         }
     }
 }
@@ -47,14 +58,22 @@ pub fn delay(chain: Chain) -> u32
         Chain::E12 => 444,
         Chain::E23 => 788,
         Chain::E34 => 1_478,
+        Chain::E13 => 856,
+        Chain::E24 => 1_544,
+        Chain::E14 => 1_062,
     }
 }
 
 /// How many leaves a chain has.
-pub fn leaves(_chain: Chain) -> u32
-    ensures { result ≡ leaves_of _chain }
+pub fn leaves(chain: Chain) -> u32
+    ensures value { result ≡ leaves_of chain }
+    ensures width { result ≡ width (shapes_of chain) }
 {
-    4
+    match chain {
+        Chain::E12 | Chain::E23 | Chain::E34 => 4,
+        Chain::E13 | Chain::E24 => 16,
+        Chain::E14 => 64,
+    }
 }
 
 /// The bytes of a frame of the top.
@@ -64,62 +83,74 @@ pub fn frame_bytes(chain: Chain) -> u32
 {
     match chain {
         Chain::E12 => 106,
-        Chain::E23 => 192,
-        Chain::E34 => 366,
+        Chain::E23 | Chain::E13 => 192,
+        Chain::E34 | Chain::E24 | Chain::E14 => 366,
     }
 }
 
-// The one level of a chain: the rates of its line and of its tributaries, with their offsets in parts per million.
-fn level(chain: Chain) -> Level
-    ensures { result ≡ level_of chain }
+// Four streams of 2048 kbit/s in one of 8448 kbit/s. The offsets are in parts per million.
+const E12_LEVEL: Level = Level {
+    len: 848,
+    tribs: 4,
+    low: 205,
+    locked: false,
+    rate: 8_448_000,
+    per: 1,
+    ppm: 30,
+    trib_rate: 2_048_000,
+    trib_per: 1,
+    trib_ppm: 50,
+};
+
+// Four streams of 8448 kbit/s in one of 34368 kbit/s.
+const E23_LEVEL: Level = Level {
+    len: 1_536,
+    tribs: 4,
+    low: 377,
+    locked: false,
+    rate: 34_368_000,
+    per: 1,
+    ppm: 20,
+    trib_rate: 8_448_000,
+    trib_per: 1,
+    trib_ppm: 30,
+};
+
+// Four streams of 34368 kbit/s in one of 139264 kbit/s.
+const E34_LEVEL: Level = Level {
+    len: 2_928,
+    tribs: 4,
+    low: 722,
+    locked: false,
+    rate: 139_264_000,
+    per: 1,
+    ppm: 15,
+    trib_rate: 34_368_000,
+    trib_per: 1,
+    trib_ppm: 20,
+};
+
+// The levels of a chain from the top.
+fn known_levels(chain: Chain) -> &'static [Level]
+    ensures { result.now ≡ levels_of chain }
 {
     match chain {
-        Chain::E12 => Level {
-            len: 848,
-            tribs: 4,
-            low: 205,
-            locked: false,
-            rate: 8_448_000,
-            per: 1,
-            ppm: 30,
-            trib_rate: 2_048_000,
-            trib_per: 1,
-            trib_ppm: 50,
-        },
-        Chain::E23 => Level {
-            len: 1_536,
-            tribs: 4,
-            low: 377,
-            locked: false,
-            rate: 34_368_000,
-            per: 1,
-            ppm: 20,
-            trib_rate: 8_448_000,
-            trib_per: 1,
-            trib_ppm: 30,
-        },
-        Chain::E34 => Level {
-            len: 2_928,
-            tribs: 4,
-            low: 722,
-            locked: false,
-            rate: 139_264_000,
-            per: 1,
-            ppm: 15,
-            trib_rate: 34_368_000,
-            trib_per: 1,
-            trib_ppm: 20,
-        },
+        Chain::E12 => &[E12_LEVEL],
+        Chain::E23 => &[E23_LEVEL],
+        Chain::E34 => &[E34_LEVEL],
+        Chain::E13 => &[E23_LEVEL, E12_LEVEL],
+        Chain::E24 => &[E34_LEVEL, E23_LEVEL],
+        Chain::E14 => &[E34_LEVEL, E23_LEVEL, E12_LEVEL],
     }
 }
 
-/// The levels of a chain from the top. For now a chain has one.
+/// The levels of a chain from the top.
 pub fn levels(alloc: Global, chain: Chain) -> Result<Vec<Level>, AllocError>
     ensures levels { IfOk result (λ levels. levels.items ≡ levels_of chain) }
     ensures sound { IfOk result (λ levels. AreLevels levels.items) }
     ensures rated { IfOk result (λ levels. All IsRated levels.items) }
 {
     let mut levels = Vec::new(alloc);
-    levels.push(level(chain))?;
+    levels.extend_from_slice(known_levels(chain))?;
     Ok(levels)
 }

@@ -8,6 +8,7 @@ mod sending;
 mod stop;
 #[cfg(test)]
 mod tests;
+mod trees;
 
 pub use chain::{Chain, delay, frame_bytes, leaves, levels};
 pub use making::mux;

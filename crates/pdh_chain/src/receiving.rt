@@ -1,16 +1,24 @@
-ghost use Rattle.std.specs.Prelude.{◌≡◌, ◌<◌, ◌^◌, ℕ, [], IsTrue, IfOk, IfErr, OnOk};
+ghost use Rattle.std.specs.Prelude.{◌≡◌, ◌<◌, ◌^◌, ℕ, [], length, IsTrue, IfOk, IfErr, OnOk, ◌∷◌};
+ghost use Rattle.pdh_nesting.specs.Chains.{width};
 ghost use Rattle.pdh_rx.specs.Meaning.{HoldsAll};
-ghost use Rattle.pdh_chain.specs.Chains.{shape_of, leaves_of};
+ghost use Rattle.pdh_chain.specs.Chains.{shapes_of, leaves_of};
 ghost use Rattle.pdh_chain.specs.Demuxing.{Receives, IsReceiveStop};
 ghost use Rattle.pdh_chain.specs.Demuxes.{Demuxes, IsDemuxStop, IsDemuxLeft};
 
 use crate::chain::{Chain, TOP};
 use crate::stop::DemuxStop;
+use crate::trees::Receiver;
 use pdh_edge::Port;
-use pdh_rx::{Rx, RxNode, Tail, tails};
+use pdh_rx::{Rx, RxNode, Tail};
 use pdh_shape::{E2, E3, E4, Shape};
 use pdh_watch::Watch;
 use std::alloc::Global;
+
+// A demultiplexer of 8448 kbit/s into leaves.
+type E2Receiver = RxNode<E2, Tail>;
+
+// A demultiplexer of 34368 kbit/s into leaves.
+type E3Receiver = RxNode<E3, Tail>;
 
 // Gives a receiver that has got no bit so many bits of the port's list 0.
 fn receive<R: Rx, P: Port, W: Watch>(
@@ -40,28 +48,32 @@ fn receive<R: Rx, P: Port, W: Watch>(
     Ok(())
 }
 
-// The same as `demux`, for a chain of one demultiplexer with this frame.
-fn demux_with<S: Shape, P: Port, W: Watch>(
+// The same as `demux`, for a chain whose top has this frame and whose top's tributaries are such
+// receivers.
+fn demux_with<S: Shape, C: Receiver, P: Port, W: Watch>(
     alloc: Global,
     bits: u64,
     port: &mut P,
     watch: &mut W,
 ) -> Result<u64, DemuxStop>
     requires few { bits < 2 ^ 63 }
+    requires depth { length C.shapes < 3 }
+    requires numbered { width (S.shape ∷ C.shapes) < 2 ^ 32 }
     requires fresh { P.fresh port.old }
     requires line { IsTrue ((P.inputs port.old).holds 0) }
-    requires leaves { (k : ℕ) → k < S.TRIBS → IsTrue ((P.outputs port.old).holds k) }
+    requires leaves { (k : ℕ) → k < width (S.shape ∷ C.shapes) → IsTrue ((P.outputs port.old).holds k) }
     ensures kept { P.kept port.old port.new }
     ensures ready { IsDemuxLeft (P.fresh port.new) (P.ready port.new) result }
-    ensures ok { IfOk result (λ frames. Demuxes S.shape bits frames
+    ensures ok { IfOk result (λ frames. Demuxes (S.shape ∷ C.shapes) bits frames
         (P.inputs port.old) (P.inputs port.new) (P.outputs port.old) (P.outputs port.new)) }
-    ensures err { IfErr result (IsDemuxStop S.shape bits
+    ensures err { IfErr result (IsDemuxStop (S.shape ∷ C.shapes) bits
         (P.inputs port.old) (P.inputs port.new) (P.outputs port.old) (P.outputs port.new)
         (P.feed_faults port.old) (P.feed_faults port.new)
         (P.drain_faults port.old) (P.drain_faults port.new)) }
     ensures seen { W.saw watch.old [] watch.new }
 {
-    let mut node = RxNode::<S, Tail>::open(alloc, TOP, tails(alloc, S::TRIBS)?)?;
+    let mut next_leaf = 0;
+    let mut node = <RxNode<S, C> as Receiver>::open(alloc, TOP, &mut next_leaf)?;
     port.start()?;
     receive(&mut node, bits, port, watch)?;
     Ok(node.frames())
@@ -83,17 +95,20 @@ pub fn demux<P: Port, W: Watch>(
     requires leaves { (k : ℕ) → k < leaves_of chain → IsTrue ((P.outputs port.old).holds k) }
     ensures kept { P.kept port.old port.new }
     ensures ready { IsDemuxLeft (P.fresh port.new) (P.ready port.new) result }
-    ensures ok { IfOk result (λ frames. Demuxes (shape_of chain) bits frames
+    ensures ok { IfOk result (λ frames. Demuxes (shapes_of chain) bits frames
         (P.inputs port.old) (P.inputs port.new) (P.outputs port.old) (P.outputs port.new)) }
-    ensures err { IfErr result (IsDemuxStop (shape_of chain) bits
+    ensures err { IfErr result (IsDemuxStop (shapes_of chain) bits
         (P.inputs port.old) (P.inputs port.new) (P.outputs port.old) (P.outputs port.new)
         (P.feed_faults port.old) (P.feed_faults port.new)
         (P.drain_faults port.old) (P.drain_faults port.new)) }
     ensures seen { W.saw watch.old [] watch.new }
 {
     match chain {
-        Chain::E12 => demux_with::<E2, P, W>(alloc, bits, port, watch),
-        Chain::E23 => demux_with::<E3, P, W>(alloc, bits, port, watch),
-        Chain::E34 => demux_with::<E4, P, W>(alloc, bits, port, watch),
+        Chain::E12 => demux_with::<E2, Tail, P, W>(alloc, bits, port, watch),
+        Chain::E23 => demux_with::<E3, Tail, P, W>(alloc, bits, port, watch),
+        Chain::E34 => demux_with::<E4, Tail, P, W>(alloc, bits, port, watch),
+        Chain::E13 => demux_with::<E3, E2Receiver, P, W>(alloc, bits, port, watch),
+        Chain::E24 => demux_with::<E4, E3Receiver, P, W>(alloc, bits, port, watch),
+        Chain::E14 => demux_with::<E4, RxNode<E3, E2Receiver>, P, W>(alloc, bits, port, watch),
     }
 }

@@ -1,6 +1,7 @@
 ghost use Rattle.std.specs.Prelude.{◌≡◌, length, IfOk};
+ghost use Rattle.pdh_chain.specs.Chains.{leaves_of};
 
-use crate::{Chain, DemuxStop, MuxStop, demux, levels, mux};
+use crate::{Chain, DemuxStop, MuxStop, demux, leaves, levels, mux};
 use pdh_clock::Schedule;
 use pdh_edge::MemPort;
 use pdh_shape::{Path, Place};
@@ -26,13 +27,15 @@ fn zeros(alloc: Global, lengths: [usize; 4]) -> Result<Vec<Vec<bool>>, AllocErro
     Ok(lists)
 }
 
-// The end of a run over the frames of a schedule, and how many bits it put.
+// The end of a run over the frames of a schedule, and how many bits it put, for a chain of one level.
 fn run(
     alloc: Global,
     chain: Chain,
     schedule: &[u8],
     lengths: [usize; 4],
-) -> Result<(Result<(), MuxStop>, usize), Fail> {
+) -> Result<(Result<(), MuxStop>, usize), Fail>
+    requires { leaves_of chain ≡ 4 }
+{
     let levels = levels(alloc, chain)?;
     let clock = Schedule::read(alloc, &levels, schedule)?;
     let mut port = MemPort::open(alloc, zeros(alloc, lengths)?, 1)?;
@@ -99,6 +102,7 @@ fn ends_and_lengths(rt: HostRuntime) -> Result<(), Fail> {
         ),
     ];
     for (chain, schedule, lengths, end, bits) in cases {
+        assert_eq!(rt; leaves(chain), 4);
         let got = run(rt.alloc(), chain, schedule, lengths)?;
         assert_eq!(rt; got, (end, bits), "{chain:?}");
     }
@@ -115,12 +119,15 @@ fn run_demux(
 ) -> Result<(Result<u64, DemuxStop>, usize), Fail> {
     let mut lists = Vec::new(alloc);
     lists.push(vec![in alloc; false; zeros]?)?;
-    let mut port = MemPort::open(alloc, lists, 4)?;
+    let count = leaves(chain);
+    let mut port = MemPort::open(alloc, lists, count)?;
     let end = demux(alloc, chain, u64::from(bits), &mut port, &mut Quiet);
-    Ok((end, port.output(3).len()))
+    Ok((end, port.output(count - 1).len()))
 }
 
-// No position of a line of zeros is confirmed, and each whole frame's length of positions gives ones.
+// No position of a line of zeros is confirmed, and each whole frame's length of positions gives ones. Nor is one of a line of
+// ones, of which a node below the top needs four frames' length less a bit for its leaves to get any: nine frames' ones of the
+// node above.
 #[test]
 fn gaps(rt: HostRuntime) -> Result<(), Fail> {
     let cases = [
@@ -132,6 +139,10 @@ fn gaps(rt: HostRuntime) -> Result<(), Fail> {
         (Chain::E23, 6_142, 6_142, Ok(0), 0),
         (Chain::E34, 11_711, 11_711, Ok(0), 722),
         (Chain::E34, 0, 1, Err(DemuxStop::Ended), 0),
+        (Chain::E13, 18_431, 18_431, Ok(0), 205),
+        (Chain::E13, 18_431, 18_430, Ok(0), 0),
+        (Chain::E24, 35_135, 35_135, Ok(0), 377),
+        (Chain::E14, 11_711, 11_711, Ok(0), 0),
     ];
     for (chain, zeros, bits, end, got) in cases {
         let ran = run_demux(rt.alloc(), chain, zeros, bits)?;

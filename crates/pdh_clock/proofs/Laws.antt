@@ -1,9 +1,10 @@
 -- What holds of each row that a text says, and so of the counts and sums that a schedule gives a node.
 use Rattle.std.proofs.Common.{◌≡◌, ℕ, zero, suc, ◌*◌, ◌<◌, ◌≤◌, ◌==◌, Bool, true, false, cond, nat_lt, List, [], ◌∷◌, length, find, replicate, Option, Some, None, is_some, Result, Ok, Err, All, refl, ap, sym, ◌∙◌, subst, inl, inr, arith, slice_index, suc-mul}
+use Rattle.std.specs.List.{flat_map}
 use Rattle.std.specs.Option.{ok_or, option_map_or, option_and_then}
 use Rattle.std.proofs.lemmas.Bool.{cases_Bool, cases_lt, ltb-false, eqb-true, eqb-false, and_parts, false≢true}
 use Rattle.std.proofs.lemmas.List.{get_or_past}
-use Rattle.std.proofs.lemmas.List.Elements.{All-nil, All-cons, All-head, All-tail, All-append, All-replicate, All-get_or, All-weaker}
+use Rattle.std.proofs.lemmas.List.Elements.{All-nil, All-cons, All-head, All-tail, All-append, All-replicate, All-get_or, All-weaker, All-filter}
 use Rattle.pdh_shape.specs.declared.place.Level.{Level}
 use Rattle.pdh_clock.specs.declared.fault.ScheduleFault.{ScheduleFault}
 use Rattle.pdh_clock.specs.declared.fault.ScheduleFault.TheVariants.{BadRow, UnknownNode, CountOver}
@@ -11,9 +12,9 @@ use Rattle.pdh_line.specs.Sending.{arrived}
 use Rattle.pdh_line.proofs.SendingLaws.{arrived-suc}
 use Rattle.pdh_clock.specs.Text.{lines_of, number_of, numbers_of, path_of, words_of}
 use Rattle.pdh_clock.specs.Row.{Row, row_of, row_of_words}
-use Rattle.pdh_clock.specs.Chain.{same_path, level_at, stores_of, len_at}
+use Rattle.pdh_clock.specs.Chain.{same_path, nodes_of, level_at, stores_of, len_at}
 use Rattle.pdh_clock.specs.Judged.{◌>>=◌, counts_judged, is_passed_over, row_judged, rows_judged, schedule_of, most_bytes}
-use Rattle.pdh_clock.specs.Contents.{IsRowOf, frames_of, counts}
+use Rattle.pdh_clock.specs.Contents.{IsRowOf, rows_at, by_nodes, frames_of, counts}
 
 -- ---- steps that may fail
 
@@ -140,6 +141,12 @@ rows_judged_sound levels number (line ∷ lines) rows h =
     one_line levels (is_passed_over line) (row_judged levels number line) (rows_judged levels (suc number) lines) rows
     (row_judged_sound levels number line) (rows_judged_sound levels (suc number) lines) h
 
+-- what holds of each row holds of each where the nodes are in order
+by_nodes_each : (P : Row → Type 0) (rows : List Row) (nodes : List (List ℕ)) → All P rows → All P (flat_map (rows_at rows) nodes)
+by_nodes_each P rows [] h = All-nil P
+by_nodes_each P rows (path ∷ nodes) h = All-append P (rows_at rows path) (flat_map (rows_at rows) nodes)
+    (All-filter (λ row. same_path row.path path) P rows h) (by_nodes_each P rows nodes h)
+
 not_long : (b : Bool) (fault : ScheduleFault) (read : Result (List Row) ScheduleFault) (rows : List Row)
     → cond b (Err fault) read ≡ Ok rows → read ≡ Ok rows
 not_long true fault read rows h = cc
@@ -149,12 +156,15 @@ not_long false fault read rows h = h
 pub schedule_of_sound : (levels : List Level) (text : List ℕ) (rows : List Row) → schedule_of levels text ≡ Ok rows
     → All (IsRowOf levels) rows
 unfolding schedule_of
-schedule_of_sound levels text rows h = rows_judged_sound levels 1 (lines_of text) rows
-    (not_long (nat_lt most_bytes (length text)) _ _ rows h)
+schedule_of_sound levels text rows h =
+    let read = steps (rows_judged levels 1 (lines_of text)) _ rows (not_long (nat_lt most_bytes (length text)) _ _ rows h) in
+    let same : by_nodes levels read.value ≡ rows = cc in
+    subst (All (IsRowOf levels)) same
+    (by_nodes_each (IsRowOf levels) read.value (nodes_of levels) (rows_judged_sound levels 1 (lines_of text) read.value read.is))
 
 -- ---- counts and sums
 
-same_path-true : (path path' : List ℕ) → same_path path path' ≡ true → path ≡ path'
+pub same_path-true : (path path' : List ℕ) → same_path path path' ≡ true → path ≡ path'
 same_path-true [] [] h = refl
 same_path-true [] (b ∷ path') h = absurd (false≢true h)
 same_path-true (a ∷ path) [] h = absurd (false≢true h)

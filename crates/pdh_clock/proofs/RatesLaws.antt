@@ -5,12 +5,12 @@ use Rattle.std.proofs.Math.Nat.{mul-le-mul_left, mul-pos, le_of_mul-le-mul_right
 use Rattle.pdh_shape.specs.Frame.{FrameShape}
 use Rattle.pdh_shape.specs.declared.place.Level.{Level}
 use Rattle.pdh_line.specs.Tolerance.{allowance, arrived_over, IsWithin}
-use Rattle.pdh_clock.specs.declared.outside.Outside.{Outside}
+use Rattle.pdh_rows.specs.declared.outside.Outside.{Outside}
 use Rattle.pdh_clock.specs.Made.{fast, slow, IsRated}
 use Rattle.pdh_clock.specs.Rates.{IsWithinRates}
-use Rattle.pdh_clock.specs.Outside.{first_outside, run_in}
-use Rattle.pdh_clock.proofs.FirstBreaks.{keeps_run, none_breaks}
-use Rattle.pdh_clock.proofs.OutsideLaws.{none_outside, within-none_outside}
+use Rattle.pdh_rows.specs.Outside.{first_outside, run_in}
+use Rattle.pdh_rows.proofs.FirstBreaks.{keeps_run, none_breaks}
+use Rattle.pdh_rows.proofs.OutsideLaws.{none_outside, within-none_outside}
 
 -- at least what the fastest line carries at least: its rate cancels
 least_cancels : (low run len arriving line bits : ℕ) → low * line ≤ len * arriving → run * len * arriving ≤ (bits + allowance) * line → 0 < line

@@ -1,10 +1,10 @@
 -- The text that a schedule is written as reads back as a schedule with the same frames.
-use Rattle.std.proofs.Common.{◌≡◌, ℕ, suc, ◌+◌, ◌-◌, ◌*◌, ◌/◌, ◌%◌, ◌<◌, ◌≤◌, ◌==◌, true, false, cond, nat_lt, nat_le, List, [], ◌∷◌, ◌++◌, length, get_or, map, find, replicate, decimal, Some, None, Ok, Err, All, if◌then◌else◌, IsSome, refl, ap, sym, ◌∙◌, subst, arith, inl, inr, lit<, append_assoc, append-nil, eq-eqb}
+use Rattle.std.proofs.Common.{◌≡◌, ℕ, suc, ◌+◌, ◌-◌, ◌*◌, ◌/◌, ◌%◌, ◌<◌, ◌≤◌, ◌==◌, ◌&&◌, true, false, cond, nat_lt, nat_le, List, [], ◌∷◌, ◌++◌, length, get_or, map, find, replicate, decimal, Some, None, Ok, Err, All, is_some, IsSome, refl, ap, sym, ◌∙◌, subst, arith, inl, inr, lit<, append_assoc, append-nil, eq-eqb}
 use Rattle.std.specs.List.{flat_map, list_all, onto_first}
 use Rattle.std.specs.Str.{bytes_eq}
 use Rattle.std.specs.Char.{is_ascii_digit}
 use Rattle.std.specs.Option.{ok_or, option_map_or}
-use Rattle.std.proofs.lemmas.Bool.{cases_Bool, cases_lt, eqb-true, le-leb, le-ltb}
+use Rattle.std.proofs.lemmas.Bool.{cases_Bool, cases_lt, eqb-true, le-leb, le-ltb, false≢true}
 use Rattle.std.proofs.lemmas.Bool.Decides.{nat_tests}
 use Rattle.std.proofs.lemmas.Fmt.{decimal_by_steps, decimal_digit, decimal_nonempty, first_decimal, length-decimal-le}
 use Rattle.std.proofs.lemmas.List.Elements.{All-nil, All-cons, All-head, All-tail, All-append, All-replicate, All-weaker}
@@ -14,16 +14,17 @@ use Rattle.std.proofs.lemmas.List.Sums.{fold_push, AllPass-from_list_all}
 use Rattle.std.proofs.lemmas.Slice.Eq.{bytes_eq-Decides}
 use Rattle.pdh_shape.specs.declared.place.Level.{Level}
 use Rattle.pdh_clock.specs.declared.fault.ScheduleFault.TheVariants.{TooLong, BadRow, UnknownNode, CountOver}
-use Rattle.pdh_clock.specs.Text.{lines_of, words_of, digits_value, is_number, number_of, numbers_of}
+use Rattle.pdh_clock.specs.Text.{lines_of, words_of, digits_value, is_number, number_of, numbers_of, path_of}
 use Rattle.pdh_clock.specs.Row.{Row, row_of, row_of_words}
-use Rattle.pdh_clock.specs.Chain.{IsLevel, level_at, stores_of, stores_at, len_at, same_path}
-use Rattle.pdh_clock.specs.Contents.{IsRowOf, frames_of}
-use Rattle.pdh_clock.specs.Judged.{◌>>=◌, counts_judged, row_judged, rows_judged, schedule_of, most_bytes}
-use Rattle.pdh_clock.specs.Stored.{top_row}
-use Rattle.pdh_clock.specs.Written.{text_with, with_frame, longest_rows, number_words, row_line, text_of, ReadsBack}
-use Rattle.pdh_clock.proofs.Joining.{joined}
-use Rattle.pdh_clock.proofs.Beginning.{one_node, none_deeper}
-use Rattle.pdh_clock.proofs.WrittenRows.{longest_text}
+use Rattle.pdh_clock.specs.Chain.{IsLevel, AreLevels, nodes_of, level_at, stores_of, stores_at, len_at, same_path}
+use Rattle.pdh_clock.specs.Contents.{IsRowOf, rows_at, by_nodes, frames_of}
+use Rattle.pdh_clock.specs.Judged.{◌>>=◌, is_passed_over, counts_judged, stores_judged, row_judged, rows_judged, lines_judged, schedule_of, most_bytes}
+use Rattle.pdh_clock.specs.Stored.{path_row, place_of}
+use Rattle.pdh_clock.specs.Written.{text_with, with_frame, longest_rows, rows_written, number_words, path_word, row_line, text_of, ReadsBack}
+use Rattle.pdh_clock.proofs.Laws.{same_path-true}
+use Rattle.pdh_clock.proofs.Nodes.{is_below, only_at, node_place, placed, nodes_known}
+use Rattle.pdh_clock.proofs.Levels.{has_level, level_in, level_is, stores_is, len_is}
+use Rattle.pdh_clock.proofs.Trees.{AtPath, rows_at_all, rows_at_none, rows_at-joined, frames_of-by_nodes}
 
 -- ---- numbers
 
@@ -119,6 +120,94 @@ line_read (byte ∷ line) rest h =
     ap (λ b. cond b ([] ∷ lines_of (line ++ 10 ∷ rest)) (onto_first byte (lines_of (line ++ 10 ∷ rest)))) first
     ∙ ap (onto_first byte) (line_read line rest (All-tail (λ byte. (byte == 10) ≡ false) byte line h))
 
+-- ---- paths
+
+-- a word that is read as a path, in which no space and no line feed stands
+record IsPathWord (path word : List ℕ) : Type 0 where
+  reads : path_of word ≡ Some path
+  no_space : Lacks 32 word
+  no_feed : Lacks 10 word
+
+digit_lacks : (mark a : ℕ) → mark < 47 → ((48 + a) == mark) ≡ false
+digit_lacks mark a h = grind (arith, nat_tests)
+
+slash_lacks : (mark : ℕ) → mark < 47 → (47 == mark) ≡ false
+slash_lacks mark h = grind (arith, nat_tests)
+
+step_lacks : (mark a : ℕ) (rest : List ℕ) → mark < 47 → Lacks mark rest → Lacks mark (47 ∷ (48 + a) ∷ rest)
+step_lacks mark a rest h lacks =
+    All-cons (λ byte. (byte == mark) ≡ false) 47 ((48 + a) ∷ rest) (slash_lacks mark h)
+    (All-cons (λ byte. (byte == mark) ≡ false) (48 + a) rest (digit_lacks mark a h) lacks)
+
+is_step_digit : (a : ℕ) → 1 ≤ a → a ≤ 7 → (nat_le 49 (48 + a) && nat_le (48 + a) 57) ≡ true
+is_step_digit a low high = rw (le-leb 49 (48 + a) (omega arith), le-leb (48 + a) 57 (omega arith)) refl
+
+word_of_one : (a : ℕ) → 1 ≤ a → a ≤ 7 → IsPathWord (a ∷ []) (47 ∷ (48 + a) ∷ [])
+word_of_one a low high =
+    let back : 48 + a - 48 ≡ a = omega arith in
+    record {
+      reads = rw (is_step_digit a low high) (ap (λ n. Some (n ∷ [])) back);
+      no_space = step_lacks 32 a [] (lit< tt) (All-nil (λ byte. (byte == 32) ≡ false));
+      no_feed = step_lacks 10 a [] (lit< tt) (All-nil (λ byte. (byte == 10) ≡ false));
+    }
+
+word_of_two : (a b : ℕ) → 1 ≤ a → a ≤ 7 → 1 ≤ b → b ≤ 7 → IsPathWord (a ∷ b ∷ []) (47 ∷ (48 + a) ∷ 47 ∷ (48 + b) ∷ [])
+word_of_two a b low high low' high' =
+    let back : 48 + a - 48 ≡ a = omega arith in
+    let back' : 48 + b - 48 ≡ b = omega arith in
+    record {
+      reads = rw (is_step_digit a low high, is_step_digit b low' high') (ap (λ n. Some (n ∷ (48 + b - 48) ∷ [])) back ∙ ap (λ n. Some (a ∷ n ∷ [])) back');
+      no_space = step_lacks 32 a (47 ∷ (48 + b) ∷ []) (lit< tt) (step_lacks 32 b [] (lit< tt) (All-nil (λ byte. (byte == 32) ≡ false)));
+      no_feed = step_lacks 10 a (47 ∷ (48 + b) ∷ []) (lit< tt) (step_lacks 10 b [] (lit< tt) (All-nil (λ byte. (byte == 10) ≡ false)));
+    }
+
+-- the steps to a node are numbers of tributaries
+record IsStep (levels : List Level) (step : ℕ) (path : List ℕ) : Type 0 where
+  low : 1 ≤ step
+  high : step ≤ 7
+  below : List Level
+  each : All IsLevel below
+  rest : IsSome (level_at below path)
+
+step_of : (levels : List Level) (step : ℕ) (path : List ℕ) → All IsLevel levels → IsSome (level_at levels (step ∷ path)) → IsStep levels step path
+step_of [] step path each some = absurd (false≢true some)
+step_of (level ∷ below) step path each some =
+    let is = is_below level below step path some in
+    let high = is.high in
+    let most = (All-head IsLevel level below each).most in
+    record { low = is.low; high = omega arith; below = below; each = All-tail IsLevel level below each; rest = is.rest }
+
+path_word_is : (levels : List Level) (path : List ℕ) → AreLevels levels → IsSome (level_at levels path) → IsPathWord path (path_word path)
+path_word_is levels [] h some = record {
+  reads = refl;
+  no_space = All-cons (λ byte. (byte == 32) ≡ false) 47 [] refl (All-nil (λ byte. (byte == 32) ≡ false));
+  no_feed = All-cons (λ byte. (byte == 10) ≡ false) 47 [] refl (All-nil (λ byte. (byte == 10) ≡ false));
+}
+path_word_is levels (a ∷ []) h some =
+    let is = step_of levels a [] h.each some in
+    let high = is.high in
+    let digit : decimal a ≡ (48 + a) ∷ [] = decimal_digit a (omega arith) in
+    subst (IsPathWord (a ∷ [])) (ap (λ digits. 47 ∷ digits ++ []) (sym digit)) (word_of_one a is.low is.high)
+path_word_is levels (a ∷ b ∷ []) h some =
+    let is = step_of levels a (b ∷ []) h.each some in
+    let is' = step_of is.below b [] is.each is.rest in
+    let high = is.high in
+    let high' = is'.high in
+    let digit : decimal a ≡ (48 + a) ∷ [] = decimal_digit a (omega arith) in
+    let digit' : decimal b ≡ (48 + b) ∷ [] = decimal_digit b (omega arith) in
+    subst (IsPathWord (a ∷ b ∷ [])) (ap (λ digits. 47 ∷ digits ++ 47 ∷ (48 + b) ∷ []) (sym digit) ∙ ap (λ digits. 47 ∷ decimal a ++ (47 ∷ digits ++ [])) (sym digit'))
+    (word_of_two a b is.low is.high is'.low is'.high)
+path_word_is levels (a ∷ b ∷ c ∷ path) h some =
+    let has = has_level (level_at levels (a ∷ b ∷ c ∷ path)) some in
+    let inside = (level_in levels (a ∷ b ∷ c ∷ path) has.level has.is).inside in
+    let few = h.few in
+    absurd (omega arith)
+
+-- a line that begins with a path isn't passed over
+not_passed : (path rest : List ℕ) → is_passed_over (path_word path ++ rest) ≡ false
+not_passed [] rest = refl
+not_passed (step ∷ path) rest = refl
+
 -- ---- a row
 
 -- counts of a frame
@@ -126,41 +215,40 @@ record IsFrame (level : Level) (counts : List ℕ) : Type 0 where
   number : length counts ≡ level.tribs
   most : All (λ count. count ≤ level.len) counts
 
--- a row of the top with a repeat that a text may have
-record IsWritable (level : Level) (most : ℕ) (row : Row) : Type 0 where
-  top : row.path ≡ []
+-- a row of a node with a repeat that a text may have
+record IsWritable (levels : List Level) (most : ℕ) (row : Row) : Type 0 where
   some : 0 < row.repeat
   repeat : row.repeat ≤ most
+  level : Level
+  known : level_at levels row.path ≡ Some level
   frame : IsFrame level row.counts
 
--- the line of a row of the top without its line feed
-abbrev top_line : Row → List ℕ
-top_line row = 47 ∷ number_words (row.repeat ∷ row.counts)
+-- the line of a row without its line feed
+abbrev node_line : Row → List ℕ
+node_line row = path_word row.path ++ number_words (row.repeat ∷ row.counts)
 
-top_row_is : (row : Row) → row.path ≡ [] → top_row row.repeat row.counts ≡ row
-top_row_is row top = ap (λ path. record { path = path; repeat = row.repeat; counts = row.counts }) (sym top)
-
-row_line_is : (row : Row) → row.path ≡ [] → row_line row ≡ top_line row ++ 10 ∷ []
-row_line_is row top = ap row_line (sym (top_row_is row top))
-
-numbers_small : (level : Level) (row : Row) → IsLevel level → IsWritable level 999999999 row
+numbers_small : (levels : List Level) (row : Row) → AreLevels levels → IsWritable levels 999999999 row
     → All (λ n. n ≤ 999999999) (row.repeat ∷ row.counts)
-numbers_small level row l w = All-cons (λ n. n ≤ 999999999) row.repeat row.counts w.repeat
-    (All-weaker (λ n. n ≤ level.len) (λ n. n ≤ 999999999) (λ n h. omega (arith, l.longest)) row.counts w.frame.most)
+numbers_small levels row l w =
+    let longest = (level_is levels row.path w.level l.each w.known).longest in
+    All-cons (λ n. n ≤ 999999999) row.repeat row.counts w.repeat
+    (All-weaker (λ n. n ≤ w.level.len) (λ n. n ≤ 999999999) (λ n h. omega arith) row.counts w.frame.most)
 
 not_zero : (n : ℕ) → 0 < n → (n == 0) ≡ false
 not_zero n some = grind (arith, nat_tests)
 
-row_of_line : (level : Level) (row : Row) → IsLevel level → IsWritable level 999999999 row
-    → row_of (top_line row) ≡ Some (top_row row.repeat row.counts)
-row_of_line level row l w =
-    let small = numbers_small level row l w in
-    let words = words_of_numbers (47 ∷ []) (row.repeat ∷ row.counts)
-    (All-cons (λ byte. (byte == 32) ≡ false) 47 [] refl (All-nil (λ byte. (byte == 32) ≡ false))) small in
+word_of_row : (levels : List Level) (row : Row) → AreLevels levels → IsWritable levels 999999999 row → IsPathWord row.path (path_word row.path)
+word_of_row levels row l w = path_word_is levels row.path l (ap is_some w.known)
+
+row_of_line : (levels : List Level) (row : Row) → AreLevels levels → IsWritable levels 999999999 row → row_of (node_line row) ≡ Some row
+row_of_line levels row l w =
+    let small = numbers_small levels row l w in
+    let word = word_of_row levels row l w in
+    let words = words_of_numbers (path_word row.path) (row.repeat ∷ row.counts) word.no_space small in
     let repeat = number_of_decimal row.repeat w.repeat in
     let counts = numbers_of_decimals row.counts (All-tail (λ n. n ≤ 999999999) row.repeat row.counts small) in
     let some : (row.repeat == 0) ≡ false = not_zero row.repeat w.some in
-    ap row_of_words words ∙ rw (repeat, counts, some) refl
+    ap row_of_words words ∙ rw (word.reads, repeat, counts, some) refl
 
 none_over : (most : ℕ) (counts : List ℕ) → All (λ count. count ≤ most) counts → find (nat_lt most) counts ≡ None
 none_over most [] h = refl
@@ -169,138 +257,162 @@ none_over most (count ∷ counts) h =
     ap (λ b. cond b (Some count) (find (nat_lt most) counts)) first
     ∙ none_over most counts (All-tail (λ count. count ≤ most) count counts h)
 
-line_judged : (level : Level) (number : ℕ) (row : Row) → IsLevel level → IsWritable level 999999999 row
-    → row_judged (level ∷ []) number (top_line row) ≡ Ok row
-line_judged level number row l w =
-    let found = top_row row.repeat row.counts in
-    let judged = λ (row : Row). ok_or (level_at (level ∷ []) row.path) (UnknownNode number) >>= λ level.
-    if length row.counts == stores_of level then counts_judged number level row else Err (BadRow number) in
-    let stores : (length row.counts == stores_of level) ≡ true = eq-eqb (length row.counts) (stores_of level)
-    (w.frame.number ∙ ap (λ b. cond b 0 level.tribs) (sym l.stores)) in
-    let none = none_over level.len row.counts w.frame.most in
-    ap (λ o. ok_or o (BadRow number) >>= judged) (row_of_line level row l w)
-    ∙ ap (λ b. cond b (counts_judged number level found) (Err (BadRow number))) stores
-    ∙ ap (λ o. option_map_or (λ count. Err (CountOver number count level.len)) o (Ok found)) none
-    ∙ ap Ok (top_row_is row w.top)
+line_judged : (levels : List Level) (number : ℕ) (row : Row) → AreLevels levels → IsWritable levels 999999999 row
+    → row_judged levels number (node_line row) ≡ Ok row
+line_judged levels number row l w =
+    let judged = λ (row : Row). ok_or (level_at levels row.path) (UnknownNode number) >>= λ level. stores_judged number level row in
+    let stores : (length row.counts == stores_of w.level) ≡ true = eq-eqb (length row.counts) (stores_of w.level)
+    (w.frame.number ∙ ap (λ b. cond b 0 w.level.tribs) (sym (level_is levels row.path w.level l.each w.known).stores)) in
+    let none = none_over w.level.len row.counts w.frame.most in
+    ap (λ o. ok_or o (BadRow number) >>= judged) (row_of_line levels row l w)
+    ∙ ap (λ o. ok_or o (UnknownNode number) >>= λ level. stores_judged number level row) w.known
+    ∙ ap (λ b. cond b (counts_judged number w.level row) (Err (BadRow number))) stores
+    ∙ ap (λ o. option_map_or (λ count. Err (CountOver number count w.level.len)) o (Ok row)) none
 
-lines_judged : (level : Level) (number : ℕ) (rows : List Row) → IsLevel level → All (IsWritable level 999999999) rows
-    → rows_judged (level ∷ []) number (map top_line rows) ≡ Ok rows
-lines_judged level number [] l w = refl
-lines_judged level number (row ∷ rows) l w =
-    let first = line_judged level number row l (All-head (IsWritable level 999999999) row rows w) in
-    let rest = lines_judged level (suc number) rows l (All-tail (IsWritable level 999999999) row rows w) in
-    rw (first, rest) refl
+lines_judged_rows : (levels : List Level) (number : ℕ) (rows : List Row) → AreLevels levels → All (IsWritable levels 999999999) rows
+    → rows_judged levels number (map node_line rows) ≡ Ok rows
+lines_judged_rows levels number [] l w = refl
+lines_judged_rows levels number (row ∷ rows) l w =
+    let kept = not_passed row.path (number_words (row.repeat ∷ row.counts)) in
+    let first = line_judged levels number row l (All-head (IsWritable levels 999999999) row rows w) in
+    let rest = lines_judged_rows levels (suc number) rows l (All-tail (IsWritable levels 999999999) row rows w) in
+    rw (kept, first, rest) refl
 
-lines_of_rows : (level : Level) (rows : List Row) → IsLevel level → All (IsWritable level 999999999) rows
-    → lines_of (flat_map row_line rows) ≡ map top_line rows
-lines_of_rows level [] l w = refl
-lines_of_rows level (row ∷ rows) l w =
-    let first = All-head (IsWritable level 999999999) row rows w in
-    let rest = lines_of_rows level rows l (All-tail (IsWritable level 999999999) row rows w) in
-    let lacks = All-cons (λ byte. (byte == 10) ≡ false) 47 (number_words (row.repeat ∷ row.counts)) refl
-    (number_words_lack (row.repeat ∷ row.counts) (numbers_small level row l first)) in
-    ap (λ line. lines_of (line ++ flat_map row_line rows)) (row_line_is row first.top)
-    ∙ ap lines_of (append_assoc (top_line row) (10 ∷ []) (flat_map row_line rows))
-    ∙ line_read (top_line row) (flat_map row_line rows) lacks
-    ∙ ap (λ lines. top_line row ∷ lines) rest
+lines_of_rows : (levels : List Level) (rows : List Row) → AreLevels levels → All (IsWritable levels 999999999) rows
+    → lines_of (flat_map row_line rows) ≡ map node_line rows
+lines_of_rows levels [] l w = refl
+lines_of_rows levels (row ∷ rows) l w =
+    let first = All-head (IsWritable levels 999999999) row rows w in
+    let rest = lines_of_rows levels rows l (All-tail (IsWritable levels 999999999) row rows w) in
+    let lacks = All-append (λ byte. (byte == 10) ≡ false) (path_word row.path) (number_words (row.repeat ∷ row.counts))
+    (word_of_row levels row l first).no_feed (number_words_lack (row.repeat ∷ row.counts) (numbers_small levels row l first)) in
+    ap lines_of (append_assoc (node_line row) (10 ∷ []) (flat_map row_line rows))
+    ∙ line_read (node_line row) (flat_map row_line rows) lacks
+    ∙ ap (λ lines. node_line row ∷ lines) rest
 
 -- ---- frames
 
-frames_of_top : (rows : List Row) → All (λ (row : Row). row.path ≡ []) rows → frames_of rows [] ≡ joined rows
-unfolding frames_of
-frames_of_top [] h = refl
-frames_of_top (row ∷ rows) h =
-    let first = ap (λ path. same_path path []) (All-head (λ (row : Row). row.path ≡ []) row rows h) in
-    rw first (ap (λ frames. replicate row.repeat row.counts ++ frames)
-    (frames_of_top rows (All-tail (λ (row : Row). row.path ≡ []) row rows h)))
+joined_rows : List Row → List (List ℕ)
+joined_rows rows = flat_map (λ (row : Row). replicate row.repeat row.counts) rows
 
-joined_with : (frame : List ℕ) (rows : List Row) → joined (with_frame [] frame rows) ≡ frame ∷ joined rows
-joined_with frame [] = refl
-joined_with frame (row ∷ rows) = elim (cases_Bool (bytes_eq frame row.counts)) [
-  | inl is ↦ rw is (ap (λ counts. frame ∷ replicate row.repeat counts ++ joined rows) ((bytes_eq-Decides frame row.counts).0 is))
+joined_with : (path frame : List ℕ) (rows : List Row) → joined_rows (with_frame path frame rows) ≡ frame ∷ joined_rows rows
+unfolding joined_rows
+joined_with path frame [] = refl
+joined_with path frame (row ∷ rows) = elim (cases_Bool (bytes_eq frame row.counts)) [
+  | inl is ↦ rw is (ap (λ counts. frame ∷ replicate row.repeat counts ++ joined_rows rows) ((bytes_eq-Decides frame row.counts).0 is))
   | inr isnt ↦ rw isnt refl
 ]
 
-joined_longest : (frames : List (List ℕ)) → joined (longest_rows [] frames) ≡ frames
-joined_longest [] = refl
-joined_longest (frame ∷ frames) =
-    joined_with frame (longest_rows [] frames) ∙ ap (λ frames. frame ∷ frames) (joined_longest frames)
+joined_longest : (path : List ℕ) (frames : List (List ℕ)) → joined_rows (longest_rows path frames) ≡ frames
+unfolding joined_rows
+joined_longest path [] = refl
+joined_longest path (frame ∷ frames) =
+    joined_with path frame (longest_rows path frames) ∙ ap (λ frames. frame ∷ frames) (joined_longest path frames)
 
-writable_more : (level : Level) (n : ℕ) (rows : List Row) → All (IsWritable level n) rows → All (IsWritable level (suc n)) rows
-writable_more level n rows h = All-weaker (IsWritable level n) (IsWritable level (suc n))
-    (λ row w. record { top = w.top; some = w.some; repeat = omega (arith, w.repeat); frame = w.frame }) rows h
+path_with : (path frame : List ℕ) (rows : List Row) → AtPath path rows → AtPath path (with_frame path frame rows)
+path_with path frame [] h = All-cons (λ (row : Row). row.path ≡ path) (path_row path 1 frame) [] refl h
+path_with path frame (row ∷ rows) h = elim (cases_Bool (bytes_eq frame row.counts)) [
+  | inl is ↦ rw is (All-cons (λ (row : Row). row.path ≡ path) (path_row path (suc row.repeat) frame) rows refl (All-tail (λ (row : Row). row.path ≡ path) row rows h))
+  | inr isnt ↦ rw isnt (All-cons (λ (row : Row). row.path ≡ path) (path_row path 1 frame) (row ∷ rows) refl h)
+]
 
-writable_with : (level : Level) (n : ℕ) (frame : List ℕ) (rows : List Row) → IsFrame level frame → All (IsWritable level n) rows
-    → All (IsWritable level (suc n)) (with_frame [] frame rows)
-writable_with level n frame [] f h = All-cons (IsWritable level (suc n)) (top_row 1 frame) []
-    (record { top = refl; some = omega arith; repeat = omega arith; frame = f }) (All-nil (IsWritable level (suc n)))
-writable_with level n frame (row ∷ rows) f h =
-    let first = All-head (IsWritable level n) row rows h in
+path_longest : (path : List ℕ) (frames : List (List ℕ)) → AtPath path (longest_rows path frames)
+path_longest path [] = All-nil (λ (row : Row). row.path ≡ path)
+path_longest path (frame ∷ frames) = path_with path frame (longest_rows path frames) (path_longest path frames)
+
+writable_more : (levels : List Level) (n : ℕ) (rows : List Row) → All (IsWritable levels n) rows → All (IsWritable levels (suc n)) rows
+writable_more levels n rows h = All-weaker (IsWritable levels n) (IsWritable levels (suc n))
+    (λ row w. record { some = w.some; repeat = omega (arith, w.repeat); level = w.level; known = w.known; frame = w.frame }) rows h
+
+writable_with : (levels : List Level) (level : Level) (path : List ℕ) (n : ℕ) (frame : List ℕ) (rows : List Row) → level_at levels path ≡ Some level
+    → IsFrame level frame → All (IsWritable levels n) rows → All (IsWritable levels (suc n)) (with_frame path frame rows)
+writable_with levels level path n frame [] is f h = All-cons (IsWritable levels (suc n)) (path_row path 1 frame) []
+    (record { some = omega arith; repeat = omega arith; level = level; known = is; frame = f }) (All-nil (IsWritable levels (suc n)))
+writable_with levels level path n frame (row ∷ rows) is f h =
+    let first = All-head (IsWritable levels n) row rows h in
     elim (cases_Bool (bytes_eq frame row.counts)) [
-      | inl is ↦ rw is (All-cons (IsWritable level (suc n)) (top_row (suc row.repeat) frame) rows
-          (record { top = refl; some = omega arith; repeat = omega (arith, first.repeat); frame = f })
-          (writable_more level n rows (All-tail (IsWritable level n) row rows h)))
-      | inr isnt ↦ rw isnt (All-cons (IsWritable level (suc n)) (top_row 1 frame) (row ∷ rows)
-          (record { top = refl; some = omega arith; repeat = omega arith; frame = f })
-          (writable_more level n (row ∷ rows) h))
+      | inl same ↦ rw same (All-cons (IsWritable levels (suc n)) (path_row path (suc row.repeat) frame) rows
+          (record { some = omega arith; repeat = omega (arith, first.repeat); level = level; known = is; frame = f })
+          (writable_more levels n rows (All-tail (IsWritable levels n) row rows h)))
+      | inr isnt ↦ rw isnt (All-cons (IsWritable levels (suc n)) (path_row path 1 frame) (row ∷ rows)
+          (record { some = omega arith; repeat = omega arith; level = level; known = is; frame = f })
+          (writable_more levels n (row ∷ rows) h))
     ]
 
-writable_longest : (level : Level) (frames : List (List ℕ)) → All (IsFrame level) frames
-    → All (IsWritable level (length frames)) (longest_rows [] frames)
-writable_longest level [] h = All-nil (IsWritable level 0)
-writable_longest level (frame ∷ frames) h = writable_with level (length frames) frame (longest_rows [] frames)
-    (All-head (IsFrame level) frame frames h) (writable_longest level frames (All-tail (IsFrame level) frame frames h))
+writable_longest : (levels : List Level) (level : Level) (path : List ℕ) (frames : List (List ℕ)) → level_at levels path ≡ Some level
+    → All (IsFrame level) frames → All (IsWritable levels (length frames)) (longest_rows path frames)
+writable_longest levels level path [] is h = All-nil (IsWritable levels 0)
+writable_longest levels level path (frame ∷ frames) is h = writable_with levels level path (length frames) frame (longest_rows path frames) is
+    (All-head (IsFrame level) frame frames h) (writable_longest levels level path frames is (All-tail (IsFrame level) frame frames h))
 
--- ---- a schedule of one level
+-- ---- a schedule
 
-top_of_node : (level : Level) (path : List ℕ) → IsSome (level_at (level ∷ []) path) → path ≡ []
-top_of_node level [] some = refl
-top_of_node level (step ∷ path) some = absurd (none_deeper level step path some)
+frame_of_row : (levels : List Level) (level : Level) (path : List ℕ) (row : Row) → AreLevels levels → level_at levels path ≡ Some level
+    → row.path ≡ path → IsRowOf levels row → IsFrame level row.counts
+frame_of_row levels level path row l is at h = record {
+  number = h.stores ∙ ap (stores_at levels) at ∙ stores_is levels path level l.each is;
+  most = subst (λ len. All (λ count. count ≤ len) row.counts) (ap (len_at levels) at ∙ len_is levels path level is) h.most;
+}
 
-frame_of_row : (level : Level) (row : Row) → IsLevel level → IsRowOf (level ∷ []) row → IsFrame level row.counts
-frame_of_row level row l h =
-    let top = top_of_node level row.path h.node in
-    record {
-      number = h.stores ∙ ap (stores_at (level ∷ [])) top ∙ ap (λ b. cond b 0 level.tribs) l.stores;
-      most = subst (λ path. All (λ count. count ≤ len_at (level ∷ []) path) row.counts) top h.most;
-    }
-
-frames_are : (level : Level) (rows : List Row) → IsLevel level → All (IsRowOf (level ∷ [])) rows
-    → All (IsFrame level) (frames_of rows [])
+frames_are : (levels : List Level) (level : Level) (path : List ℕ) (rows : List Row) → AreLevels levels → level_at levels path ≡ Some level
+    → All (IsRowOf levels) rows → All (IsFrame level) (frames_of rows path)
 unfolding frames_of
-frames_are level [] l h = All-nil (IsFrame level)
-frames_are level (row ∷ rows) l h =
-    let first = All-head (IsRowOf (level ∷ [])) row rows h in
-    let rest = frames_are level rows l (All-tail (IsRowOf (level ∷ [])) row rows h) in
-    elim (cases_Bool (same_path row.path [])) [
-      | inl is ↦ rw is (All-append (IsFrame level) (replicate row.repeat row.counts) (frames_of rows [])
-          (All-replicate (IsFrame level) row.repeat row.counts (frame_of_row level row l first)) rest)
+frames_are levels level path [] l is h = All-nil (IsFrame level)
+frames_are levels level path (row ∷ rows) l is h =
+    let first = All-head (IsRowOf levels) row rows h in
+    let rest = frames_are levels level path rows l is (All-tail (IsRowOf levels) row rows h) in
+    elim (cases_Bool (same_path row.path path)) [
+      | inl same ↦ rw same (All-append (IsFrame level) (replicate row.repeat row.counts) (frames_of rows path)
+          (All-replicate (IsFrame level) row.repeat row.counts (frame_of_row levels level path row l is (same_path-true row.path path same) first)) rest)
       | inr isnt ↦ rw isnt rest
     ]
 
--- the text is that of the top's rows
-pub text_of_top : (level : Level) (rows : List Row)
-    → text_of (record { levels = level ∷ []; rows = rows }) ≡ longest_text (frames_of rows [])
-unfolding text_with
-text_of_top level rows =
-    let written = λ (path : List ℕ). longest_rows path (frames_of rows path) in
-    ap (λ nodes. flat_map row_line (flat_map written nodes)) (one_node level)
-    ∙ ap (flat_map row_line) (append-nil (longest_rows [] (frames_of rows [])))
+-- what is written of a node can be read
+node_writable : (levels : List Level) (rows : List Row) (path : List ℕ) → AreLevels levels → All (IsRowOf levels) rows → IsSome (level_at levels path)
+    → length (frames_of rows path) ≤ 999999999 → All (IsWritable levels 999999999) (longest_rows path (frames_of rows path))
+node_writable levels rows path l h some few =
+    let has = has_level (level_at levels path) some in
+    All-weaker (IsWritable levels (length (frames_of rows path))) (IsWritable levels 999999999)
+    (λ row w. record { some = w.some; repeat = omega (arith, w.repeat); level = w.level; known = w.known; frame = w.frame }) (longest_rows path (frames_of rows path))
+    (writable_longest levels has.level path (frames_of rows path) has.is (frames_are levels has.level path rows l has.is h))
 
-pub reads_back : (level : Level) (rows : List Row) (text : List ℕ) → IsLevel level → All (IsRowOf (level ∷ [])) rows
-    → text ≡ longest_text (frames_of rows []) → ReadsBack (record { levels = level ∷ []; rows = rows }) text
-unfolding schedule_of
-reads_back level rows text l h e = λ short few.
-    let frames = frames_of rows [] in
-    let written = longest_rows [] frames in
-    let count : length frames ≤ 999999999 = few [] refl in
-    let writable = All-weaker (IsWritable level (length frames)) (IsWritable level 999999999)
-    (λ row w. record { top = w.top; some = w.some; repeat = omega (arith, w.repeat, count); frame = w.frame }) written
-    (writable_longest level frames (frames_are level rows l h)) in
+nodes_writable : (levels : List Level) (rows : List Row) (nodes : List (List ℕ)) → AreLevels levels → All (IsRowOf levels) rows
+    → ((path : List ℕ) → IsSome (level_at levels path) → length (frames_of rows path) ≤ 999999999) → All (λ path. IsSome (level_at levels path)) nodes
+    → All (IsWritable levels 999999999) (flat_map (λ path. longest_rows path (frames_of rows path)) nodes)
+nodes_writable levels rows [] l h few known = All-nil (IsWritable levels 999999999)
+nodes_writable levels rows (path ∷ nodes) l h few known =
+    let some = All-head (λ path. IsSome (level_at levels path)) path nodes known in
+    All-append (IsWritable levels 999999999) (longest_rows path (frames_of rows path)) (flat_map (λ path. longest_rows path (frames_of rows path)) nodes)
+    (node_writable levels rows path l h some (few path some))
+    (nodes_writable levels rows nodes l h few (All-tail (λ path. IsSome (level_at levels path)) path nodes known))
+
+-- the frames of what is written
+frames_written : (levels : List Level) (frames : List ℕ → List (List ℕ)) (path : List ℕ) → IsSome (level_at levels path)
+    → frames_of (rows_written levels frames) path ≡ frames path
+unfolding frames_of joined_rows
+frames_written levels frames path some =
+    let at = placed levels path some in
+    let place = place_of levels path in
+    let written = λ (path : List ℕ). longest_rows path (frames path) in
+    let here : get_or (nodes_of levels) place [] ≡ path = at.node [] in
+    let rows : rows_at (rows_written levels frames) path ≡ written path =
+    rows_at-joined written (nodes_of levels) path
+    ∙ only_at (λ node. rows_at (written node) path) (nodes_of levels) place [] at.inside
+    (λ j l other. rows_at_none (get_or (nodes_of levels) j []) path (written (get_or (nodes_of levels) j [])) (path_longest (get_or (nodes_of levels) j []) (frames (get_or (nodes_of levels) j [])))
+    (λ same. other (sym (node_place levels j [] l) ∙ ap (place_of levels) same)))
+    ∙ ap (λ node. rows_at (written node) path) here
+    ∙ rows_at_all path (written path) (path_longest path (frames path)) in
+    ap joined_rows rows ∙ joined_longest path (frames path)
+
+pub reads_back : (levels : List Level) (rows : List Row) (text : List ℕ) → AreLevels levels → All (IsRowOf levels) rows
+    → text ≡ text_of (record { levels = levels; rows = rows }) → ReadsBack (record { levels = levels; rows = rows }) text
+unfolding schedule_of text_with
+reads_back levels rows text l h e = λ short few.
+    let written = rows_written levels (frames_of rows) in
+    let writable = nodes_writable levels rows (nodes_of levels) l h few (nodes_known levels) in
     let long : nat_lt most_bytes (length text) ≡ false = le-ltb most_bytes (length text) short in
-    let read = ap (λ b. cond b (Err (TooLong (length text))) (rows_judged (level ∷ []) 1 (lines_of text))) long
-    ∙ ap (λ text. rows_judged (level ∷ []) 1 (lines_of text)) e
-    ∙ ap (rows_judged (level ∷ []) 1) (lines_of_rows level written l writable) ∙ lines_judged level 1 written l writable in
-    let tops = All-weaker (IsWritable level 999999999) (λ (row : Row). row.path ≡ []) (λ row w. w.top) written writable in
-    let same : frames_of written [] ≡ frames = frames_of_top written tops ∙ joined_longest frames in
-    (written, read, λ path some. subst (λ path. frames_of written path ≡ frames_of rows path) (sym (top_of_node level path some)) same)
+    let read = ap (λ b. cond b (Err (TooLong (length text))) (lines_judged levels (lines_of text))) long
+    ∙ ap (λ text. lines_judged levels (lines_of text)) e
+    ∙ ap (lines_judged levels) (lines_of_rows levels written l writable)
+    ∙ ap (λ read. read >>= λ rows. Ok (by_nodes levels rows)) (lines_judged_rows levels 1 written l writable) in
+    (by_nodes levels written, read, λ path some. frames_of-by_nodes levels written path some ∙ frames_written levels (frames_of rows) path some)

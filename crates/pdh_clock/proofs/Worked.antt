@@ -1,5 +1,5 @@
 -- The definitions on worked texts.
-use Rattle.std.proofs.Common.{◌≡◌, ℕ, false, List, [], ◌∷◌, ◌++◌, Some, None, Result, Ok, Err, refl}
+use Rattle.std.proofs.Common.{◌≡◌, ℕ, false, List, [], ◌∷◌, ◌++◌, length, take, Some, None, Result, Ok, Err, refl}
 use Rattle.std.specs.Prelude.{codes}
 use Rattle.pdh_shape.specs.declared.place.Level.{Level}
 use Rattle.pdh_clock.specs.declared.fault.ScheduleFault.{ScheduleFault}
@@ -9,8 +9,9 @@ use Rattle.pdh_clock.specs.Text.{lines_of, words_of, number_of, path_of}
 use Rattle.pdh_clock.specs.Row.{Row}
 use Rattle.pdh_clock.specs.Chain.{nodes_of}
 use Rattle.pdh_clock.specs.Judged.{schedule_of}
-use Rattle.pdh_clock.specs.Contents.{Contents, frames_of, frame_count, counts}
+use Rattle.pdh_clock.specs.Contents.{Contents, by_nodes, frames_of, frame_count, counts}
 use Rattle.pdh_clock.specs.Begun.{frames_begun, shortage}
+use Rattle.pdh_clock.specs.Stored.{size_of, place_of}
 
 -- a line and its line feed
 abbrev line : List ℕ → List ℕ
@@ -152,6 +153,33 @@ totals = refl
 
 nodes_in_order : nodes_of (e3 ∷ e2 ∷ []) ≡ [] ∷ (1 ∷ []) ∷ (2 ∷ []) ∷ (3 ∷ []) ∷ (4 ∷ []) ∷ []
 nodes_in_order = refl
+
+-- the level of one 139264 kbit/s multiplexer
+abbrev e4 : Level
+e4 = record {
+  len = 2928;
+  tribs = 4;
+  low = 722;
+  locked = false;
+  rate = 139264000;
+  per = 1;
+  ppm = 15;
+  trib_rate = 34368000;
+  trib_per = 1;
+  trib_ppm = 20;
+}
+
+nodes_of_three_levels : (length (nodes_of (e4 ∷ e3 ∷ e2 ∷ [])) ≡ 21)
+    × (take 7 (nodes_of (e4 ∷ e3 ∷ e2 ∷ [])) ≡ [] ∷ (1 ∷ []) ∷ (1 ∷ 1 ∷ []) ∷ (1 ∷ 2 ∷ []) ∷ (1 ∷ 3 ∷ []) ∷ (1 ∷ 4 ∷ []) ∷ (2 ∷ []) ∷ [])
+nodes_of_three_levels = (refl, refl)
+
+places_of_nodes : (size_of (e4 ∷ e3 ∷ e2 ∷ []) ≡ 21) × (place_of (e4 ∷ e3 ∷ e2 ∷ []) (2 ∷ []) ≡ 6) × (place_of (e4 ∷ e3 ∷ e2 ∷ []) (4 ∷ 4 ∷ []) ≡ 20)
+places_of_nodes = (refl, refl, refl)
+
+-- the rows of the top are joined, and those of its first tributary follow
+rows_by_nodes : by_nodes (e3 ∷ e2 ∷ []) rows
+    ≡ row 2 (206 ∷ 205 ∷ []) ∷ row 1 (3 ∷ 4 ∷ []) ∷ record { path = 1 ∷ []; repeat = 5; counts = 7 ∷ 7 ∷ [] } ∷ []
+rows_by_nodes = refl
 
 -- three frames of a 34368 kbit/s top that brings 377 bits a frame begin two frames of its first tributary: 24 + 3 · 377 = 1155 bits
 abbrev below : Contents

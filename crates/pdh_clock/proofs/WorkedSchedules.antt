@@ -3,9 +3,11 @@ use Rattle.std.proofs.Common.{◌≡◌, [], ◌∷◌, false, refl}
 use Rattle.std.specs.Prelude.{replicate, codes}
 use Rattle.std.specs.Fmt.{digits}
 use Rattle.pdh_shape.specs.declared.place.Level.{Level}
-use Rattle.pdh_clock.specs.declared.bias.Bias.TheVariants.{Nominal}
+use Rattle.pdh_clock.specs.declared.bias.Bias.TheVariants.{Nominal, Fast, Slow, Mixed}
+use Rattle.pdh_clock.specs.declared.bias.Offset.TheVariants.{Ahead, Behind}
+use Rattle.pdh_line.specs.Sending.{arrived}
 use Rattle.pdh_clock.specs.Contents.{frames_of}
-use Rattle.pdh_clock.specs.Made.{made, made_frames}
+use Rattle.pdh_clock.specs.Made.{made, made_frames, offset_of}
 use Rattle.pdh_clock.specs.Written.{longest_rows, text_of, text_with}
 
 -- four streams of 2048 kbit/s in one of 8448 kbit/s
@@ -30,3 +32,32 @@ nominal_frames = refl
 pub nominal_text : text_of (record { levels = level ∷ []; rows = longest_rows [] (replicate 4 205 ∷ replicate 4 206 ∷ replicate 4 206 ∷ []) }) ≡ codes "/ 1 205 205 205 205\n/ 2 206 206 206 206\n"
 unfolding text_with frames_of digits
 nominal_text = refl
+
+-- such a stream as the first of four in one of 34368 kbit/s
+abbrev above : Level
+above = record {
+  len = 1536;
+  tribs = 4;
+  low = 377;
+  locked = false;
+  rate = 34368000;
+  per = 1;
+  ppm = 20;
+  trib_rate = 8448000;
+  trib_per = 1;
+  trib_ppm = 30;
+}
+
+-- three frames above bring 1132 bits, which with the lead of 24 begin two frames
+pub frames_below : made (above ∷ level ∷ []) Nominal 3 (1 ∷ []) ≡ replicate 4 205 ∷ replicate 4 206 ∷ []
+unfolding made made_frames arrived
+frames_below = refl
+
+pub no_node_below : made (above ∷ level ∷ []) Nominal 3 (5 ∷ []) ≡ []
+unfolding made made_frames
+no_node_below = refl
+
+-- the leaves are fast, the nodes above them slow, and the top fast; or the top and each first, third.. tributary are fast
+pub offsets : (offset_of Fast 0 2 ≡ Ahead) × (offset_of Fast 1 2 ≡ Behind) × (offset_of Fast 2 1 ≡ Ahead) × (offset_of Slow 0 2 ≡ Behind)
+    × (offset_of Mixed 3 1 ≡ Ahead) × (offset_of Mixed 1 2 ≡ Behind) × (offset_of Mixed 0 3 ≡ Ahead)
+offsets = (refl, refl, refl, refl, refl, refl, refl)

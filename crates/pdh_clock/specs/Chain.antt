@@ -1,22 +1,23 @@
 -- The levels of a chain of multiplexers, from the top, and its nodes.
-use Rattle.std.specs.Prelude.{◌≡◌, ℕ, ◌<◌, ◌≤◌, Bool, true, false, nat_le, ◌==◌, ◌&&◌, if◌then◌else◌, List, [], ◌∷◌, length, take, map, All, Option, Some, None}
+use Rattle.std.specs.Prelude.{◌≡◌, ℕ, ◌≤◌, Bool, true, false, nat_le, ◌==◌, ◌&&◌, if◌then◌else◌, List, [], ◌∷◌, length, take, map, All, Option, Some, None}
 use Rattle.std.specs.List.{flat_map, range_with_len}
 use Rattle.std.specs.Option.{option_map_or}
 use Rattle.pdh_shape.specs.declared.place.Level.{Level}
 use Rattle.pdh_shape.specs.declared.place.Path.{Path}
 
--- a frame has bits, no more than the longest one has, and there are 4 to 7 tributaries. So a row has 11 bytes or more, and
--- the sums of a text stay below 2^64
+-- a frame has no fewer bits than the shortest one and no more than the longest one, and there are 4 to 7 tributaries. So a
+-- row has 11 bytes or more, the sums of a text stay below 2^64, and a node makes few frames more than the one above it
 pub record IsLevel (level : Level) : Type 0 where
-  pub some_bits : 0 < level.len
+  pub shortest : 848 ≤ level.len
   pub longest : level.len ≤ 4760
   pub fewest : 4 ≤ level.tribs
   pub most : level.tribs ≤ 7
   pub stores : level.locked ≡ false
 
--- the levels that can be read: for now one
+-- the levels of a chain, from the top
 pub record AreLevels (levels : List Level) : Type 0 where
-  pub one : length levels ≡ 1
+  pub some : 1 ≤ length levels
+  pub few : length levels ≤ 3
   pub each : All IsLevel levels
 
 -- a node's path as the numbers of its steps

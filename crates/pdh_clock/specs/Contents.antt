@@ -3,9 +3,9 @@ use Rattle.std.specs.Prelude.{◌≡◌, ℕ, ◌<◌, ◌≤◌, List, [], All,
 use Rattle.std.specs.List.{flat_map, slice_index_or}
 use Rattle.pdh_shape.specs.declared.place.Level.{Level}
 use Rattle.pdh_clock.specs.Row.{Row}
-use Rattle.pdh_clock.specs.Chain.{same_path, level_at, stores_at, len_at}
+use Rattle.pdh_clock.specs.Chain.{same_path, nodes_of, level_at, stores_at, len_at}
 
--- the levels of its chain, and its rows in order of lines
+-- the levels of its chain, and the rows of its nodes in order
 pub record Contents : Type 0 where
   pub levels : List Level
   pub rows : List Row
@@ -17,9 +17,17 @@ pub record IsRowOf (levels : List Level) (row : Row) : Type 0 where
   pub stores : length row.counts ≡ stores_at levels row.path
   pub most : All (λ count. count ≤ len_at levels row.path) row.counts
 
+-- the rows of the node at a path
+abbrev pub rows_at : List Row → List ℕ → List Row
+rows_at rows path = filter (λ row. same_path row.path path) rows
+
+-- the rows of each node in order of lines, and the nodes in order
+abbrev pub by_nodes : List Level → List Row → List Row
+by_nodes levels rows = flat_map (rows_at rows) (nodes_of levels)
+
 -- the counts of each frame of the node at a path: the counts of its rows, each as often as the row says
 unfoldable pub frames_of : List Row → List ℕ → List (List ℕ)
-frames_of rows path = flat_map (λ row. replicate row.repeat row.counts) (filter (λ row. same_path row.path path) rows)
+frames_of rows path = flat_map (λ row. replicate row.repeat row.counts) (rows_at rows path)
 
 -- how many frames the node has
 abbrev pub frame_count : List Row → List ℕ → ℕ

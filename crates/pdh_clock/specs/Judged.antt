@@ -7,6 +7,7 @@ use Rattle.pdh_clock.specs.declared.fault.ScheduleFault.TheVariants.{TooLong, Ba
 use Rattle.pdh_clock.specs.Text.{lines_of}
 use Rattle.pdh_clock.specs.Row.{Row, row_of}
 use Rattle.pdh_clock.specs.Chain.{level_at, stores_of}
+use Rattle.pdh_clock.specs.Contents.{by_nodes}
 
 infixl 10 ◌>>=◌
 abbrev pub ◌>>=◌ : {A B : Type 0} → Result A ScheduleFault → (A → Result B ScheduleFault) → Result B ScheduleFault
@@ -18,12 +19,16 @@ abbrev pub counts_judged : ℕ → Level → Row → Result Row ScheduleFault
 counts_judged number level row =
     option_map_or (λ count. Err (CountOver number count level.len)) (find (nat_lt level.len) row.counts) (Ok row)
 
+-- the row, unless it has not one count for each store of its node
+abbrev pub stores_judged : ℕ → Level → Row → Result Row ScheduleFault
+stores_judged number level row = if length row.counts == stores_of level then counts_judged number level row else Err (BadRow number)
+
 -- the row of the line of that number: its form is judged first, then the node, then how many counts there are, then each
 abbrev pub row_judged : List Level → ℕ → List ℕ → Result Row ScheduleFault
 row_judged levels number line = do
   row ← ok_or (row_of line) (BadRow number)
   level ← ok_or (level_at levels row.path) (UnknownNode number)
-  if length row.counts == stores_of level then counts_judged number level row else Err (BadRow number)
+  stores_judged number level row
 
 -- an empty line and one that begins with `#`, 35
 abbrev pub is_passed_over : List ℕ → Bool
@@ -42,10 +47,16 @@ rows_judged levels number (line ∷ lines) = if is_passed_over line then rows_ju
 abbrev pub most_bytes : ℕ
 most_bytes = 33554432
 
+-- the rows of lines, those of each node in order of lines and the nodes in order, or the first fault
+abbrev pub lines_judged : List Level → List (List ℕ) → Result (List Row) ScheduleFault
+lines_judged levels lines = do
+  rows ← rows_judged levels 1 lines
+  Ok (by_nodes levels rows)
+
 -- the rows of a text, or its first fault
 unfoldable pub schedule_of : List Level → List ℕ → Result (List Row) ScheduleFault
 schedule_of levels text =
-    if nat_lt most_bytes (length text) then Err (TooLong (length text)) else rows_judged levels 1 (lines_of text)
+    if nat_lt most_bytes (length text) then Err (TooLong (length text)) else lines_judged levels (lines_of text)
 
 -- what was answered is what the definition says, unless memory ran out
 abbrev pub Fails : {Y : Type 0} → ScheduleFault → Result Y ScheduleFault → Type 0

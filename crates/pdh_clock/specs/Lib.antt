@@ -6,9 +6,7 @@ pub mod Contents
 pub mod Begun
 pub mod Parsed
 pub mod Stored
-pub mod Outside
-pub mod Bounds
 pub mod Made
+pub mod Making
 pub mod Rates
 pub mod Written
-pub mod Runs

@@ -1,9 +1,12 @@
 -- Schedules made from rates and clock offsets. The offsets are this project's own profile.
-use Rattle.std.specs.Prelude.{ℕ, ◌<◌, ◌≤◌, ◌^◌, suc, ◌+◌, ◌-◌, ◌*◌, ◌/◌, ◌%◌, ◌==◌, if◌then◌else◌, List, [], ◌∷◌, map}
+use Rattle.std.specs.Prelude.{ℕ, ◌<◌, ◌≤◌, ◌^◌, suc, ◌+◌, ◌-◌, ◌*◌, ◌/◌, ◌%◌, ◌==◌, ◌&&◌, nat_le, if◌then◌else◌, List, [], ◌∷◌, length, map}
 use Rattle.std.specs.List.{range_with_len}
 use Rattle.pdh_shape.specs.declared.place.Level.{Level}
 use Rattle.pdh_clock.specs.declared.bias.Bias.{Bias}
 use Rattle.pdh_clock.specs.declared.bias.Bias.TheVariants.{Nominal, Fast, Slow, Mixed}
+use Rattle.pdh_clock.specs.declared.bias.Offset.{Offset}
+use Rattle.pdh_clock.specs.declared.bias.Offset.TheVariants.{Exact, Ahead, Behind}
+use Rattle.pdh_clock.specs.Begun.{taken, begun_by, top_len}
 
 -- the rate of a stream that is so many parts per million fast or slow, as a multiple of a millionth of its nominal rate
 abbrev pub fast : ℕ → ℕ
@@ -12,38 +15,48 @@ fast ppm = 1000000 + ppm
 abbrev pub slow : ℕ → ℕ
 slow ppm = 1000000 - ppm
 
--- that of a tributary, by its number from 1
-abbrev pub trib_scale : Bias → ℕ → ℕ → ℕ
-trib_scale Nominal ppm number = 1000000
-trib_scale Fast ppm number = fast ppm
-trib_scale Slow ppm number = slow ppm
-trib_scale Mixed ppm number = if number % 2 == 1 then fast ppm else slow ppm
+-- the same by the stream's offset
+abbrev pub scale_of : Offset → ℕ → ℕ
+scale_of Exact ppm = 1000000
+scale_of Ahead ppm = fast ppm
+scale_of Behind ppm = slow ppm
 
--- that of the top node above the leaves
-abbrev pub node_scale : Bias → ℕ → ℕ
-node_scale Nominal ppm = 1000000
-node_scale Fast ppm = slow ppm
-node_scale Slow ppm = fast ppm
-node_scale Mixed ppm = fast ppm
+-- The offset of a stream: a tributary, by its number from 1 under its node, with so many levels of nodes from its own on
+-- down, none where it is a leaf. The top's line is as the first tributary of a node above it.
+abbrev pub offset_of : Bias → ℕ → ℕ → Offset
+offset_of Nominal height number = Exact
+offset_of Fast height number = if height % 2 == 0 then Ahead else Behind
+offset_of Slow height number = if height % 2 == 0 then Behind else Ahead
+offset_of Mixed height number = if number % 2 == 1 then Ahead else Behind
 
--- how many bits of a tributary, numbered from 0, have arrived after n frames: the whole bits of their duration
-abbrev pub made_arrived : Level → Bias → ℕ → ℕ → ℕ
-made_arrived level bias trib n =
-    n * level.len * (level.trib_rate * level.per * trib_scale bias level.trib_ppm (suc trib))
-    / (level.rate * level.trib_per * node_scale bias level.ppm)
+-- how many bits of a tributary have arrived after n frames, by the offsets of the line and of the tributary: the whole bits
+-- of their duration
+abbrev pub made_arrived : Level → Offset → Offset → ℕ → ℕ
+made_arrived level line trib n =
+    n * level.len * (level.trib_rate * level.per * scale_of trib level.trib_ppm)
+    / (level.rate * level.trib_per * scale_of line level.ppm)
 
 -- how many arrive in frame n
-abbrev pub made_count : Level → Bias → ℕ → ℕ → ℕ
-made_count level bias trib n = made_arrived level bias trib (suc n) - made_arrived level bias trib n
+abbrev pub made_count : Level → Offset → Offset → ℕ → ℕ
+made_count level line trib n = made_arrived level line trib (suc n) - made_arrived level line trib n
 
--- the counts of each frame
-unfoldable pub made_frames : Level → Bias → ℕ → List (List ℕ)
-made_frames level bias frames = map (λ n. map (λ trib. made_count level bias trib n) (range_with_len 0 level.tribs)) (range_with_len 0 frames)
+-- the counts of each frame of a node above so many levels, by the offset of its line
+unfoldable pub made_frames : Level → Bias → ℕ → Offset → ℕ → List (List ℕ)
+made_frames level bias height line frames =
+    map (λ n. map (λ trib. made_count level line (offset_of bias height (suc trib)) n) (range_with_len 0 level.tribs)) (range_with_len 0 frames)
 
--- the counts of each frame of the node at a path; for now a chain has the top alone
+-- the counts of each frame of the node to which the path leads from a node of the first of the levels, whose line has that
+-- offset and which makes x bits
+abbrev pub made_from : List Level → Bias → Offset → ℕ → List ℕ → List (List ℕ)
+made_from [] bias line x path = []
+made_from (level ∷ below) bias line x [] = made_frames level bias (length below) line (begun_by level.len x)
+made_from (level ∷ below) bias line x (step ∷ path) =
+    let trib = offset_of bias (length below) step in
+    if nat_le 1 step && nat_le step level.tribs then made_from below bias trib (taken level (made_count level line trib) x) path else []
+
+-- the counts of each frame of the node at a path, where the top makes so many frames
 unfoldable pub made : List Level → Bias → ℕ → List ℕ → List (List ℕ)
-made (level ∷ []) bias frames [] = made_frames level bias frames
-made _ bias frames path = []
+made levels bias frames path = made_from levels bias (offset_of bias (length levels) 1) (frames * top_len levels) path
 
 -- Rates of which a schedule can be made: a tributary's is at most half the line's, no offset is above 1000 parts per
 -- million, and whatever the offsets are, the bits that arrive in the time of a frame lie between those that a frame

@@ -1,51 +1,64 @@
--- The rows of a node as they are stored.
-use Rattle.std.specs.Prelude.{◌≡◌, ℕ, ◌+◌, ◌-◌, ◌*◌, ◌<◌, ◌≤◌, List, [], ◌∷◌, length, take, drop, sum_by, slice_index, All}
-use Rattle.pdh_clock.specs.declared.table.Table.{Table}
+-- The nodes of a chain as they are stored: in order, each with its rows.
+use Rattle.std.specs.Prelude.{◌≡◌, ℕ, suc, ◌+◌, ◌-◌, ◌*◌, ◌<◌, ◌≤◌, ◌^◌, List, [], ◌∷◌, map, slice_index, All}
+use Rattle.std.specs.List.{flat_map}
+use Rattle.pdh_rows.specs.Rows.{NodeRow}
+use Rattle.pdh_rows.specs.Stored.{IsTable, rows_of}
 use Rattle.pdh_shape.specs.declared.place.Level.{Level}
+use Rattle.pdh_clock.specs.declared.tree.NodeRows.{NodeRows}
+use Rattle.pdh_clock.specs.declared.tree.Tree.{Tree}
 use Rattle.pdh_clock.specs.Row.{Row}
-use Rattle.pdh_clock.specs.Chain.{IsLevel}
-use Rattle.pdh_clock.specs.Contents.{IsRowOf}
+use Rattle.pdh_clock.specs.Chain.{AreLevels, steps_of, stores_at, nodes_of}
+use Rattle.pdh_clock.specs.Contents.{Contents, IsRowOf}
 
--- a row of the top
-abbrev pub top_row : ℕ → List ℕ → Row
-top_row repeat counts = record { path = []; repeat = repeat; counts = counts }
+-- how many nodes a tree of these levels has: its top, and those below each of the top's tributaries
+abbrev pub size_of : List Level → ℕ
+size_of [] = 0
+size_of (level ∷ below) = suc (level.tribs * size_of below)
 
--- the repeats of the rows and all their counts, those of a row behind those of the row before it
-abbrev pub stored_rows : ℕ → List ℕ → List ℕ → List Row
-stored_rows tribs [] counts = []
-stored_rows tribs (repeat ∷ repeats) counts =
-    top_row repeat (take tribs counts) ∷ stored_rows tribs repeats (drop tribs counts)
+-- how many nodes stand before the node at a path
+abbrev pub place_of : List Level → List ℕ → ℕ
+place_of (level ∷ below) (step ∷ path) = suc ((step - 1) * size_of below + place_of below path)
+place_of _ _ = 0
 
-abbrev pub rows_of : Table → List Row
-rows_of table = stored_rows table.tribs table.repeats.items table.counts.items
+-- a row of the node at a path
+abbrev pub path_row : List ℕ → ℕ → List ℕ → Row
+path_row path repeat counts = record { path = path; repeat = repeat; counts = counts }
 
--- how many frames rows of one node have
-abbrev pub row_frames : List Row → ℕ
-row_frames rows = sum_by (λ row. row.repeat) rows
+-- the same, by a row as it is stored
+abbrev pub at_path : List ℕ → NodeRow → Row
+at_path path row = path_row path row.repeat row.counts
 
--- how many bits of a tributary arrive in the frames of rows of one node
-abbrev pub row_bits : List Row → ℕ → ℕ
-row_bits rows trib = sum_by (λ row. row.repeat * slice_index row.counts trib) rows
+-- the path of a node, and its rows
+abbrev pub node_path : NodeRows → List ℕ
+node_path node = steps_of node.path
 
--- the last sums, of as many tributaries as there are counts, with the bits of one more row
-abbrev pub sum_with : List ℕ → ℕ → List ℕ → ℕ → ℕ
-sum_with sums repeat counts trib =
-    slice_index sums (length sums - length counts + trib) + repeat * slice_index counts trib
+abbrev pub node_rows : NodeRows → List Row
+node_rows node = map (at_path (node_path node)) (rows_of node.table)
 
--- each row has its counts, and it and the end of the rows know the frames and the bits of each tributary before it
-pub record IsTable (table : Table) : Type 0 where
-  pub some_trib : 0 < table.tribs
-  pub counts_len : length table.counts.items ≡ length table.repeats.items * table.tribs
-  pub firsts_len : length table.firsts.items ≡ length table.repeats.items + 1
-  pub before_len : length table.before.items ≡ (length table.repeats.items + 1) * table.tribs
-  pub firsts : (k : ℕ) → k ≤ length table.repeats.items
-      → slice_index table.firsts.items k ≡ row_frames (take k (rows_of table))
-  pub before : (k trib : ℕ) → k ≤ length table.repeats.items → trib < table.tribs
-      → slice_index table.before.items (k * table.tribs + trib) ≡ row_bits (take k (rows_of table)) trib
+-- the rows of all nodes
+abbrev pub rows_in : Tree → List Row
+rows_in tree = flat_map node_rows tree.nodes.items
 
--- the rows of a node of a chain of one level
-pub record IsStored (level : Level) (table : Table) : Type 0 where
-  pub level_is : IsLevel level
-  pub stored : IsTable table
-  pub tribs : table.tribs ≡ level.tribs
-  pub rows : All (IsRowOf (level ∷ [])) (rows_of table)
+-- the same, as a schedule's callers see it
+abbrev pub contents_of : Tree → Contents
+contents_of tree = record { levels = tree.levels.items; rows = rows_in tree }
+
+-- a node with its rows
+pub record IsNode (levels : List Level) (node : NodeRows) : Type 0 where
+  pub stored : IsTable node.table
+  pub tribs : node.table.tribs ≡ stores_at levels (node_path node)
+  pub rows : All (IsRowOf levels) (node_rows node)
+
+-- all nodes of the levels, in order
+pub record IsTree (tree : Tree) : Type 0 where
+  pub levels_are : AreLevels tree.levels.items
+  pub paths : map node_path tree.nodes.items ≡ nodes_of tree.levels.items
+  pub each : All (IsNode tree.levels.items) tree.nodes.items
+
+-- a row that can be counted with: its repeat and its counts are no larger than those of a text
+pub record IsSmall (repeat : ℕ) (counts : List ℕ) : Type 0 where
+  pub repeat_is : repeat < 10 ^ 9
+  pub counts_are : (trib : ℕ) → slice_index counts trib ≤ 4760
+
+abbrev pub IsSmallRow : Row → Type 0
+IsSmallRow row = IsSmall row.repeat row.counts

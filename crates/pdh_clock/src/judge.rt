@@ -1,13 +1,15 @@
 //! The judgement of a line of a schedule.
 
-ghost use Rattle.std.specs.Prelude.{◌≡◌, ◌≤◌, ◌<◌, ◌*◌, ◌+◌, ◌^◌, [], ◌∷◌, length, nat_lt, find, IfNone, IfOk, All};
-ghost use Rattle.pdh_clock.specs.Judged.{Gives, is_passed_over as passed_over, row_judged};
-ghost use Rattle.pdh_clock.specs.Parsed.{row_found};
-ghost use Rattle.pdh_clock.specs.Chain.{IsLevel, steps_of};
+ghost use Rattle.std.specs.Prelude.{◌≡◌, ◌≤◌, ◌<◌, ◌^◌, ℕ, List, ◌∷◌, length, nat_lt, find, IfNone, IfOk, OnOk, All};
+ghost use Rattle.pdh_clock.specs.Judged.{Gives, is_passed_over as passed_over, stores_judged, row_judged};
+ghost use Rattle.pdh_clock.specs.Parsed.{IsRow, row_found};
+ghost use Rattle.pdh_clock.specs.Row.{Row};
+ghost use Rattle.std.specs.Option.{option_copied, option_and_then};
+ghost use Rattle.pdh_clock.specs.Chain.{IsLevel, level_at, steps_of};
 
 use crate::fault::ScheduleFault;
 use crate::row::{FoundRow, row};
-use pdh_shape::Level;
+use pdh_shape::{Level, Path};
 
 /// Whether a line says nothing: an empty one, or one that begins with `#`.
 pub fn is_passed_over(line: &[u8]) -> bool
@@ -24,21 +26,36 @@ fn first_over(counts: &[u32], most: u32) -> Option<u32>
     counts.iter().copied().find(|count| most < *count)
 }
 
-/// The row of the line of that number, or the line's fault, in a chain of one level.
-pub fn judge(level: &Level, number: u32, line: &[u8]) -> Result<FoundRow, ScheduleFault>
-    requires { IsLevel level.now }
-    ensures judged { Gives row_found result (row_judged (level.now ∷ []) number line.now) }
-    ensures node { IfOk result (λ row. steps_of row.path ≡ []) }
-    ensures stores { IfOk result (λ row. row.counts.number ≡ level.now.tribs) }
-    ensures counts { IfOk result
-        (λ row. All (λ count. count ≤ level.now.len) (row_found row).counts) }
-    ensures repeat { IfOk result (λ row. row.repeat < 10 ^ 9) }
-    ensures lens { IfOk result (λ row. 3 + 2 * row.counts.number ≤ length line.now) }
+/// The levels below a tributary of the first of the levels, by its number from 1, where it has that one.
+fn levels_below(levels: &[Level], number: u8) -> Option<&[Level]>
+    ensures { (path : List ℕ)
+        → level_at levels.now (number ∷ path) ≡ option_and_then (λ below. level_at below path) (option_copied result) }
 {
-    let row = row(line).ok_or(ScheduleFault::BadRow { line: number })?;
-    if row.path.depth != 0 {
-        return Err(ScheduleFault::UnknownNode { line: number });
+    match levels {
+        [level, below @ ..] if 1 <= number && number <= level.tribs => Some(below),
+        _ => None,
     }
+}
+
+/// The level of a node, where the chain has it.
+fn level_of(levels: &[Level], node: &Path) -> Option<Level>
+    ensures { result ≡ level_at levels.now (steps_of node.now) }
+{
+    let at = match node.depth {
+        0 => levels,
+        1 => levels_below(levels, node.first)?,
+        _ => levels_below(levels_below(levels, node.first)?, node.second)?,
+    };
+    at.first().copied()
+}
+
+/// Whether a row of a node of that level has one count for each store, and none above the bits of a frame.
+fn judge_counts(level: &Level, number: u32, row: &FoundRow) -> Result<(), ScheduleFault>
+    requires { IsLevel level.now }
+    ensures judged { (said : Row) → IsRow row.now said → Gives (λ _. row_found row.now) result (stores_judged number level.now said) }
+    ensures stores { OnOk result (row.now.counts.number ≡ level.now.tribs) }
+    ensures most { OnOk result (All (λ count. count ≤ level.now.len) (row_found row.now).counts) }
+{
     if row.counts.number != usize::from(level.tribs) {
         return Err(ScheduleFault::BadRow { line: number });
     }
@@ -48,6 +65,25 @@ pub fn judge(level: &Level, number: u32, line: &[u8]) -> Result<FoundRow, Schedu
             count: u64::from(count),
             most: level.len,
         }),
-        None => Ok(row),
+        None => Ok(()),
     }
+}
+
+/// The row of the line of that number, or the line's fault.
+pub fn judge(levels: &[Level], number: u32, line: &[u8]) -> Result<FoundRow, ScheduleFault>
+    requires { All IsLevel levels.now }
+    ensures judged { Gives row_found result (row_judged levels.now number line.now) }
+    ensures few { IfOk result (λ row. row.counts.number ≤ 7) }
+    ensures most { IfOk result (λ row. All (λ count. count ≤ 4760) (row_found row).counts) }
+    ensures repeat { IfOk result (λ row. row.repeat < 10 ^ 9) }
+    ensures lens { IfOk result (λ row. 11 ≤ length line.now) }
+{
+    let Some(row) = row(line) else {
+        return Err(ScheduleFault::BadRow { line: number });
+    };
+    let Some(level) = level_of(levels, &row.path) else {
+        return Err(ScheduleFault::UnknownNode { line: number });
+    };
+    judge_counts(&level, number, &row)?;
+    Ok(row)
 }

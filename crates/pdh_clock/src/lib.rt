@@ -10,26 +10,29 @@
 //! count above the bits of a frame. Lines are numbered from 1, and those that are passed over count. A text has at most
 //! 33,554,432 bytes.
 //!
-//! For now a chain has one level, so its top is its one node.
+//! A chain has one to three levels, each with multiplexers of one kind: its top is the first level's, and each tributary of
+//! a node that isn't of the last level is a node of the next one. So `/` is the top, `/2` the node of its second
+//! tributary, and `/2/3` that of the third tributary of `/2`. The rows of a node may stand between those of others.
+//! A schedule keeps the nodes in order, a node before those below it, each with its rows in order of lines.
 #![tactic(auto)]
 
+mod beginning;
 mod bias;
 mod fault;
 mod judge;
 mod made;
-mod outside;
 mod reading;
 mod row;
 mod schedule;
-mod table;
 #[cfg(test)]
 mod tests;
-mod tolerance;
+mod tree;
 mod words;
 mod writing;
 
+pub use beginning::Short;
 pub use bias::Bias;
 pub use fault::ScheduleFault;
-pub use outside::Outside;
-pub use schedule::{MOST_BYTES, Schedule, Short};
+pub use pdh_rows::Outside;
+pub use schedule::{MOST_BYTES, Schedule};
 pub use words::number;

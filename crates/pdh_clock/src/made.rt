@@ -1,115 +1,145 @@
 //! The rows of schedules that are made from rates and clock offsets.
 
-ghost use Rattle.std.specs.Prelude.{◌≡◌, ℕ, ◌<◌, ◌≤◌, ◌^◌, length, map, take, slice_index, IfOk};
-ghost use Rattle.std.specs.List.{range_with_len};
-ghost use Rattle.pdh_clock.specs.Chain.{IsLevel};
-ghost use Rattle.pdh_clock.specs.Made.{IsRated, fast as fast_scale, slow as slow_scale, trib_scale as scale_of_trib, node_scale as scale_of_node, made_arrived, made_count, made_frames};
-ghost use Rattle.pdh_clock.specs.Stored.{IsTable, rows_of, top_row};
+ghost use Rattle.std.specs.Prelude.{◌≡◌, ℕ, ◌<◌, ◌≤◌, ◌+◌, ◌-◌, All, length, map, slice_index, IfOk, OnOk};
+ghost use Rattle.pdh_rows.specs.Stored.{IsTable, rows_of, node_row};
+ghost use Rattle.pdh_clock.specs.Chain.{AreLevels, IsLevel, steps_of};
+ghost use Rattle.pdh_clock.specs.Made.{IsRated, offset_of, made_arrived, made_count, made_frames};
+ghost use Rattle.pdh_clock.specs.Making.{AreMade, last_step};
+ghost use Rattle.pdh_clock.specs.Stored.{IsTree};
 
-use crate::bias::Bias;
+use crate::bias::{Bias, Offset};
 use crate::row::MOST_TRIBS;
-use crate::table::Table;
-use pdh_shape::Level;
+use crate::tree::Tree;
+use pdh_rows::Table;
+use pdh_shape::{Level, Path};
 use std::alloc::{AllocError, Global};
 
-// The rate of a stream that is fast, as a multiple of a millionth of its nominal rate.
-fn fast(ppm: u32) -> u128
-    requires { ppm ≤ 1000 }
-    ensures { result ≡ fast_scale ppm }
-{
-    1_000_000 + u128::from(ppm)
+// The clocks at a node: its line's, and what those of its tributaries follow from.
+#[derive(Clone, Copy)]
+struct Clocks {
+    bias: Bias,
+    // How many levels of nodes there are below the node.
+    height: usize,
+    line: Offset,
 }
 
-// That of a stream that is slow.
-fn slow(ppm: u32) -> u128
-    requires { ppm ≤ 1000 }
-    ensures { result ≡ slow_scale ppm }
-{
-    1_000_000 - u128::from(ppm)
-}
-
-// That of a tributary, by its number from 1.
-fn trib_scale(bias: Bias, ppm: u32, number: u8) -> u128
-    requires { ppm ≤ 1000 }
-    ensures { result ≡ scale_of_trib bias ppm number }
-{
-    match bias {
-        Bias::Nominal => 1_000_000,
-        Bias::Fast => fast(ppm),
-        Bias::Slow => slow(ppm),
-        Bias::Mixed => {
-            if number % 2 == 1 {
-                fast(ppm)
-            } else {
-                slow(ppm)
-            }
-        }
-    }
-}
-
-// That of the top.
-fn node_scale(bias: Bias, ppm: u32) -> u128
-    requires { ppm ≤ 1000 }
-    ensures { result ≡ scale_of_node bias ppm }
-{
-    match bias {
-        Bias::Nominal => 1_000_000,
-        Bias::Fast => slow(ppm),
-        Bias::Slow => fast(ppm),
-        Bias::Mixed => fast(ppm),
-    }
-}
-
-// How many bits of a tributary, numbered from 0, have arrived after n frames.
-fn arrived(level: &Level, bias: Bias, trib: u8, n: u64) -> u128
+// How many bits of a tributary have arrived after n frames, by the offsets of the line and of the tributary.
+fn arrived(level: &Level, line: Offset, trib: Offset, n: u64) -> u128
     requires level { IsLevel level.now }
     requires rated { IsRated level.now }
-    requires few { n ≤ 16384 }
-    requires in_range { trib < level.now.tribs }
-    ensures { result ≡ made_arrived level.now bias trib n }
+    requires few { n ≤ 131072 }
+    ensures { result ≡ made_arrived level.now line trib n }
 {
     let bits = u128::from(n) * u128::from(level.len);
-    let arriving = level.trib_rate * level.per * trib_scale(bias, level.trib_ppm, trib + 1);
-    let line = level.rate * level.trib_per * node_scale(bias, level.ppm);
-    bits * arriving / line
+    let arriving = level.trib_rate * level.per * trib.scale(level.trib_ppm);
+    let whole = level.rate * level.trib_per * line.scale(level.ppm);
+    bits * arriving / whole
 }
 
-/// How many bits of each tributary arrive in a frame; what stands behind the last tributary is 0.
-pub fn counts(level: &Level, bias: Bias, frame: u64) -> [u32; MOST_TRIBS]
+// How many bits of each tributary arrive in a frame; what stands behind the last tributary is 0.
+fn counts(level: &Level, clocks: Clocks, frame: u64) -> [u32; MOST_TRIBS]
     requires level { IsLevel level.now }
     requires rated { IsRated level.now }
-    requires few { frame < 16384 }
-    ensures counts { (trib : ℕ) → trib < level.now.tribs → slice_index result trib ≡ made_count level.now bias trib frame }
+    requires few { frame < 131072 }
+    ensures counts { (trib : ℕ) → trib < level.now.tribs
+        → slice_index result trib ≡ made_count level.now clocks.line (offset_of clocks.bias clocks.height (trib + 1)) frame }
     ensures most { (trib : ℕ) → trib < level.now.tribs → slice_index result trib ≤ level.now.len }
 {
     let mut counts = [0; MOST_TRIBS];
     for trib in 0..level.tribs {
-        let before = arrived(level, bias, trib, frame);
-        let after = arrived(level, bias, trib, frame + 1);
+        let offset = clocks.bias.offset(clocks.height, trib + 1);
+        let before = arrived(level, clocks.line, offset, frame);
+        let after = arrived(level, clocks.line, offset, frame + 1);
         counts[usize::from(trib)] = (after - before) as u32;
     }
     counts
 }
 
-/// The rows of a chain of one level, one for each frame.
-pub fn made_table(
+// The rows of a node, one for each frame.
+fn made_table(
     alloc: Global,
     level: &Level,
+    clocks: Clocks,
     frames: u64,
-    bias: Bias,
 ) -> Result<Table, AllocError>
     requires level { IsLevel level.now }
     requires rated { IsRated level.now }
-    requires few { frames ≤ 16384 }
-    ensures rows { IfOk result (λ table. rows_of table ≡ map (top_row 1) (made_frames level.now bias frames)) }
+    requires few { frames ≤ 131072 }
+    ensures rows { IfOk result (λ table. rows_of table ≡ map (node_row 1) (made_frames level.now clocks.bias clocks.height clocks.line frames)) }
     ensures table { IfOk result (λ table. IsTable table) }
     ensures tribs { IfOk result (λ table. table.tribs ≡ level.now.tribs) }
 {
     let tribs = usize::from(level.tribs);
     let mut table = Table::new(alloc, tribs)?;
     for frame in 0..frames {
-        let counts = counts(level, bias, frame);
+        let counts = counts(level, clocks, frame);
         table.add(1, &counts[..tribs])?;
     }
     Ok(table)
+}
+
+// The clocks at a node of a chain of so many levels.
+fn clocks_of(levels: usize, node: &Path, bias: Bias) -> Clocks
+    requires { length (steps_of node.now) < levels }
+    ensures bias { result.bias ≡ bias }
+    ensures height { result.height + length (steps_of node.now) + 1 ≡ levels }
+    ensures line { result.line ≡ offset_of bias (levels - length (steps_of node.now)) (last_step (steps_of node.now)) }
+{
+    let (depth, number) = match node.depth {
+        0 => (0, 1),
+        1 => (1, node.first),
+        _ => (2, node.second),
+    };
+    Clocks {
+        bias,
+        height: levels - depth - 1,
+        line: bias.offset(levels - depth, number),
+    }
+}
+
+// Makes the rows of a node, where those of the nodes before it are made.
+fn make_node(
+    alloc: Global,
+    tree: &mut Tree,
+    place: usize,
+    top_frames: u64,
+    bias: Bias,
+) -> Result<(), AllocError>
+    requires tree { IsTree tree.old }
+    requires rated { All IsRated tree.old.levels.items }
+    requires few { top_frames ≤ 16384 }
+    requires inside { place < length tree.old.nodes.items }
+    requires before { AreMade tree.old bias top_frames place }
+    ensures tree { OnOk result (IsTree tree.new) }
+    ensures levels { OnOk result (tree.new.levels.items ≡ tree.old.levels.items) }
+    ensures nodes { OnOk result (length tree.new.nodes.items ≡ length tree.old.nodes.items) }
+    ensures made { OnOk result (AreMade tree.new bias top_frames (place + 1)) }
+{
+    let node = tree.nodes[place].path;
+    let level = tree.level_of(&node);
+    let frames = tree.begun(&node, top_frames);
+    let clocks = clocks_of(tree.levels.len(), &node, bias);
+    tree.nodes[place].table = made_table(alloc, &level, clocks, frames)?;
+    Ok(())
+}
+
+/// The rows of each node of a chain whose top makes so many frames.
+pub fn made_tree(
+    alloc: Global,
+    levels: &[Level],
+    frames: u64,
+    bias: Bias,
+) -> Result<Tree, AllocError>
+    requires levels { AreLevels levels.now }
+    requires rated { All IsRated levels.now }
+    requires few { frames ≤ 16384 }
+    ensures tree { IfOk result (λ tree. IsTree tree) }
+    ensures levels { IfOk result (λ tree. tree.levels.items ≡ levels.now) }
+    ensures made { IfOk result (λ tree. AreMade tree bias frames (length tree.nodes.items)) }
+{
+    let mut tree = Tree::new(alloc, levels)?;
+    for place in 0..tree.nodes.len() {
+        make_node(alloc, &mut tree, place, frames, bias)?;
+    }
+    Ok(tree)
 }

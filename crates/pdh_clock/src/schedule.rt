@@ -1,13 +1,13 @@
 //! Schedules.
 
+use crate::beginning::Short;
 use crate::bias::Bias;
 use crate::fault::ScheduleFault;
-use crate::made::made_table;
-use crate::outside::Outside;
+use crate::made::made_tree;
 use crate::reading::read_rows;
-use crate::table::Table;
-use crate::tolerance::within_tolerance;
+use crate::tree::Tree;
 use crate::writing::write_rows;
+use pdh_rows::{Outside, within_tolerance};
 use pdh_shape::{Level, Path};
 use std::alloc::{AllocError, Global};
 use std::marker::Model;
@@ -18,31 +18,18 @@ pub const MOST_BYTES: usize = 33_554_432;
 /// How many bits of each tributary arrive in each frame of each node of a chain.
 #[derive(Drop)]
 pub struct Schedule {
-    level: Level,
-    table: Table,
+    tree: Tree,
 }
 
 impl Model for Schedule {
-    ghost use Rattle.std.specs.Prelude.{[], ◌∷◌};
     ghost use Rattle.pdh_clock.specs.Contents.{Contents};
-    ghost use Rattle.pdh_clock.specs.Stored.{IsStored, rows_of};
+    ghost use Rattle.pdh_clock.specs.Stored.{IsTree, contents_of};
 
     ghost Value = { Contents };
 
-    ghost view = { λ s. record { levels = s.level ∷ []; rows = rows_of s.table } };
+    ghost view = { λ s. contents_of s.tree };
 
-    ghost invariant = { λ s. IsStored s.level s.table };
-}
-
-/// A node that has fewer frames than it is to begin.
-#[derive(Clone, Copy, Debug, PartialEq, Eq)]
-pub struct Short {
-    /// The node.
-    pub node: Path,
-    /// How many frames the schedule gives it.
-    pub have: u64,
-    /// How many frames it is to begin.
-    pub need: u64,
+    ghost invariant = { λ s. IsTree s.tree };
 }
 
 impl Schedule {
@@ -54,9 +41,8 @@ impl Schedule {
     ghost use Rattle.pdh_clock.specs.Chain.{AreLevels, steps_of, level_at, stores_at, len_at, low_at};
     ghost use Rattle.pdh_clock.specs.Judged.{Gives, schedule_of};
     ghost use Rattle.pdh_clock.specs.Contents.{IsRowOf, frames_of, counts, frame_count};
-    ghost use Rattle.pdh_clock.specs.Stored.{IsTable, rows_of};
     ghost use Rattle.pdh_clock.specs.Begun.{frames_begun, shortage, shortage_of};
-    ghost use Rattle.pdh_clock.specs.Outside.{first_outside, run_in};
+    ghost use Rattle.pdh_rows.specs.Outside.{first_outside, run_in};
     ghost use Rattle.pdh_clock.specs.Made.{IsRated, made};
     ghost use Rattle.pdh_clock.specs.Rates.{IsWithinRates};
     ghost use Rattle.pdh_clock.specs.Written.{text_of, ReadsBack};
@@ -74,23 +60,8 @@ impl Schedule {
                 len: text.len() as u64,
             });
         }
-        let level = levels[0];
-        let table = read_rows(alloc, &level, text)?;
-        Ok(Schedule { level, table })
-    }
-
-    /// The rows of a node. With one level the top is the one node.
-    fn table_of(&self, node: &Path) -> &Table
-        requires { IsSome (level_at self.now.levels (steps_of node.now)) }
-        ensures top { steps_of node.now ≡ [] }
-        ensures rows { rows_of result.now ≡ self.now.rows }
-        ensures table { IsTable result.now }
-        ensures sound { All (IsRowOf self.now.levels) self.now.rows }
-        ensures tribs { result.now.tribs ≡ stores_at self.now.levels (steps_of node.now) }
-    {
-        let table = &self.table;
-        prove!(node.depth == 0);
-        table
+        let tree = read_rows(alloc, levels, text)?;
+        Ok(Schedule { tree })
     }
 
     /// How many frames a node has.
@@ -98,7 +69,7 @@ impl Schedule {
         requires { IsSome (level_at self.now.levels (steps_of node.now)) }
         ensures { result ≡ frame_count self.now.rows (steps_of node.now) }
     {
-        self.table_of(node).frames()
+        self.tree.table_of(node).frames()
     }
 
     /// How many bits of a tributary, counted from 0, arrive in a frame.
@@ -108,7 +79,7 @@ impl Schedule {
         ensures value { result ≡ counts self.now.rows (steps_of node.now) trib frame }
         ensures most { result ≤ len_at self.now.levels (steps_of node.now) }
     {
-        self.table_of(node).count(frame, usize::from(trib))
+        self.tree.table_of(node).count(frame, usize::from(trib))
     }
 
     /// How many bits of a tributary, counted from 0, arrive in the first frames.
@@ -118,7 +89,7 @@ impl Schedule {
         ensures value { result ≡ arrived (counts self.now.rows (steps_of node.now) trib) frames }
         ensures most { result ≤ frames * len_at self.now.levels (steps_of node.now) }
     {
-        self.table_of(node).total(frames, usize::from(trib))
+        self.tree.table_of(node).total(frames, usize::from(trib))
     }
 
     /// Whether a tributary, counted from 0, is within the tolerance over all frames of its node; else the run of frames
@@ -130,7 +101,8 @@ impl Schedule {
         ensures outside { (shape : FrameShape) → shape.low ≡ low_at self.now.levels (steps_of node.now) → IsWithin shape (counts self.now.rows (steps_of node.now) trib) (frame_count self.now.rows (steps_of node.now)) → result ≡ Ok tt }
         ensures rates { (level : Level) → level_at self.now.levels (steps_of node.now) ≡ Some level → IsRated level → IsWithinRates level (counts self.now.rows (steps_of node.now) trib) (frame_count self.now.rows (steps_of node.now)) → result ≡ Ok tt }
     {
-        within_tolerance(self.table_of(node), usize::from(trib), self.level.low)
+        let low = self.tree.level_of(node).low;
+        within_tolerance(self.tree.table_of(node), usize::from(trib), low)
     }
 
     /// The first node that has fewer frames than it begins while the top makes so many. A node comes before those
@@ -139,19 +111,7 @@ impl Schedule {
         requires { top_frames ≤ frame_count self.now.rows [] }
         ensures { option_map shortage_of result ≡ shortage self.now top_frames }
     {
-        let top = Path {
-            depth: 0,
-            first: 0,
-            second: 0,
-        };
-        // The check learns here what holds of the one level.
-        let _ = &self.level;
-        let have = self.frames(&top);
-        (have < top_frames).then_some(Short {
-            node: top,
-            have,
-            need: top_frames,
-        })
+        self.tree.short(top_frames)
     }
 
     /// How many frames a node begins while the top makes so many.
@@ -160,14 +120,12 @@ impl Schedule {
         requires enough { IsNone (shortage self.now top_frames) }
         ensures { result ≡ frames_begun self.now top_frames (steps_of node.now) }
     {
-        // The check learns here what holds of the one level: the top is its node, and its frames have bits.
-        let _ = &self.level;
-        prove!(node.depth == 0);
-        top_frames
+        self.tree.begun(node, top_frames)
     }
 
-    /// Makes the schedule of so many frames in which every tributary brings the whole bits of its own clock, which is off
-    /// by as many parts per million as its level says, as the line's is.
+    /// Makes the schedule of so many frames of the top, and of as many of each other node as it begins in their time, in
+    /// which every tributary brings the whole bits of its own clock. Clocks are off by as many parts per million as the
+    /// levels say.
     pub fn from_ppm(
         alloc: Global,
         levels: &[Level],
@@ -180,11 +138,12 @@ impl Schedule {
         ensures levels { IfOk result (λ schedule. schedule.levels ≡ levels.now) }
         ensures frames { IfOk result (λ schedule. (path : List ℕ) → frames_of schedule.rows path ≡ made levels.now bias frames path) }
         ensures sound { IfOk result (λ schedule. All (IsRowOf levels.now) schedule.rows) }
+        ensures top { IfOk result (λ schedule. frame_count schedule.rows [] ≡ frames) }
+        ensures enough { IfOk result (λ schedule. IsNone (shortage schedule frames)) }
         ensures within { IfOk result (λ schedule. (path : List ℕ) (trib : ℕ) (shape : FrameShape) → trib < stores_at levels.now path → shape.low ≡ low_at levels.now path → IsWithin shape (counts schedule.rows path trib) (frame_count schedule.rows path)) }
     {
-        let level = levels[0];
-        let table = made_table(alloc, &level, frames, bias)?;
-        Ok(Schedule { level, table })
+        let tree = made_tree(alloc, levels, frames, bias)?;
+        Ok(Schedule { tree })
     }
 
     /// Writes the schedule: the nodes in order, a node before those below it, and one row for each longest run of equal frames.
@@ -192,6 +151,6 @@ impl Schedule {
         ensures text { IfOk result (λ text. text.items ≡ text_of self.now) }
         ensures read_back { IfOk result (λ text. ReadsBack self.now text.items) }
     {
-        write_rows(alloc, &self.table)
+        write_rows(alloc, &self.tree)
     }
 }

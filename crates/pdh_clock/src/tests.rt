@@ -2,7 +2,7 @@
 
 ghost use Rattle.std.specs.Prelude.{◌<◌};
 
-use crate::{Bias, MOST_BYTES, Outside, Schedule, ScheduleFault};
+use crate::{Bias, MOST_BYTES, Outside, Schedule, ScheduleFault, Short};
 use pdh_shape::{Level, Path};
 use std::alloc::Global;
 use std::test::Fail;
@@ -25,6 +25,41 @@ const E12: Level = Level {
     trib_rate: 2_048_000,
     trib_per: 1,
     trib_ppm: 50,
+};
+
+/// The level of the nodes with 34368 kbit/s.
+const E3: Level = Level {
+    len: 1_536,
+    tribs: 4,
+    low: 377,
+    locked: false,
+    rate: 34_368_000,
+    per: 1,
+    ppm: 20,
+    trib_rate: 8_448_000,
+    trib_per: 1,
+    trib_ppm: 30,
+};
+
+/// The level of the nodes with 139264 kbit/s.
+const E4: Level = Level {
+    len: 2_928,
+    tribs: 4,
+    low: 722,
+    locked: false,
+    rate: 139_264_000,
+    per: 1,
+    ppm: 15,
+    trib_rate: 34_368_000,
+    trib_per: 1,
+    trib_ppm: 20,
+};
+
+/// The node of the top's first tributary.
+const FIRST: Path = Path {
+    depth: 1,
+    first: 1,
+    second: 0,
 };
 
 /// How many frames a text gives the top, or the text's fault.
@@ -334,4 +369,115 @@ fn finds_the_first_run_outside(rt: HostRuntime) {
         let answer = within(rt.alloc(), text.as_bytes(), trib);
         assert_eq!(rt; answer, Ok(expected), "at {text}, {trib}");
     }
+}
+
+/// What a text of two levels is written as, and the first node that has too few frames in the time of so many of the top,
+/// or the text's fault.
+fn read_two_levels(
+    alloc: Global,
+    text: &[u8],
+    top_frames: u64,
+) -> Result<(Vec<u8>, Option<Short>), ScheduleFault> {
+    let schedule = Schedule::read(alloc, &[E3, E12], text)?;
+    let short = if top_frames <= schedule.frames(&TOP) {
+        schedule.short(top_frames)
+    } else {
+        None
+    };
+    Ok((schedule.text(alloc)?, short))
+}
+
+#[test]
+fn reads_two_levels(rt: HostRuntime) -> Result<(), Fail> {
+    let short = |first: u8, have: u64, need: u64| {
+        let node = Path {
+            depth: 1,
+            first,
+            second: 0,
+        };
+        Some(Short { node, have, need })
+    };
+    let rows: [(&str, u64, &str, Option<Short>); 4] = [
+        // Three frames of 377 bits and the lead of 24 are 1155 bits: one frame of 848 and a part of another.
+        (
+            "/ 3 377 377 377 377",
+            3,
+            "/ 3 377 377 377 377\n",
+            short(1, 0, 2),
+        ),
+        ("/ 3 377 377 377 377", 0, "/ 3 377 377 377 377\n", None),
+        // Rows of the nodes in any order; those of one node are joined in order of lines.
+        (
+            "/2 1 1 2 3 4\n/4 2 1 2 3 4\n/ 2 377 378 377 377\n/1 2 5 6 7 8\n/2 1 5 6 7 8\n/ 1 377 378 377 377\n/3 1 0 0 0 0\n",
+            3,
+            "/ 3 377 378 377 377\n/1 2 5 6 7 8\n/2 1 1 2 3 4\n/2 1 5 6 7 8\n/3 1 0 0 0 0\n/4 2 1 2 3 4\n",
+            short(3, 1, 2),
+        ),
+        (
+            "/4 2 1 2 3 4\n/3 9 1 2 3 4\n/1 2 5 6 7 8\n/2 3 1 2 3 4\n/ 3 377 377 377 377\n",
+            3,
+            "/ 3 377 377 377 377\n/1 2 5 6 7 8\n/2 3 1 2 3 4\n/3 9 1 2 3 4\n/4 2 1 2 3 4\n",
+            None,
+        ),
+    ];
+    for (text, top_frames, written, short) in rows {
+        let answer = read_two_levels(rt.alloc(), text.as_bytes(), top_frames)?;
+        assert_eq!(rt; answer.0.as_slice(), written.as_bytes(), "at {text}");
+        assert_eq!(rt; answer.1, short, "at {text}");
+    }
+    Ok(())
+}
+
+#[test]
+fn names_unknown_nodes(rt: HostRuntime) {
+    let unknown = |line: u32| ScheduleFault::UnknownNode { line };
+    let over = ScheduleFault::CountOver {
+        line: 1,
+        count: 849,
+        most: 848,
+    };
+    let rows = [
+        ("/5 1 1 2 3 4", unknown(1)),
+        ("/1/1 1 1 2 3 4", unknown(1)),
+        ("/ 1 1536 0 0 0\n/9 1 1 2 3 4", unknown(2)),
+        ("/1 1 849 0 0 0", over),
+    ];
+    for (text, fault) in rows {
+        let answer = read_two_levels(rt.alloc(), text.as_bytes(), 0).err();
+        assert_eq!(rt; answer, Some(fault), "at {text}");
+    }
+}
+
+#[test]
+fn begins_frames_below(rt: HostRuntime) -> Result<(), Fail> {
+    let text = b"/ 3 377 377 377 377\n/1 2 1 2 3 4\n/2 2 1 2 3 4\n/3 2 1 2 3 4\n/4 2 1 2 3 4\n";
+    let schedule = Schedule::read(rt.alloc(), &[E3, E12], text)?;
+    assert_eq!(rt; schedule.frames(&FIRST), 2);
+    assert!(rt; 3 <= schedule.frames(&TOP));
+    assert!(rt; schedule.short(3).is_none());
+    assert_eq!(rt; schedule.begun(&FIRST, 3), 2);
+    Ok(())
+}
+
+#[test]
+fn makes_three_levels(rt: HostRuntime) -> Result<(), Fail> {
+    let levels = [E4, E3, E12];
+    let schedule = Schedule::from_ppm(rt.alloc(), &levels, 200, Bias::Mixed)?;
+    assert_eq!(rt; schedule.frames(&TOP), 200);
+    assert!(rt; 200 <= schedule.frames(&TOP));
+    assert!(rt; schedule.short(200).is_none());
+    let bits = 24 + u128::from(schedule.total(&TOP, 200, 0));
+    assert_eq!(rt; u128::from(schedule.frames(&FIRST)), bits.div_ceil(1_536));
+    let text = schedule.text(rt.alloc())?;
+    let again = Schedule::read(rt.alloc(), &levels, &text)?;
+    assert_eq!(rt; again.text(rt.alloc())?.as_slice(), text.as_slice());
+    let last = Path {
+        depth: 2,
+        first: 4,
+        second: 4,
+    };
+    for node in [TOP, FIRST, last] {
+        assert_eq!(rt; again.frames(&node), schedule.frames(&node));
+    }
+    Ok(())
 }

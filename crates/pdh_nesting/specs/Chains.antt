@@ -34,3 +34,8 @@ HaveStores (s ∷ below) = ((s.copies == 0) ≡ false) × ReadsEvenly s × HaveS
 abbrev pub HaveRoom : List FrameShape → Type 0
 HaveRoom [] = Unit {0}
 HaveRoom (s ∷ below) = (suc s.low + allowance ≤ s.len) × HaveRoom below
+
+-- the tributaries of each level have stores
+abbrev pub AllStores : List FrameShape → Type 0
+AllStores [] = Unit {0}
+AllStores (s ∷ below) = ((s.copies == 0) ≡ false) × AllStores below

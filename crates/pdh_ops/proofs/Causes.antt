@@ -11,7 +11,7 @@ use Rattle.pdh_ops.specs.Run.{HasCause, ChangesOnly, Performs, IsTold, Runs, Com
 use Rattle.pdh_ops.specs.Steps.{IsLineCause}
 use Rattle.pdh_words.specs.declared.commands.Command.{Command}
 use Rattle.pdh_ops.specs.declared.answer.Stop.{Stop}
-use Rattle.pdh_ops.specs.declared.answer.Stop.TheVariants.{Memory, Usage, Read, Write, Missing, LongSchedule, BadRow, UnknownNode, CountOver, Short, Overflow, Underflow, ManyFrames, NoAlignment}
+use Rattle.pdh_ops.specs.declared.answer.Stop.TheVariants.{Memory, Usage, Read, Write, Missing, LongSchedule, BadRow, UnknownNode, CountOver, ShortNode, Short, Overflow, Underflow, ManyFrames, NoAlignment}
 use Rattle.pdh_ops.proofs.Touching.{looks_same}
 use Rattle.pdh_chain.specs.declared.chain.Chain.{Chain}
 
@@ -43,6 +43,7 @@ line_stops chain command next a b LongSchedule comes tells looks cause = absurd 
 line_stops chain command next a b (BadRow l) comes tells looks cause = absurd cause
 line_stops chain command next a b (UnknownNode l) comes tells looks cause = absurd cause
 line_stops chain command next a b (CountOver l n m) comes tells looks cause = absurd cause
+line_stops chain command next a b (ShortNode p h n) comes tells looks cause = absurd cause
 line_stops chain command next a b (Short f h n) comes tells looks cause = absurd cause
 line_stops chain command next a b (Overflow p) comes tells looks cause = absurd cause
 line_stops chain command next a b (Underflow p) comes tells looks cause = absurd cause
@@ -63,6 +64,7 @@ exact command a b (Err LongSchedule) files cause told reads writes = inr (cause 
 exact command a b (Err (BadRow l)) files cause told reads writes = inr (cause files told)
 exact command a b (Err (UnknownNode l)) files cause told reads writes = inr (cause files told)
 exact command a b (Err (CountOver l n m)) files cause told reads writes = inr (cause files told)
+exact command a b (Err (ShortNode p h n)) files cause told reads writes = inr (cause files told)
 exact command a b (Err (Short f h n)) files cause told reads writes = inr (cause files told)
 exact command a b (Err (Overflow p)) files cause told reads writes = inr (cause files told)
 exact command a b (Err (Underflow p)) files cause told reads writes = inr (cause files told)

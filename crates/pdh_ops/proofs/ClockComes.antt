@@ -1,30 +1,35 @@
 -- What `clock check` and `clock make` come to.
-use Rattle.std.proofs.Common.{◌≡◌, ℕ, zero, suc, ◌<◌, ◌≤◌, nat_lt, List, [], Option, None, Some, Ok, Err, true, false, length, refl, ap, sym, ◌∙◌, subst, inl, inr, arith, lit<}
+use Rattle.std.proofs.Common.{◌≡◌, ℕ, zero, suc, ◌+◌, ◌∷◌, get_or, ◌<◌, ◌≤◌, nat_lt, List, [], Option, None, Some, Ok, Err, true, false, length, refl, ap, sym, ◌∙◌, subst, inl, inr, arith, lit<}
 use Rattle.std.specs.Prelude.{is_none, unwrap_or}
 use Rattle.std.specs.Option.{option_map}
+use Rattle.std.specs.List.{range_with_len}
+use Rattle.std.proofs.lemmas.Bool.{cases_eq}
 use Rattle.std.proofs.lemmas.Bool.Decides.{nat_tests}
 use Rattle.pdh_edge.specs.Files.{ShelfState, Told, Looks, Touches, Starts, Appends}
 use Rattle.pdh_edge.specs.Files.Told.{Known}
 use Rattle.pdh_clock.specs.declared.bias.Bias.{Bias}
 use Rattle.pdh_shape.specs.declared.place.Level.{Level}
+use Rattle.pdh_shape.specs.declared.place.Path.{Path}
+use Rattle.pdh_clock.specs.Chain.{nodes_of, steps_of, stores_at}
 use Rattle.pdh_clock.specs.Row.{Row}
 use Rattle.pdh_clock.specs.Contents.{Contents, frames_of}
 use Rattle.pdh_clock.specs.Made.{made}
 use Rattle.pdh_clock.specs.Written.{text_of, text_with}
-use Rattle.pdh_clock.specs.Outside.{Run}
+use Rattle.pdh_rows.specs.Outside.{Run}
 use Rattle.pdh_ops.specs.Writing.{IsStartStop, IsAppendStop}
 use Rattle.pdh_words.specs.declared.commands.Command.TheVariants.{ClockCheck, ClockMake}
 use Rattle.pdh_ops.specs.Names.{schedule_name}
 use Rattle.pdh_ops.specs.Answer.{Answer, and_then}
 use Rattle.pdh_ops.specs.Reading.{HasLength, IsSizeStop}
-use Rattle.pdh_ops.specs.Schedules.{Files, rows_of}
-use Rattle.pdh_ops.specs.Clock.{run_outside, outside_at, checked, made_text, rows_in_text, clock_made}
+use Rattle.pdh_ops.specs.Schedules.{Files, rows_of, contents_of}
+use Rattle.pdh_ops.specs.Clock.{run_outside, outside_at, outside_of, first_outside_of, first_of, checked, made_text, rows_in_text, clock_made}
 use Rattle.pdh_ops.specs.Commands.{AreTold, IsOutput, comes_to}
 use Rattle.pdh_ops.specs.Run.{Performs, GoesOn, reaches_outputs}
 use Rattle.pdh_ops.specs.Refusing.{Refuses}
 use Rattle.pdh_ops.specs.ScheduleSteps.{RowsAre, IsScheduleStop}
 use Rattle.pdh_ops.specs.declared.file.File.TheVariants.{Schedule}
-use Rattle.pdh_ops.specs.declared.answer.Done.TheVariants.{ClockInside, ClockMade}
+use Rattle.pdh_ops.specs.declared.answer.Done.TheVariants.{ClockInside, ClockOutside, ClockMade}
+use Rattle.pdh_ops.specs.declared.answer.OutOfTolerance.{OutOfTolerance}
 use Rattle.pdh_ops.specs.declared.answer.Stop.{Stop}
 use Rattle.pdh_ops.specs.declared.answer.Stop.TheVariants.{Memory, Missing, ManyFrames}
 use Rattle.pdh_ops.proofs.Touching.{looks_then, looks_none}
@@ -33,7 +38,10 @@ use Rattle.pdh_ops.proofs.Refusing.{refuses_since, refuses_performs, size_stop}
 use Rattle.pdh_ops.proofs.ScheduleComes.{Begins, schedule_refuses, comes_on}
 use Rattle.pdh_ops.proofs.OneOutput.{HasOutput, Writes, start_refused, append_refused, writing_done}
 use Rattle.pdh_chain.specs.declared.chain.Chain.{Chain}
+use Rattle.pdh_chain.specs.declared.chain.Chain.TheVariants.{E12, E23, E34, E13, E24, E14}
 use Rattle.pdh_chain.specs.Chains.{levels_of}
+use Rattle.pdh_chain.specs.Trees.{path_of}
+use Rattle.pdh_ops.proofs.Firsts.{same_on}
 
 -- ---- the check
 
@@ -62,18 +70,77 @@ check_begins chain a bytes known files told =
     let t = begins_held chain files (files schedule_name) bytes (known.told (files schedule_name) (check_told chain a files told)) refl in
     (t.0, check_told chain a files told ∙ ap Known t.1, t.2)
 
--- the leaves before it are within the tolerance, and this one isn't
-pub first_outside_is : (chain : Chain) (rows : List Row) (leaf : ℕ) (run : Run) → leaf < 4 → ((k : ℕ) → k < leaf → run_outside chain rows k ≡ None) → run_outside chain rows leaf ≡ Some run → checked chain rows ≡ outside_at chain leaf run
-unfolding checked
-first_outside_is chain rows zero run low before here = rw here refl
-first_outside_is chain rows (suc zero) run low before here = rw (before 0 (lit< tt), here) refl
-first_outside_is chain rows (suc (suc zero)) run low before here = rw (before 0 (lit< tt), before 1 (lit< tt), here) refl
-first_outside_is chain rows (suc (suc (suc zero))) run low before here = rw (before 0 (lit< tt), before 1 (lit< tt), before 2 (lit< tt), here) refl
-first_outside_is chain rows (suc (suc (suc (suc leaf)))) run low before here = absurd (omega arith)
+-- the tributaries of a node before this one are within the tolerance, and this one isn't
+outside_from : (clock : Contents) (path : List ℕ) (a n k : ℕ) (run : Run) → a ≤ k → k < a + n → ((i : ℕ) → a ≤ i → i < k → run_outside clock path i ≡ None) → run_outside clock path k ≡ Some run
+    → outside_of clock path (range_with_len a n) ≡ Some (outside_at path k run)
+outside_from clock path a zero k run from below before here = absurd (omega arith)
+outside_from clock path a (suc n) k run from below before here = elim (cases_eq k a) [
+  | inl same ↦ let found : run_outside clock path a ≡ Some run = ap (run_outside clock path) (sym same) ∙ here in rw found (ap (λ i. Some (outside_at path i run)) (sym same))
+  | inr other ↦
+      let none : run_outside clock path a ≡ None = before a (omega arith) (omega arith) in
+      rw none (outside_from clock path (a + 1) n k run (omega arith) (omega arith) (λ i h h'. before i (omega arith) h') here)
+]
 
-pub all_inside : (chain : Chain) (rows : List Row) → ((k : ℕ) → k < 4 → run_outside chain rows k ≡ None) → checked chain rows ≡ ClockInside chain
+inside_from : (clock : Contents) (path : List ℕ) (a n : ℕ) → ((i : ℕ) → a ≤ i → i < a + n → run_outside clock path i ≡ None) → outside_of clock path (range_with_len a n) ≡ None
+inside_from clock path a zero each = refl
+inside_from clock path a (suc n) each =
+    let none : run_outside clock path a ≡ None = each a (omega arith) (omega arith) in
+    rw none (inside_from clock path (a + 1) n (λ i h h'. each i (omega arith) (omega arith)))
+
+pub tributary_outside : (clock : Contents) (path : List ℕ) (k : ℕ) (run : Run) → stores_at clock.levels path ≡ 4 → k < 4 → ((i : ℕ) → i < k → run_outside clock path i ≡ None) → run_outside clock path k ≡ Some run
+    → first_outside_of clock path ≡ Some (outside_at path k run)
+unfolding first_outside_of
+tributary_outside clock path k run four low before here =
+    ap (λ n. outside_of clock path (range_with_len 0 n)) four ∙ outside_from clock path 0 4 k run (omega arith) (omega arith) (λ i h h'. before i h') here
+
+pub tributaries_inside : (clock : Contents) (path : List ℕ) → stores_at clock.levels path ≡ 4 → ((i : ℕ) → i < 4 → run_outside clock path i ≡ None) → first_outside_of clock path ≡ None
+unfolding first_outside_of
+tributaries_inside clock path four each =
+    ap (λ n. outside_of clock path (range_with_len 0 n)) four ∙ inside_from clock path 0 4 (λ i h h'. each i (omega arith))
+
+-- the same of the nodes
+node_found : (chain : Chain) (clock : Contents) (nodes : List (List ℕ)) (k : ℕ) (out : OutOfTolerance) → k < length nodes → ((i : ℕ) → i < k → first_outside_of clock (get_or nodes i []) ≡ None)
+    → first_outside_of clock (get_or nodes k []) ≡ Some out → first_of chain clock nodes ≡ ClockOutside chain out
+node_found chain clock [] k out low before here = absurd (omega arith)
+node_found chain clock (path ∷ paths) zero out low before here = rw here refl
+node_found chain clock (path ∷ paths) (suc k) out low before here =
+    let none : first_outside_of clock path ≡ None = before 0 (omega arith) in
+    rw none (node_found chain clock paths k out (omega arith) (λ i h. before (suc i) (omega arith)) here)
+
+nodes_inside : (chain : Chain) (clock : Contents) (nodes : List (List ℕ)) → ((i : ℕ) → i < length nodes → first_outside_of clock (get_or nodes i []) ≡ None) → first_of chain clock nodes ≡ ClockInside chain
+nodes_inside chain clock [] each = refl
+nodes_inside chain clock (path ∷ paths) each =
+    let none : first_outside_of clock path ≡ None = each 0 (omega arith) in
+    rw none (nodes_inside chain clock paths (λ i h. each (suc i) (omega arith)))
+
+pub first_outside_is : (chain : Chain) (rows : List Row) (k : ℕ) (out : OutOfTolerance) → k < length (nodes_of (levels_of chain))
+    → ((i : ℕ) → i < k → first_outside_of (contents_of chain rows) (get_or (nodes_of (levels_of chain)) i []) ≡ None)
+    → first_outside_of (contents_of chain rows) (get_or (nodes_of (levels_of chain)) k []) ≡ Some out → checked chain rows ≡ ClockOutside chain out
 unfolding checked
-all_inside chain rows each = rw (each 0 (lit< tt), each 1 (lit< tt), each 2 (lit< tt), each 3 (lit< tt)) refl
+first_outside_is chain rows k out low before here = node_found chain (contents_of chain rows) (nodes_of (levels_of chain)) k out low before here
+
+pub all_inside : (chain : Chain) (rows : List Row) → ((i : ℕ) → i < length (nodes_of (levels_of chain)) → first_outside_of (contents_of chain rows) (get_or (nodes_of (levels_of chain)) i []) ≡ None) → checked chain rows ≡ ClockInside chain
+unfolding checked
+all_inside chain rows each = nodes_inside chain (contents_of chain rows) (nodes_of (levels_of chain)) each
+
+-- the steps to the path of a node are the node's
+node_steps : (chain : Chain) (k : ℕ) → k < length (nodes_of (levels_of chain)) → steps_of (path_of (get_or (nodes_of (levels_of chain)) k [])) ≡ get_or (nodes_of (levels_of chain)) k []
+node_steps E12 k h = same_on (λ steps. steps_of (path_of steps)) (λ steps. steps) (nodes_of (levels_of E12)) k [] refl h
+node_steps E23 k h = same_on (λ steps. steps_of (path_of steps)) (λ steps. steps) (nodes_of (levels_of E23)) k [] refl h
+node_steps E34 k h = same_on (λ steps. steps_of (path_of steps)) (λ steps. steps) (nodes_of (levels_of E34)) k [] refl h
+node_steps E13 k h = same_on (λ steps. steps_of (path_of steps)) (λ steps. steps) (nodes_of (levels_of E13)) k [] refl h
+node_steps E24 k h = same_on (λ steps. steps_of (path_of steps)) (λ steps. steps) (nodes_of (levels_of E24)) k [] refl h
+node_steps E14 k h = same_on (λ steps. steps_of (path_of steps)) (λ steps. steps) (nodes_of (levels_of E14)) k [] refl h
+
+pub node_plain : (chain : Chain) (k : ℕ) (node : Path) → k < length (nodes_of (levels_of chain)) → node ≡ path_of (get_or (nodes_of (levels_of chain)) k []) → node ≡ path_of (steps_of node)
+node_plain chain k node low is = is ∙ ap path_of (sym (node_steps chain k low) ∙ ap steps_of (sym is))
+
+-- what the schedule answers of a node
+pub outside_now : (chain : Chain) (clock : Contents) (k : ℕ) (node : Path) (out : Option OutOfTolerance) → clock.levels ≡ levels_of chain → k < length (nodes_of (levels_of chain)) → node ≡ path_of (get_or (nodes_of (levels_of chain)) k [])
+    → out ≡ first_outside_of clock (steps_of node) → first_outside_of (contents_of chain clock.rows) (get_or (nodes_of (levels_of chain)) k []) ≡ out
+outside_now chain clock k node out levels low is said =
+    ap (first_outside_of (contents_of chain clock.rows)) (sym (node_steps chain k low) ∙ ap steps_of (sym is))
+    ∙ ap (λ l. first_outside_of (record { levels = l; rows = clock.rows }) (steps_of node)) (sym levels) ∙ sym said
 
 -- what was read is what the command comes to
 pub check_done : (chain : Chain) (a s b : ShelfState) (bytes : ℕ) (rows : List Row) → Looks a s → HasLength schedule_name bytes s → Looks s b → RowsAre chain s (Ok rows) → Performs (ClockCheck chain) a b (Ok (checked chain rows))

@@ -16,11 +16,13 @@ use Rattle.pdh_ops.specs.Run.{AreCut, AreWhole, ChangesOnly, Performs, GoesOn, r
 use Rattle.pdh_words.specs.declared.commands.Command.TheVariants.{Demux}
 use Rattle.pdh_ops.specs.declared.answer.Done.TheVariants.{Demuxed}
 use Rattle.pdh_ops.specs.declared.answer.Stop.{Stop}
-use Rattle.pdh_ops.specs.declared.answer.Stop.TheVariants.{Memory, Usage, Read, Write, Missing, LongSchedule, BadRow, UnknownNode, CountOver, Short, Overflow, Underflow, ManyFrames, NoAlignment}
+use Rattle.pdh_ops.specs.declared.answer.Stop.TheVariants.{Memory, Usage, Read, Write, Missing, LongSchedule, BadRow, UnknownNode, CountOver, ShortNode, Short, Overflow, Underflow, ManyFrames, NoAlignment}
+use Rattle.pdh_ops.proofs.Levels.{few_leaves}
 use Rattle.pdh_ops.proofs.OutputNames.{output_name-differs}
 use Rattle.pdh_ops.proofs.Touching.{fails_since}
 use Rattle.pdh_ops.proofs.LineComes.{comes_of, demuxed_none, demuxed_some, demuxed_reaches}
 use Rattle.pdh_chain.specs.declared.chain.Chain.{Chain}
+use Rattle.pdh_chain.specs.Chains.{leaves_of}
 
 -- ---- one file
 
@@ -50,32 +52,33 @@ grows_part_holds (Known (Some was)) new bytes grows holds =
 -- ---- the outputs
 
 -- another output is as before
-pub other_same : (b c : ShelfState) (k leaf : ℕ) → k < 4 → leaf < 4 → k ≢ leaf → Touches (output_name leaf) b c → c.told (output_name k) ≡ b.told (output_name k)
-other_same b c k leaf low here ne kept = kept.told (output_name k) (output_name-differs k leaf (omega arith) (omega arith) ne)
+pub other_same : (chain : Chain) (b c : ShelfState) (k leaf : ℕ) → k < leaves_of chain → leaf < leaves_of chain → k ≢ leaf → Touches (output_name leaf) b c → c.told (output_name k) ≡ b.told (output_name k)
+other_same chain b c k leaf low here ne kept =
+    kept.told (output_name k) (output_name-differs k leaf (omega (arith, few_leaves chain)) (omega (arith, few_leaves chain)) ne)
 
-pub start_fails : (chain : Chain) (a b c : ShelfState) (leaf : ℕ) → leaf < 4 →
-    ((k : ℕ) → k < leaf → Holds (b.told (output_name k)) []) → ((k : ℕ) → leaf ≤ k → k < 4 → b.told (output_name k) ≡ a.told (output_name k)) →
+pub start_fails : (chain : Chain) (a b c : ShelfState) (leaf : ℕ) → leaf < leaves_of chain →
+    ((k : ℕ) → k < leaf → Holds (b.told (output_name k)) []) → ((k : ℕ) → leaf ≤ k → k < leaves_of chain → b.told (output_name k) ≡ a.told (output_name k)) →
     Touches (output_name leaf) b c → FailsToStart (output_name leaf) b c → AreCut (Demux chain) a c
 start_fails chain a b c leaf here empty later kept fails = record {
   started = leaf;
   begun = λ files i told lt low.
       let ne : i ≢ leaf = omega arith in
-      (0, subst (λ t. Holds t []) (sym (other_same b c i leaf low here ne kept)) (empty i lt));
+      (0, subst (λ t. Holds t []) (sym (other_same chain b c i leaf low here ne kept)) (empty i lt));
   next = λ low. elim fails.told [ inl same ↦ inl (same ∙ later leaf (omega arith) here) | inr empty ↦ inr empty ];
   later = λ i lt low.
       let ne : i ≢ leaf = omega arith in
       let from : leaf ≤ i = omega arith in
-      other_same b c i leaf low here ne kept ∙ later i from low;
+      other_same chain b c i leaf low here ne kept ∙ later i from low;
 }
 
-pub append_fails : (b c : ShelfState) (leaf : ℕ) (bytes : ℕ → List ℕ) → leaf < 4 → ((k : ℕ) → k < leaf → Holds (b.told (output_name k)) (bytes k)) →
-    ((k : ℕ) → leaf ≤ k → k < 4 → Holds (b.told (output_name k)) []) → Touches (output_name leaf) b c → FailsToAppend (output_name leaf) (bytes leaf) b c →
-    (k : ℕ) → k < 4 → HoldsPrefix (c.told (output_name k)) (bytes k)
-append_fails b c leaf bytes here whole empty kept fails k low = elim (cases_eq k leaf) [
+pub append_fails : (chain : Chain) (b c : ShelfState) (leaf : ℕ) (bytes : ℕ → List ℕ) → leaf < leaves_of chain → ((k : ℕ) → k < leaf → Holds (b.told (output_name k)) (bytes k)) →
+    ((k : ℕ) → leaf ≤ k → k < leaves_of chain → Holds (b.told (output_name k)) []) → Touches (output_name leaf) b c → FailsToAppend (output_name leaf) (bytes leaf) b c →
+    (k : ℕ) → k < leaves_of chain → HoldsPrefix (c.told (output_name k)) (bytes k)
+append_fails chain b c leaf bytes here whole empty kept fails k low = elim (cases_eq k leaf) [
   | inl e ↦ subst (λ i. HoldsPrefix (c.told (output_name i)) (bytes i)) (sym e) (grows_part_holds _ _ (bytes leaf) fails.told (empty leaf (omega arith) here))
   | inr ne ↦ elim (cases_lt k leaf) [
-    | inl lt ↦ (length (bytes k), subst (λ t. Holds t (take (length (bytes k)) (bytes k))) (sym (other_same b c k leaf low here ne kept)) (subst (Holds (b.told (output_name k))) (sym (take-length (bytes k))) (whole k lt)))
-    | inr from ↦ (0, subst (λ t. Holds t []) (sym (other_same b c k leaf low here ne kept)) (empty k from low))
+    | inl lt ↦ (length (bytes k), subst (λ t. Holds t (take (length (bytes k)) (bytes k))) (sym (other_same chain b c k leaf low here ne kept)) (subst (Holds (b.told (output_name k))) (sym (take-length (bytes k))) (whole k lt)))
+    | inr from ↦ (0, subst (λ t. Holds t []) (sym (other_same chain b c k leaf low here ne kept)) (empty k from low))
   ]
 ]
 
@@ -130,6 +133,7 @@ start_refused chain a b c line LongSchedule looks starts holds served cause cut 
 start_refused chain a b c line (BadRow l) looks starts holds served cause cut = absurd cause
 start_refused chain a b c line (UnknownNode l) looks starts holds served cause cut = absurd cause
 start_refused chain a b c line (CountOver l n m) looks starts holds served cause cut = absurd cause
+start_refused chain a b c line (ShortNode p h n) looks starts holds served cause cut = absurd cause
 start_refused chain a b c line (Short f h n) looks starts holds served cause cut = absurd cause
 start_refused chain a b c line (Overflow p) looks starts holds served cause cut = absurd cause
 start_refused chain a b c line (Underflow p) looks starts holds served cause cut = absurd cause
@@ -138,11 +142,11 @@ start_refused chain a b c line (NoAlignment n) looks starts holds served cause c
 
 pub append_refused : (chain : Chain) (a b c d : ShelfState) (line bytes : List ℕ) (outs : List (Vec ℕ Global)) (e : Vec ℕ Global) (stop : Stop) → Looks a b → TouchesOnly (IsOutput (Demux chain)) b c → TouchesOnly (IsOutput (Demux chain)) c d →
     Holds (a.told line_name) line → line_of chain (Some line) ≡ Ok line → bytes ≡ line → AreOutputs chain bytes outs → IsWriteStop c d stop →
-    ((leaf : ℕ) → leaf < 4 → HoldsPrefix (d.told (output_name leaf)) (slice_index_or outs leaf e).items) → Performs (Demux chain) a d (Err stop)
+    ((leaf : ℕ) → leaf < leaves_of chain → HoldsPrefix (d.told (output_name leaf)) (slice_index_or outs leaf e).items) → Performs (Demux chain) a d (Err stop)
 append_refused chain a b c d line bytes outs e (Write file) looks starts appends holds served same are cause prefixes = record {
   cause = (fails_since (name_of file) a c d (omega arith) cause, goes_on chain a line holds served);
   outputs = record {
-    started = 4;
+    started = leaves_of chain;
     begun = λ files i told lt low. subst (HoldsPrefix (d.told (output_name i))) (are.each i e low ∙ ap (λ (l : List ℕ). output_of chain l i) same ∙ bytes_of_line chain line files i (line_told chain a line files holds told)) (prefixes i low);
     next = λ low. absurd (omega arith);
     later = λ i lt low. absurd (omega arith);
@@ -157,6 +161,7 @@ append_refused chain a b c d line bytes outs e LongSchedule looks starts appends
 append_refused chain a b c d line bytes outs e (BadRow l) looks starts appends holds served same are cause prefixes = absurd cause
 append_refused chain a b c d line bytes outs e (UnknownNode l) looks starts appends holds served same are cause prefixes = absurd cause
 append_refused chain a b c d line bytes outs e (CountOver l n m) looks starts appends holds served same are cause prefixes = absurd cause
+append_refused chain a b c d line bytes outs e (ShortNode p h n) looks starts appends holds served same are cause prefixes = absurd cause
 append_refused chain a b c d line bytes outs e (Short f h n) looks starts appends holds served same are cause prefixes = absurd cause
 append_refused chain a b c d line bytes outs e (Overflow p) looks starts appends holds served same are cause prefixes = absurd cause
 append_refused chain a b c d line bytes outs e (Underflow p) looks starts appends holds served same are cause prefixes = absurd cause
@@ -165,13 +170,13 @@ append_refused chain a b c d line bytes outs e (NoAlignment n) looks starts appe
 
 -- each output has all its bytes
 whole : (chain : Chain) (a d : ShelfState) (line bytes : List ℕ) (outs : List (Vec ℕ Global)) (e : Vec ℕ Global) → Holds (a.told line_name) line → bytes ≡ line → AreOutputs chain bytes outs →
-    ((leaf : ℕ) → leaf < 4 → Holds (d.told (output_name leaf)) (slice_index_or outs leaf e).items) → AreWhole (Demux chain) a d
+    ((leaf : ℕ) → leaf < leaves_of chain → Holds (d.told (output_name leaf)) (slice_index_or outs leaf e).items) → AreWhole (Demux chain) a d
 whole chain a d line bytes outs e holds same are wholes files i told low =
     subst (Holds (d.told (output_name i))) (are.each i e low ∙ ap (λ (l : List ℕ). output_of chain l i) same ∙ bytes_of_line chain line files i (line_told chain a line files holds told)) (wholes i low)
 
 pub done : (chain : Chain) (a b c d : ShelfState) (line bytes : List ℕ) (outs : List (Vec ℕ Global)) (e : Vec ℕ Global) (frames : ℕ) → Looks a b → TouchesOnly (IsOutput (Demux chain)) b c → TouchesOnly (IsOutput (Demux chain)) c d →
     Holds (a.told line_name) line → line_of chain (Some line) ≡ Ok line → bytes ≡ line → AreOutputs chain bytes outs → frames ≡ frames_received chain bytes → frames ≢ 0 →
-    ((leaf : ℕ) → leaf < 4 → Holds (d.told (output_name leaf)) (slice_index_or outs leaf e).items) → Performs (Demux chain) a d (Ok (Demuxed chain frames))
+    ((leaf : ℕ) → leaf < leaves_of chain → Holds (d.told (output_name leaf)) (slice_index_or outs leaf e).items) → Performs (Demux chain) a d (Ok (Demuxed chain frames))
 done chain a b c d line bytes outs e frames looks starts appends holds served same are frames_are some wholes =
     let count : frames_received chain line ≡ frames = sym (frames_are ∙ ap (frames_received chain) same) in
     record {
@@ -183,7 +188,7 @@ done chain a b c d line bytes outs e frames looks starts appends holds served sa
 -- no frame was delivered
 pub no_alignment : (chain : Chain) (a b c d : ShelfState) (line bytes : List ℕ) (outs : List (Vec ℕ Global)) (e : Vec ℕ Global) (frames bits : ℕ) → Looks a b → TouchesOnly (IsOutput (Demux chain)) b c → TouchesOnly (IsOutput (Demux chain)) c d →
     Holds (a.told line_name) line → line_of chain (Some line) ≡ Ok line → bytes ≡ line → AreOutputs chain bytes outs → frames ≡ frames_received chain bytes → frames ≡ 0 → bits ≡ 8 * length line →
-    ((leaf : ℕ) → leaf < 4 → Holds (d.told (output_name leaf)) (slice_index_or outs leaf e).items) → Performs (Demux chain) a d (Err (NoAlignment bits))
+    ((leaf : ℕ) → leaf < leaves_of chain → Holds (d.told (output_name leaf)) (slice_index_or outs leaf e).items) → Performs (Demux chain) a d (Err (NoAlignment bits))
 no_alignment chain a b c d line bytes outs e frames bits looks starts appends holds served same are frames_are none long wholes =
     let count : frames_received chain line ≡ 0 = sym (frames_are ∙ ap (frames_received chain) same) ∙ none in
     record {

@@ -9,6 +9,8 @@ pub mod Refusing
 pub mod ScheduleComes
 pub mod MuxComes
 pub mod Lists
+pub mod Firsts
+pub mod Levels
 pub mod MuxMade
 pub mod OneOutput
 pub mod MuxFiles

@@ -1,37 +1,43 @@
 -- What the steps of `mux` before its outputs come to.
-use Rattle.std.proofs.Common.{◌≡◌, ℕ, zero, suc, ◌*◌, ◌<◌, nat_lt, List, [], Option, None, Some, Ok, Err, true, false, length, refl, ap, sym, ◌∙◌, inl, inr, subst, arith, lit<}
-use Rattle.std.specs.Prelude.{is_none, unwrap_or, slice_index}
-use Rattle.std.specs.Option.{option_map}
+use Rattle.std.proofs.Common.{◌≡◌, ℕ, suc, ◌*◌, ◌<◌, nat_lt, List, [], Option, None, Some, Ok, Err, true, false, length, refl, ap, sym, ◌∙◌, inl, inr, subst, arith}
+use Rattle.std.specs.Prelude.{is_none, unwrap_or, slice_index, find}
+use Rattle.std.specs.Option.{option_map, option_map_or}
+use Rattle.std.specs.List.{range_with_len}
 use Rattle.std.proofs.lemmas.Bool.Decides.{nat_tests}
 use Rattle.pdh_bits.specs.Bits.{bits_of}
 use Rattle.pdh_edge.specs.Files.{ShelfState, Told, Looks, Holds}
 use Rattle.pdh_edge.specs.Files.Told.{Known}
 use Rattle.pdh_clock.specs.Row.{Row}
-use Rattle.pdh_ops.specs.Names.{schedule_name, leaf_name}
+use Rattle.pdh_shape.specs.declared.place.Path.{Path}
+use Rattle.pdh_clock.specs.Begun.{Shortage}
+use Rattle.pdh_chain.specs.Chains.{leaves_of}
+use Rattle.pdh_ops.specs.Names.{schedule_name, leaf_name, name_of}
 use Rattle.pdh_ops.specs.Answer.{Answer, and_then}
 use Rattle.pdh_ops.specs.Reading.{HasLength, IsSizeStop}
 use Rattle.pdh_ops.specs.Schedules.{Files, bytes_in, rows_of, frames_in}
-use Rattle.pdh_ops.specs.Mux.{mux_inputs, all_held, leaf_bits, bits_held, bits_needed, short_leaf, muxed}
+use Rattle.pdh_ops.specs.Mux.{mux_inputs, all_held, leaf_bits, bits_held, bits_needed, short_node, stop_of_shortage, short_leaf, muxed}
 use Rattle.pdh_ops.specs.Commands.{AreTold, comes_to}
 use Rattle.pdh_ops.specs.Refusing.{Refuses}
 use Rattle.pdh_ops.specs.ScheduleSteps.{RowsAre}
+use Rattle.pdh_ops.proofs.Firsts.{first_of_range, none_of_range, each_fails, find-map}
 use Rattle.pdh_ops.proofs.Refusing.{size_stop}
 use Rattle.pdh_ops.proofs.ScheduleComes.{Begins}
-use Rattle.pdh_ops.specs.MuxSteps.{OfInputs, AreSizes, AreHeld, HasRows, IsLong, IsShort, IsEnoughStop}
+use Rattle.pdh_ops.specs.MuxSteps.{OfInputs, AreSizes, AreHeld, HasRows, IsLong, IsShortNode, IsShort, IsEnoughStop}
 use Rattle.pdh_words.specs.declared.commands.Command.TheVariants.{Mux}
+use Rattle.pdh_ops.specs.declared.file.File.{File}
 use Rattle.pdh_ops.specs.declared.file.File.TheVariants.{Line, Schedule, Leaf, Output}
 use Rattle.pdh_ops.specs.declared.mux.InputSizes.{InputSizes}
 use Rattle.pdh_ops.specs.declared.answer.Stop.{Stop}
-use Rattle.pdh_ops.specs.declared.answer.Stop.TheVariants.{Memory, Usage, Read, Write, Missing, LongSchedule, BadRow, UnknownNode, CountOver, Short, Overflow, Underflow, ManyFrames, NoAlignment}
+use Rattle.pdh_ops.specs.declared.answer.Stop.TheVariants.{Memory, Usage, Read, Write, Missing, LongSchedule, BadRow, UnknownNode, CountOver, ShortNode, Short, Overflow, Underflow, ManyFrames, NoAlignment}
 use Rattle.pdh_ops.proofs.Touching.{has_length_still}
 use Rattle.pdh_chain.specs.declared.chain.Chain.{Chain}
 
 -- ---- the inputs as they are told
 
 schedule_told : (chain : Chain) (state : ShelfState) (files : Files) → AreTold (Mux chain) state.told files → state.told schedule_name ≡ Known (files schedule_name)
-schedule_told chain state files told = told 0 (lit< tt)
+schedule_told chain state files told = told 0 (omega arith)
 
-leaf_told : (chain : Chain) (state : ShelfState) (files : Files) (k : ℕ) → k < 4 → AreTold (Mux chain) state.told files → state.told (leaf_name k) ≡ Known (files (leaf_name k))
+leaf_told : (chain : Chain) (state : ShelfState) (files : Files) (k : ℕ) → k < leaves_of chain → AreTold (Mux chain) state.told files → state.told (leaf_name k) ≡ Known (files (leaf_name k))
 leaf_told chain state files k low told = told (suc k) (omega arith)
 
 -- what holds of inputs as they were told holds of them as they are told now
@@ -52,24 +58,30 @@ length_is state name bytes files known told = go (files name) (known.told (files
     go None e = absurd (cc)
     go (Some line) e = cc
 
-held_files : (chain : Chain) (state : ShelfState) (files : Files) (n k : ℕ) → AreTold (Mux chain) state.told files → k < 4 → HasLength (leaf_name k) n state → is_none (files (leaf_name k)) ≡ false
+held_files : (chain : Chain) (state : ShelfState) (files : Files) (n k : ℕ) → AreTold (Mux chain) state.told files → k < leaves_of chain → HasLength (leaf_name k) n state → is_none (files (leaf_name k)) ≡ false
 held_files chain state files n k told low known = is_held state (leaf_name k) n (files (leaf_name k)) known (leaf_told chain state files k low told)
 
-no_schedule : (files : Files) → files schedule_name ≡ None → all_held mux_inputs files ≡ Err (Missing Schedule)
-no_schedule files none = let e : is_none (files schedule_name) ≡ true = ap is_none none in rw e refl
+no_schedule : (chain : Chain) (files : Files) → files schedule_name ≡ None → all_held (mux_inputs chain) files ≡ Err (Missing Schedule)
+no_schedule chain files none = let e : is_none (files schedule_name) ≡ true = ap is_none none in rw e refl
 
-no_leaf : (files : Files) (k : ℕ) → k < 4 → is_none (files schedule_name) ≡ false → ((i : ℕ) → i < k → is_none (files (leaf_name i)) ≡ false) → is_none (files (leaf_name k)) ≡ true →
-    all_held mux_inputs files ≡ Err (Missing (Leaf k))
-no_leaf files zero low first before here = rw (first, here) refl
-no_leaf files (suc zero) low first before here = rw (first, before 0 (lit< tt), here) refl
-no_leaf files (suc (suc zero)) low first before here = rw (first, before 0 (lit< tt), before 1 (lit< tt), here) refl
-no_leaf files (suc (suc (suc zero))) low first before here = rw (first, before 0 (lit< tt), before 1 (lit< tt), before 2 (lit< tt), here) refl
-no_leaf files (suc (suc (suc (suc k)))) low first before here = absurd (omega arith)
+-- what the leaves' files come to, where the schedule is held
+held_by_leaves : (chain : Chain) (files : Files) (missing : Option ℕ) → is_none (files schedule_name) ≡ false → find (λ leaf. is_none (files (leaf_name leaf))) (range_with_len 0 (leaves_of chain)) ≡ missing
+    → all_held (mux_inputs chain) files ≡ option_map_or (λ file. Err (Missing file)) (option_map Leaf missing) (Ok tt)
+held_by_leaves chain files missing first found =
+    let at : find (λ file. is_none (files (name_of file))) (mux_inputs chain) ≡ option_map Leaf missing =
+    rw first (find-map (λ file. is_none (files (name_of file))) Leaf (range_with_len 0 (leaves_of chain)) ∙ ap (option_map Leaf) found) in
+    ap (λ (o : Option File). option_map_or (λ file. Err (Missing file)) o (Ok tt)) at
 
-every_leaf : (files : Files) → is_none (files schedule_name) ≡ false → ((i : ℕ) → i < 4 → is_none (files (leaf_name i)) ≡ false) → all_held mux_inputs files ≡ Ok tt
-every_leaf files first each = rw (first, each 0 (lit< tt), each 1 (lit< tt), each 2 (lit< tt), each 3 (lit< tt)) refl
+no_leaf : (chain : Chain) (files : Files) (k : ℕ) → k < leaves_of chain → is_none (files schedule_name) ≡ false → ((i : ℕ) → i < k → is_none (files (leaf_name i)) ≡ false) → is_none (files (leaf_name k)) ≡ true →
+    all_held (mux_inputs chain) files ≡ Err (Missing (Leaf k))
+no_leaf chain files k low first before here =
+    held_by_leaves chain files (Some k) first (first_of_range (λ leaf. is_none (files (leaf_name leaf))) 0 (leaves_of chain) k (omega arith) (omega arith) (λ i h h'. before i h') here)
 
-comes_held : (chain : Chain) (files : Files) (stop : Stop) → all_held mux_inputs files ≡ Err stop → ◌≡◌ {A = Answer} (Err stop) (comes_to (Mux chain) files)
+every_leaf : (chain : Chain) (files : Files) → is_none (files schedule_name) ≡ false → ((i : ℕ) → i < leaves_of chain → is_none (files (leaf_name i)) ≡ false) → all_held (mux_inputs chain) files ≡ Ok tt
+every_leaf chain files first each =
+    held_by_leaves chain files None first (none_of_range (λ leaf. is_none (files (leaf_name leaf))) 0 (leaves_of chain) (λ i h h'. each i (omega arith)))
+
+comes_held : (chain : Chain) (files : Files) (stop : Stop) → all_held (mux_inputs chain) files ≡ Err stop → ◌≡◌ {A = Answer} (Err stop) (comes_to (Mux chain) files)
 comes_held chain files stop e = sym (ap (λ r. and_then r (λ _. and_then (rows_of chain (bytes_in files schedule_name)) (muxed chain files))) e)
 
 pub schedule_size_refuses : (chain : Chain) (a b : ShelfState) (stop : Stop) → IsSizeStop Schedule a b stop → Refuses (Mux chain) a b stop
@@ -77,25 +89,25 @@ schedule_size_refuses chain a b stop cause = elim (size_stop Schedule a b stop c
   | inl missing ↦ subst (Refuses (Mux chain) a b) (sym missing.0) (
     missing.1,
     λ files told.
-        comes_held chain files (Missing Schedule) (no_schedule files (missing.2 (files schedule_name) (schedule_told chain a files told))),
+        comes_held chain files (Missing Schedule) (no_schedule chain files (missing.2 (files schedule_name) (schedule_told chain a files told))),
   )
   | inr fails ↦ subst (Refuses (Mux chain) a b) (sym fails.0) fails.1
 ]
 
-pub leaf_size_refuses : (chain : Chain) (a b : ShelfState) (schedule k : ℕ) (leaf : ℕ → ℕ) (stop : Stop) → k < 4 → HasLength schedule_name schedule a → ((i : ℕ) → i < k → HasLength (leaf_name i) (leaf i) a) →
+pub leaf_size_refuses : (chain : Chain) (a b : ShelfState) (schedule k : ℕ) (leaf : ℕ → ℕ) (stop : Stop) → k < leaves_of chain → HasLength schedule_name schedule a → ((i : ℕ) → i < k → HasLength (leaf_name i) (leaf i) a) →
     IsSizeStop (Leaf k) a b stop → Refuses (Mux chain) a b stop
 leaf_size_refuses chain a b schedule k leaf stop low first before cause = elim (size_stop (Leaf k) a b stop cause) [
   | inl missing ↦ subst (Refuses (Mux chain) a b) (sym missing.0) (
     missing.1,
     λ files told.
-        comes_held chain files (Missing (Leaf k)) (no_leaf files k low (is_held a schedule_name schedule (files schedule_name) first (schedule_told chain a files told))
+        comes_held chain files (Missing (Leaf k)) (no_leaf chain files k low (is_held a schedule_name schedule (files schedule_name) first (schedule_told chain a files told))
         (λ i h. held_files chain a files (leaf i) i told (omega arith) (before i h)) (ap is_none (missing.2 (files (leaf_name k)) (leaf_told chain a files k low told)))),
   )
   | inr fails ↦ subst (Refuses (Mux chain) a b) (sym fails.0) fails.1
 ]
 
-pub all_are_held : (chain : Chain) (sizes : InputSizes) (a : ShelfState) → AreSizes sizes a → AreHeld chain a
-all_are_held chain sizes a are files told = every_leaf files (is_held a schedule_name sizes.schedule (files schedule_name) are.schedule (schedule_told chain a files told))
+pub all_are_held : (chain : Chain) (sizes : InputSizes) (a : ShelfState) → AreSizes chain sizes a → AreHeld chain a
+all_are_held chain sizes a are files told = every_leaf chain files (is_held a schedule_name sizes.schedule (files schedule_name) are.schedule (schedule_told chain a files told))
     (λ i h. held_files chain a files (slice_index sizes.leaves i) i told h (are.leaf i h))
 
 -- ---- the schedule
@@ -126,42 +138,58 @@ pub comes_muxed : (chain : Chain) (a : ShelfState) (rows : List Row) (files : Fi
 comes_muxed chain a rows files held are told =
     ap (λ r. and_then r (λ _. and_then (rows_of chain (bytes_in files schedule_name)) (muxed chain files))) (held files told) ∙ ap (λ r. and_then r (muxed chain files)) (are files told)
 
-held_is : (chain : Chain) (sizes : InputSizes) (a : ShelfState) (files : Files) (k : ℕ) → k < 4 → AreSizes sizes a → AreTold (Mux chain) a.told files → bits_held files k ≡ 8 * slice_index sizes.leaves k
+held_is : (chain : Chain) (sizes : InputSizes) (a : ShelfState) (files : Files) (k : ℕ) → k < leaves_of chain → AreSizes chain sizes a → AreTold (Mux chain) a.told files → bits_held files k ≡ 8 * slice_index sizes.leaves k
 held_is chain sizes a files k low are told = ap (λ n. 8 * n) (length_is a (leaf_name k) (slice_index sizes.leaves k) files (are.leaf k low) (leaf_told chain a files k low told))
 
 -- leaf k is the first that is too short
-pub is_short_leaf : (files : Files) (rows : List Row) (k : ℕ) → k < 4 → ((i : ℕ) → i < k → nat_lt (bits_held files i) (bits_needed rows i) ≡ false) → nat_lt (bits_held files k) (bits_needed rows k) ≡ true →
-    short_leaf files rows ≡ Some k
+pub is_short_leaf : (chain : Chain) (files : Files) (rows : List Row) (k : ℕ) → k < leaves_of chain → ((i : ℕ) → i < k → nat_lt (bits_held files i) (bits_needed chain rows i) ≡ false)
+    → nat_lt (bits_held files k) (bits_needed chain rows k) ≡ true → short_leaf chain files rows ≡ Some k
 unfolding short_leaf
-is_short_leaf files rows zero low before here = rw here refl
-is_short_leaf files rows (suc zero) low before here = rw (before 0 (lit< tt), here) refl
-is_short_leaf files rows (suc (suc zero)) low before here = rw (before 0 (lit< tt), before 1 (lit< tt), here) refl
-is_short_leaf files rows (suc (suc (suc zero))) low before here = rw (before 0 (lit< tt), before 1 (lit< tt), before 2 (lit< tt), here) refl
-is_short_leaf files rows (suc (suc (suc (suc k)))) low before here = absurd (omega arith)
+is_short_leaf chain files rows k low before here =
+    first_of_range (λ leaf. nat_lt (bits_held files leaf) (bits_needed chain rows leaf)) 0 (leaves_of chain) k (omega arith) (omega arith) (λ i h h'. before i h') here
 
-pub no_short_leaf : (files : Files) (rows : List Row) → ((i : ℕ) → i < 4 → nat_lt (bits_held files i) (bits_needed rows i) ≡ false) → short_leaf files rows ≡ None
+pub no_short_leaf : (chain : Chain) (files : Files) (rows : List Row) → ((i : ℕ) → i < leaves_of chain → nat_lt (bits_held files i) (bits_needed chain rows i) ≡ false) → short_leaf chain files rows ≡ None
 unfolding short_leaf
-no_short_leaf files rows each = rw (each 0 (lit< tt), each 1 (lit< tt), each 2 (lit< tt), each 3 (lit< tt)) refl
+no_short_leaf chain files rows each =
+    none_of_range (λ leaf. nat_lt (bits_held files leaf) (bits_needed chain rows leaf)) 0 (leaves_of chain) (λ i h h'. each i (omega arith))
 
-pub long_enough : (chain : Chain) (sizes : InputSizes) (a : ShelfState) (rows : List Row) (files : Files) (k : ℕ) → k < 4 → AreSizes sizes a → AreTold (Mux chain) a.told files → IsLong rows sizes k → nat_lt (bits_held files k) (bits_needed rows k) ≡ false
+-- where none is too short
+pub each_long : (chain : Chain) (files : Files) (rows : List Row) (k : ℕ) → short_leaf chain files rows ≡ None → k < leaves_of chain → nat_lt (bits_held files k) (bits_needed chain rows k) ≡ false
+unfolding short_leaf
+each_long chain files rows k none low =
+    each_fails (λ leaf. nat_lt (bits_held files leaf) (bits_needed chain rows leaf)) 0 (leaves_of chain) k none (omega arith) (omega arith)
+
+pub long_enough : (chain : Chain) (sizes : InputSizes) (a : ShelfState) (rows : List Row) (files : Files) (k : ℕ) → k < leaves_of chain → AreSizes chain sizes a → AreTold (Mux chain) a.told files → IsLong chain rows sizes k → nat_lt (bits_held files k) (bits_needed chain rows k) ≡ false
 long_enough chain sizes a rows files k low are told long = let e = held_is chain sizes a files k low are told in grind (arith, nat_tests)
 
-short_comes : (chain : Chain) (sizes : InputSizes) (a : ShelfState) (rows : List Row) (k have need : ℕ) (files : Files) → AreSizes sizes a → AreTold (Mux chain) a.told files → IsShort rows sizes k have need →
+short_comes : (chain : Chain) (sizes : InputSizes) (a : ShelfState) (rows : List Row) (k have need : ℕ) (files : Files) → AreSizes chain sizes a → AreTold (Mux chain) a.told files → IsShort chain rows sizes k have need →
     muxed chain files rows ≡ Err (Short (Leaf k) have need)
 short_comes chain sizes a rows k have need files are told short =
     let few : nat_lt 16384 (frames_in rows) ≡ false = let f = short.few in grind (arith, nat_tests) in
     let e = held_is chain sizes a files k short.leaf are told in
     let have_is : bits_held files k ≡ have = e ∙ sym short.have_is in
-    let here : nat_lt (bits_held files k) (bits_needed rows k) ≡ true = let f = short.short in let n = short.need_is in grind (arith, nat_tests) in
-    let first = is_short_leaf files rows k short.leaf (λ i h. long_enough chain sizes a rows files i (omega (arith, short.leaf)) are told (short.before i h)) here in
-    rw (few, first) (ap (λ n. Err (Short (Leaf k) n (bits_needed rows k))) have_is ∙ ap (λ n. Err (Short (Leaf k) have n)) (sym short.need_is))
+    let here : nat_lt (bits_held files k) (bits_needed chain rows k) ≡ true = let f = short.short in let n = short.need_is in grind (arith, nat_tests) in
+    let first = is_short_leaf chain files rows k short.leaf (λ i h. long_enough chain sizes a rows files i (omega (arith, short.leaf)) are told (short.before i h)) here in
+    rw (few, short.scheduled, first) (ap (λ n. Err (Short (Leaf k) n (bits_needed chain rows k))) have_is ∙ ap (λ n. Err (Short (Leaf k) have n)) (sym short.need_is))
+
+-- a node is the first that is too short
+node_comes : (chain : Chain) (rows : List Row) (node : Path) (have need : ℕ) (files : Files) → IsShortNode chain rows node have need → muxed chain files rows ≡ Err (ShortNode node have need)
+node_comes chain rows node have need files short =
+    let few : nat_lt 16384 (frames_in rows) ≡ false = let f = short.few in grind (arith, nat_tests) in
+    rw few (stops (short_node chain rows) _ short.first)
+  where
+    stops : (first : Option Shortage) (rest : Answer) → option_map stop_of_shortage first ≡ Some (ShortNode node have need) → option_map_or (λ short. Err (stop_of_shortage short)) first rest ≡ Err (ShortNode node have need)
+    stops None rest e = absurd (cc)
+    stops (Some first) rest e = cc
 
 many_comes : (chain : Chain) (rows : List Row) (files : Files) → 16384 < frames_in rows → muxed chain files rows ≡ Err (ManyFrames (frames_in rows))
 many_comes chain rows files h = let many : nat_lt 16384 (frames_in rows) ≡ true = grind (arith, nat_tests) in rw many refl
 
-pub enough_refuses : (chain : Chain) (sizes : InputSizes) (rows : List Row) (a b : ShelfState) (stop : Stop) → AreSizes sizes a → HasRows chain a rows → IsEnoughStop rows sizes stop → Refuses (Mux chain) a b stop
+pub enough_refuses : (chain : Chain) (sizes : InputSizes) (rows : List Row) (a b : ShelfState) (stop : Stop) → AreSizes chain sizes a → HasRows chain a rows → IsEnoughStop chain rows sizes stop → Refuses (Mux chain) a b stop
 enough_refuses chain sizes rows a b (ManyFrames n) are has cause = λ files told.
     ap (λ m. Err (ManyFrames m)) cause.0 ∙ sym (comes_muxed chain a rows files (all_are_held chain sizes a are) has told ∙ many_comes chain rows files (subst (λ m. 16384 < m) cause.0 cause.1))
+enough_refuses chain sizes rows a b (ShortNode node have need) are has cause = λ files told.
+    sym (comes_muxed chain a rows files (all_are_held chain sizes a are) has told ∙ node_comes chain rows node have need files cause)
 enough_refuses chain sizes rows a b (Short (Leaf k) have need) are has cause = λ files told.
     sym (comes_muxed chain a rows files (all_are_held chain sizes a are) has told ∙ short_comes chain sizes a rows k have need files are told cause)
 enough_refuses chain sizes rows a b (Short Line have need) are has cause = absurd cause
@@ -181,12 +209,12 @@ enough_refuses chain sizes rows a b (Underflow p) are has cause = absurd cause
 enough_refuses chain sizes rows a b (NoAlignment n) are has cause = absurd cause
 
 -- the bytes of a leaf's file that were read give its bits
-pub bits_are : (chain : Chain) (a : ShelfState) (k : ℕ) (bytes : List ℕ) (files : Files) → k < 4 → Holds (a.told (leaf_name k)) bytes → AreTold (Mux chain) a.told files → leaf_bits files k ≡ bits_of bytes
+pub bits_are : (chain : Chain) (a : ShelfState) (k : ℕ) (bytes : List ℕ) (files : Files) → k < leaves_of chain → Holds (a.told (leaf_name k)) bytes → AreTold (Mux chain) a.told files → leaf_bits files k ≡ bits_of bytes
 bits_are chain a k bytes files low holds told = ap (λ (h : Option (List ℕ)). bits_of (unwrap_or h [])) (holds (files (leaf_name k)) (leaf_told chain a files k low told))
 
 -- sizes that were answered are known after the files were looked at again
-pub sizes_since : (sizes : InputSizes) (a b : ShelfState) → Looks a b → AreSizes sizes a → AreSizes sizes b
-sizes_since sizes a b looks are = record {
+pub sizes_since : (chain : Chain) (sizes : InputSizes) (a b : ShelfState) → Looks a b → AreSizes chain sizes a → AreSizes chain sizes b
+sizes_since chain sizes a b looks are = record {
   schedule = has_length_still schedule_name a b _ looks are.schedule;
   leaf = λ k h. has_length_still (leaf_name k) a b _ looks (are.leaf k h);
 }

@@ -9,13 +9,14 @@ use Rattle.pdh_bits.specs.Bits.{bytes_of}
 use Rattle.pdh_shape.specs.declared.place.Place.{Place}
 use Rattle.pdh_line.specs.Events.{Event, Kind}
 use Rattle.pdh_line.specs.Events.Kind.{Overflow as StoreOverflow, Underflow as StoreUnderflow}
-use Rattle.pdh_chain.specs.Muxes.{frames_of_line}
+use Rattle.pdh_chain.specs.Muxes.{frames_of_line, place_of}
 use Rattle.pdh_clock.specs.Row.{Row}
+use Rattle.pdh_clock.specs.Contents.{counts}
 use Rattle.pdh_ops.specs.Names.{line_name}
 use Rattle.pdh_ops.specs.Answer.{Answer}
 use Rattle.pdh_ops.specs.Writing.{IsStartStop, IsAppendStop}
-use Rattle.pdh_ops.specs.Schedules.{Files, rows_in, counts_of, frames_in}
-use Rattle.pdh_ops.specs.Mux.{leaf_bits, bits_held, bits_needed, stop_of_kind, stop_of_event, place_of, event_of, muxed, frames_made, line_bytes}
+use Rattle.pdh_ops.specs.Schedules.{Files, rows_in, frames_in}
+use Rattle.pdh_ops.specs.Mux.{leaf_bits, short_node, bits_held, bits_needed, stop_of_kind, stop_of_event, event_of, muxed, frames_made, line_bytes}
 use Rattle.pdh_ops.specs.Commands.{IsOutput, AreTold, output_bytes, comes_to}
 use Rattle.pdh_ops.specs.Run.{Comes, AreWhole, ChangesOnly, Performs, GoesOn, reaches_outputs}
 use Rattle.pdh_ops.specs.MuxSteps.{AreBits, AreSizes, HasRows, AreEnough, AreLeaves, IsEnd, IsMade}
@@ -29,21 +30,21 @@ use Rattle.pdh_ops.proofs.Touching.{looks_then}
 use Rattle.pdh_ops.proofs.OneOutput.{HasOutput, Writes, touches_again, others, start_refused, append_refused, whole, writing_done}
 use Rattle.pdh_ops.proofs.MuxComes.{all_are_held, sizes_since, of_inputs_since, comes_muxed, no_short_leaf, long_enough}
 use Rattle.pdh_chain.specs.declared.chain.Chain.{Chain}
-use Rattle.pdh_chain.specs.Chains.{shape_of}
+use Rattle.pdh_chain.specs.Chains.{shapes_of, leaves_of}
 
 -- what the steps before the outputs have found
 pub record IsReady (chain : Chain) (a b : ShelfState) (sizes : InputSizes) (rows : List Row) (frames : ℕ) (leaves : List (Vec Bool Global)) : Type 0 where
   pub looks : Looks a b
-  pub sizes_are : AreSizes sizes b
+  pub sizes_are : AreSizes chain sizes b
   pub rows_are : HasRows chain b rows
-  pub enough : AreEnough rows sizes frames
+  pub enough : AreEnough chain rows sizes frames
   pub leaves_are : AreLeaves chain sizes b leaves
 
-pub is_ready : (chain : Chain) (a s t b : ShelfState) (sizes : InputSizes) (rows : List Row) (frames : ℕ) (leaves : List (Vec Bool Global)) → Looks a s → AreSizes sizes s → Looks s t → HasRows chain t rows → AreEnough rows sizes frames →
+pub is_ready : (chain : Chain) (a s t b : ShelfState) (sizes : InputSizes) (rows : List Row) (frames : ℕ) (leaves : List (Vec Bool Global)) → Looks a s → AreSizes chain sizes s → Looks s t → HasRows chain t rows → AreEnough chain rows sizes frames →
     Looks t b → AreLeaves chain sizes b leaves → IsReady chain a b sizes rows frames leaves
 is_ready chain a s t b sizes rows frames leaves first sizes_are second rows_are enough third leaves_are = record {
   looks = looks_then a t b (looks_then a s t first second) third;
-  sizes_are = sizes_since sizes t b third (sizes_since sizes s t second sizes_are);
+  sizes_are = sizes_since chain sizes t b third (sizes_since chain sizes s t second sizes_are);
   rows_are = of_inputs_since chain _ t b third rows_are;
   enough = enough;
   leaves_are = leaves_are;
@@ -57,17 +58,17 @@ told_now chain a b files looks told = subst (λ (t : List ℕ → Told). AreTold
 abbrev run_answer : (chain : Chain) → List Row → Answer
 run_answer chain rows = option_map_or (λ event. Err (stop_of_event event)) (event_of chain rows) (Ok (Muxed chain (frames_in rows)))
 
-runs_to : (chain : Chain) (files : Files) (rows : List Row) → frames_in rows ≤ 16384 → ((i : ℕ) → i < 4 → nat_lt (bits_held files i) (bits_needed rows i) ≡ false) → muxed chain files rows ≡ run_answer chain rows
-runs_to chain files rows few long =
+runs_to : (chain : Chain) (files : Files) (rows : List Row) → frames_in rows ≤ 16384 → short_node chain rows ≡ None → ((i : ℕ) → i < leaves_of chain → nat_lt (bits_held files i) (bits_needed chain rows i) ≡ false) → muxed chain files rows ≡ run_answer chain rows
+runs_to chain files rows few scheduled long =
     let test : nat_lt 16384 (frames_in rows) ≡ false = grind (arith, nat_tests) in
-    rw (test, no_short_leaf files rows long) refl
+    rw (test, scheduled, no_short_leaf chain files rows long) refl
 
 ready_comes : (chain : Chain) (a b : ShelfState) (sizes : InputSizes) (rows : List Row) (frames : ℕ) (leaves : List (Vec Bool Global)) (files : Files) → IsReady chain a b sizes rows frames leaves → AreTold (Mux chain) a.told files →
     comes_to (Mux chain) files ≡ run_answer chain rows
 ready_comes chain a b sizes rows frames leaves files ready told =
     let now = told_now chain a b files ready.looks told in
     comes_muxed chain b rows files (all_are_held chain sizes b ready.sizes_are) ready.rows_are now
-    ∙ runs_to chain files rows (let e = ready.enough.frames_are in omega (arith, ready.enough.few)) (λ i h. long_enough chain sizes b rows files i h ready.sizes_are now (ready.enough.long i h))
+    ∙ runs_to chain files rows (let e = ready.enough.frames_are in omega (arith, ready.enough.few)) ready.enough.scheduled (λ i h. long_enough chain sizes b rows files i h ready.sizes_are now (ready.enough.long i h))
 
 kind_reaches : (kind : Kind) (place : Place) → reaches_outputs (Err (stop_of_kind kind place)) ≡ true
 kind_reaches StoreOverflow place = refl
@@ -83,7 +84,7 @@ ready_goes_on chain a b sizes rows frames leaves ready files told = ap reaches_o
 -- ---- the line
 
 -- the bits of the leaves' files are those of the leaves that were read
-leaves_same : (chain : Chain) (sizes : InputSizes) (b : ShelfState) (leaves : List (Vec Bool Global)) (files : Files) → AreLeaves chain sizes b leaves → AreTold (Mux chain) b.told files → AreBits leaves (leaf_bits files)
+leaves_same : (chain : Chain) (sizes : InputSizes) (b : ShelfState) (leaves : List (Vec Bool Global)) (files : Files) → AreLeaves chain sizes b leaves → AreTold (Mux chain) b.told files → AreBits chain leaves (leaf_bits files)
 leaves_same chain sizes b leaves files are told k d low = sym (are.bits k d low files told)
 
 -- the bytes that were made are those of the command's output
@@ -94,7 +95,7 @@ ready_line chain a b sizes rows frames leaves made files ready is told =
     let now = told_now chain a b files ready.looks told in
     let same_rows : rows ≡ rows_in chain files = sym (ap (λ r. result_unwrap_or r []) (ready.rows_are files now)) in
     is.bytes (leaf_bits files) (leaves_same chain sizes b leaves files ready.leaves_are now)
-    ∙ ap (λ (rows : List Row). bytes_of (frames_of_line (shape_of chain) (counts_of rows) (leaf_bits files) (frames_made chain rows))) same_rows
+    ∙ ap (λ (rows : List Row). bytes_of (frames_of_line (shapes_of chain) (counts rows) (leaf_bits files) (frames_made chain rows))) same_rows
 
 -- ---- the files
 

@@ -1,37 +1,47 @@
 -- After status 0 the line gives each leaf's bits back in order.
-use Rattle.std.proofs.Common.{◌≡◌, ℕ, zero, suc, ◌*◌, ◌%◌, ◌<◌, ◌≤◌, nat_lt, List, [], Bool, true, false, cond, Option, None, Some, Result, Ok, Err, length, take, refl, ap, sym, subst, ◌∙◌, inl, inr, arith, lit<}
+use Rattle.std.proofs.Common.{◌≡◌, ℕ, ◌*◌, ◌%◌, ◌<◌, ◌≤◌, nat_lt, List, [], Bool, true, false, cond, All, Option, None, Some, Result, Ok, Err, length, take, slice_index_or, refl, ap, sym, subst, ◌∙◌, inl, inr, arith, lit<}
 use Rattle.std.specs.Option.{option_map_or}
 use Rattle.std.specs.Result.{result_unwrap_or}
-use Rattle.std.proofs.lemmas.Bool.{cases_Bool, cases_lt}
+use Rattle.std.proofs.lemmas.Bool.{cases_lt}
 use Rattle.std.proofs.lemmas.Bool.Decides.{nat_tests}
-use Rattle.pdh_bits.specs.Bits.{bits_of}
+use Rattle.std.proofs.Math.Nat.{mul-le-mul_left, mul-le-mul_right, mul-suc, mul_comm, mul_left_comm}
+use Rattle.pdh_bits.specs.Bits.{bits_of, bytes_of}
 use Rattle.pdh_bits.proofs.BitsLemmas.{bits_of-bytes_of, length-bits_of}
 use Rattle.pdh_edge.specs.Files.{ShelfState, SinkState}
-use Rattle.pdh_line.specs.Receiving.{received}
-use Rattle.pdh_line.specs.Sending.{front, line_bit, given_back}
+use Rattle.pdh_shape.specs.Frame.{idle}
+use Rattle.pdh_line.specs.Sending.{front}
 use Rattle.pdh_line.specs.Events.{Event}
-use Rattle.pdh_line.proofs.SentFrames.{length-front}
-use Rattle.pdh_line.proofs.EventLaws.{received-prefix_of_list}
+use Rattle.pdh_line.proofs.SentFrames.{length-front, take-front}
+use Rattle.pdh_nesting.specs.Chains.{top_len}
+use Rattle.pdh_nesting.specs.Receiving.{far}
+use Rattle.pdh_nesting.proofs.EventParts.{events_below-none_first}
+use Rattle.pdh_nesting.proofs.Given.{far-prefix}
 use Rattle.pdh_clock.specs.Row.{Row}
+use Rattle.pdh_clock.specs.Contents.{IsRowOf, counts}
+use Rattle.pdh_clock.specs.Begun.{Shortage}
+use Rattle.pdh_clock.specs.Judged.{schedule_of}
+use Rattle.pdh_clock.specs.declared.fault.ScheduleFault.{ScheduleFault}
+use Rattle.pdh_clock.proofs.Laws.{schedule_of_sound}
+use Rattle.pdh_chain.specs.declared.chain.Chain.{Chain}
+use Rattle.pdh_chain.specs.Chains.{shapes_of, levels_of, leaves_of, frame_bytes_of}
+use Rattle.pdh_chain.proofs.ChainLaws.{are_frames}
 use Rattle.pdh_ops.specs.Names.{schedule_name, leaf_name}
 use Rattle.pdh_ops.specs.Answer.{Answer, and_then, status_of}
-use Rattle.pdh_ops.specs.Schedules.{Files, bytes_in, rows_of, rows_in, counts_of, frames_in}
-use Rattle.pdh_ops.specs.Mux.{mux_inputs, all_held, leaf_bits, mux_source, bits_held, bits_needed, short_leaf, event_of, muxed, frames_made, line_bytes, stop_of_event}
+use Rattle.pdh_ops.specs.Schedules.{Files, bytes_in, rows_of, rows_or_stop, rows_in, frames_in}
+use Rattle.pdh_ops.specs.Mux.{mux_inputs, all_held, line_len, short_node, leaf_bits, bits_held, bits_needed, short_leaf, event_of, stop_of_event, stop_of_shortage, muxed, frames_made, mux_line, line_bytes}
 use Rattle.pdh_ops.specs.Commands.{comes_to}
 use Rattle.pdh_ops.specs.Run.{Performs, IsTold, Runs}
-use Rattle.pdh_ops.specs.GivesBack.{GivesBack}
+use Rattle.pdh_ops.specs.GivesBack.{IsPrefix, GivesBack}
 use Rattle.pdh_words.specs.declared.commands.Command.{Command}
 use Rattle.pdh_words.specs.declared.commands.Command.TheVariants.{Demux, Mux, ClockCheck, ClockMake}
 use Rattle.pdh_ops.specs.declared.answer.Done.{Done}
 use Rattle.pdh_ops.specs.declared.answer.Done.TheVariants.{Muxed}
 use Rattle.pdh_ops.specs.declared.answer.Stop.{Stop}
-use Rattle.pdh_ops.specs.declared.answer.Stop.TheVariants.{Memory, Usage, Read, Write, Missing, LongSchedule, BadRow, UnknownNode, CountOver, Short, Overflow, Underflow, ManyFrames, NoAlignment}
+use Rattle.pdh_ops.specs.declared.answer.Stop.TheVariants.{Memory, Usage, Read, Write, Missing, LongSchedule, BadRow, UnknownNode, CountOver, ShortNode, Short, Overflow, Underflow, ManyFrames, NoAlignment}
 use Rattle.pdh_ops.specs.declared.file.File.TheVariants.{Leaf}
-use Rattle.pdh_ops.proofs.MuxComes.{is_short_leaf}
-use Rattle.pdh_chain.specs.declared.chain.Chain.{Chain}
-use Rattle.pdh_chain.specs.Chains.{shape_of, frame_bytes_of}
-use Rattle.std.proofs.Math.Nat.{mul-le-mul_left, mul-suc, mul_comm, mul_left_comm}
-use Rattle.pdh_chain.proofs.ChainLaws.{is_frame, has_tributaries, has_stores, four_tributaries, whole_bytes}
+use Rattle.pdh_ops.proofs.Levels.{leaves-are, some_bits, whole_bytes, arrive_singly}
+use Rattle.pdh_ops.proofs.MuxComes.{each_long}
+use Rattle.pdh_ops.proofs.MuxMade.{all_made}
 
 -- ---- what holds where the command did its work
 
@@ -46,87 +56,104 @@ stop_status LongSchedule = omega arith
 stop_status (BadRow l) = omega arith
 stop_status (UnknownNode l) = omega arith
 stop_status (CountOver l n m) = omega arith
+stop_status (ShortNode p h n) = omega arith
 stop_status (Short f h n) = omega arith
 stop_status (Overflow p) = omega arith
 stop_status (Underflow p) = omega arith
 stop_status (ManyFrames n) = omega arith
 stop_status (NoAlignment n) = omega arith
 
-not_short : (files : Files) (rows : List Row) (n : ℕ) → short_leaf files rows ≡ None → n ≤ 4 → (k : ℕ) → k < n → nat_lt (bits_held files k) (bits_needed rows k) ≡ false
-not_short files rows zero none few k h = absurd (omega arith)
-not_short files rows (suc n) none few k h = elim (cases_lt k n) [
-  | inl lt ↦ not_short files rows n none (omega arith) k lt
-  | inr ge ↦
-      let same : n ≡ k = omega arith in
-      subst (λ k. nat_lt (bits_held files k) (bits_needed rows k) ≡ false) same
-      (elim (cases_Bool (nat_lt (bits_held files n) (bits_needed rows n))) [
-        | inl below ↦ absurd (let some : short_leaf files rows ≡ Some n = is_short_leaf files rows n (omega arith) (λ i lt. not_short files rows n none (omega arith) i lt) below in
-            let wrong : ◌≡◌ {A = Option ℕ} None (Some n) = sym none ∙ some in cc)
-        | inr above ↦ above
-      ])
-]
-
--- the frames are made without an event from leaves that are long enough
+-- the frames are made without an event, by a schedule in which no node is short and from leaves that are long enough
 pub record IsDone (chain : Chain) (files : Files) (rows : List Row) : Type 0 where
   pub none : event_of chain rows ≡ None
-  pub long : (k : ℕ) → k < 4 → nat_lt (bits_held files k) (bits_needed rows k) ≡ false
+  pub scheduled : short_node chain rows ≡ None
+  pub long : (k : ℕ) → k < leaves_of chain → nat_lt (bits_held files k) (bits_needed chain rows k) ≡ false
 
 muxed_done : (chain : Chain) (files : Files) (rows : List Row) (done : Done) → ◌≡◌ {A = Answer} (Ok done) (muxed chain files rows) → IsDone chain files rows
-muxed_done chain files rows done h = go (nat_lt 16384 (frames_in rows)) (short_leaf files rows) (event_of chain rows) refl refl h
+muxed_done chain files rows done h = go (nat_lt 16384 (frames_in rows)) (short_node chain rows) (short_leaf chain files rows) (event_of chain rows) refl refl refl h
   where
-    go : (many : Bool) (short : Option ℕ) (event : Option Event) → short_leaf files rows ≡ short → event_of chain rows ≡ event →
+    go : (many : Bool) (node : Option Shortage) (short : Option ℕ) (event : Option Event) → short_node chain rows ≡ node → short_leaf chain files rows ≡ short → event_of chain rows ≡ event →
         ◌≡◌ {A = Answer} (Ok done) (cond many (Err (ManyFrames (frames_in rows)))
-        (option_map_or (λ leaf. Err (Short (Leaf leaf) (bits_held files leaf) (bits_needed rows leaf))) short (option_map_or (λ event. Err (stop_of_event event)) event (Ok (Muxed chain (frames_in rows)))))) → IsDone chain files rows
-    go true short event s e h = absurd (cc)
-    go false (Some leaf) event s e h = absurd (cc)
-    go false None (Some event) s e h = absurd (cc)
-    go false None None s e h = record { none = e; long = not_short files rows 4 s (omega arith) }
+        (option_map_or (λ short. Err (stop_of_shortage short)) node
+        (option_map_or (λ leaf. Err (Short (Leaf leaf) (bits_held files leaf) (bits_needed chain rows leaf))) short (option_map_or (λ event. Err (stop_of_event event)) event (Ok (Muxed chain (frames_in rows))))))) → IsDone chain files rows
+    go true node short event n s e h = absurd (cc)
+    go false (Some node) short event n s e h = absurd (cc)
+    go false None (Some leaf) event n s e h = absurd (cc)
+    go false None None (Some event) n s e h = absurd (cc)
+    go false None None None n s e h = record { none = e; scheduled = n; long = λ k low. each_long chain files rows k s low }
 
-pub mux_done : (chain : Chain) (files : Files) (done : Done) → ◌≡◌ {A = Answer} (Ok done) (comes_to (Mux chain) files) → IsDone chain files (rows_in chain files)
-mux_done chain files done h = muxed_done chain files (rows_in chain files) done (by_rows (rows_of chain (bytes_in files schedule_name)) (by_held (all_held mux_inputs files) h))
+-- where the command did its work, the schedule's text has rows, and this holds of them
+pub record DidMux (chain : Chain) (files : Files) : Type 0 where
+  pub rows : rows_of chain (bytes_in files schedule_name) ≡ Ok (rows_in chain files)
+  pub done : IsDone chain files (rows_in chain files)
+
+pub mux_done : (chain : Chain) (files : Files) (done : Done) → ◌≡◌ {A = Answer} (Ok done) (comes_to (Mux chain) files) → DidMux chain files
+mux_done chain files done h = by_rows (rows_of chain (bytes_in files schedule_name)) refl (by_held (all_held (mux_inputs chain) files) h)
   where
     by_held : (r : Result (Unit {0}) Stop) → ◌≡◌ {A = Answer} (Ok done) (and_then r (λ _. and_then (rows_of chain (bytes_in files schedule_name)) (muxed chain files))) → ◌≡◌ {A = Answer} (Ok done) (and_then (rows_of chain (bytes_in files schedule_name)) (muxed chain files))
     by_held (Ok u) h = h
     by_held (Err stop) h = absurd (cc)
 
-    by_rows : (r : Result (List Row) Stop) → ◌≡◌ {A = Answer} (Ok done) (and_then r (muxed chain files)) → ◌≡◌ {A = Answer} (Ok done) (muxed chain files (result_unwrap_or r []))
-    by_rows (Ok rows) h = h
-    by_rows (Err stop) h = absurd (cc)
+    by_rows : (r : Result (List Row) Stop) → rows_of chain (bytes_in files schedule_name) ≡ r → ◌≡◌ {A = Answer} (Ok done) (and_then r (muxed chain files)) → DidMux chain files
+    by_rows (Ok rows) e h =
+        let same : rows ≡ rows_in chain files = sym (ap (λ r. result_unwrap_or r []) e) in
+        record { rows = e ∙ ap Ok same; done = subst (IsDone chain files) same (muxed_done chain files rows done h) }
+    by_rows (Err stop) e h = absurd (cc)
 
 -- ---- the line
 
-line_bits : (chain : Chain) (files : Files) (rows : List Row) → event_of chain rows ≡ None → bits_of (line_bytes chain files rows) ≡ front (line_bit (shape_of chain) (mux_source files rows)) (frames_in rows * (shape_of chain).len)
-unfolding frames_made line_bytes
+line_bits : (chain : Chain) (files : Files) (rows : List Row) → event_of chain rows ≡ None → bits_of (line_bytes chain files rows) ≡ front (mux_line chain files rows) (line_len chain rows)
+unfolding event_of line_bytes
 line_bits chain files rows none =
-    let line = line_bit (shape_of chain) (mux_source files rows) in
-    let eights : frames_in rows * (shape_of chain).len ≡ frames_in rows * (8 * frame_bytes_of chain) = ap (λ len. frames_in rows * len) (whole_bytes chain) in
-    let whole : length (front line (frames_in rows * (shape_of chain).len)) % 8 ≡ 0 = omega (arith, length-front line (frames_in rows * (shape_of chain).len), eights, mul_left_comm (frames_in rows) 8 (frame_bytes_of chain)) in
-    rw none (bits_of-bytes_of (front line (frames_in rows * (shape_of chain).len)) whole)
+    let line = mux_line chain files rows in
+    let all : frames_made chain rows * top_len (shapes_of chain) ≡ line_len chain rows = ap (λ n. n * top_len (shapes_of chain)) (all_made chain rows none) in
+    let eights : line_len chain rows ≡ frames_in rows * (8 * frame_bytes_of chain) = ap (λ len. frames_in rows * len) (whole_bytes chain) in
+    let whole : length (front line (line_len chain rows)) % 8 ≡ 0 = omega (arith, length-front line (line_len chain rows), eights, mul_left_comm (frames_in rows) 8 (frame_bytes_of chain)) in
+    ap (λ n. bits_of (bytes_of (front line n))) all ∙ bits_of-bytes_of (front line (line_len chain rows)) whole
 
 -- the frames of which a receiver has so many bits are among those that were made
-pub frames_there : (chain : Chain) (files : Files) (rows : List Row) (line : List ℕ) (n : ℕ) → IsDone chain files rows → line ≡ line_bytes chain files rows → (shape_of chain).len * n ≤ length (bits_of line) → n ≤ frames_in rows
+pub frames_there : (chain : Chain) (files : Files) (rows : List Row) (line : List ℕ) (n : ℕ) → IsDone chain files rows → line ≡ line_bytes chain files rows → top_len (shapes_of chain) * n ≤ length (bits_of line) → n ≤ frames_in rows
 frames_there chain files rows line n done is few =
-    let made : bits_of line ≡ front (line_bit (shape_of chain) (mux_source files rows)) (frames_in rows * (shape_of chain).len) = ap bits_of is ∙ line_bits chain files rows done.none in
-    let long : (shape_of chain).len * n ≤ frames_in rows * (shape_of chain).len = omega (arith, ap length made, length-front (line_bit (shape_of chain) (mux_source files rows)) (frames_in rows * (shape_of chain).len)) in
+    let len : ℕ = top_len (shapes_of chain) in
+    let made : bits_of line ≡ front (mux_line chain files rows) (line_len chain rows) = ap bits_of is ∙ line_bits chain files rows done.none in
+    let long : len * n ≤ frames_in rows * len = omega (arith, ap length made, length-front (mux_line chain files rows) (line_len chain rows)) in
     elim (cases_lt (frames_in rows) n) [
-      | inl more ↦
-          absurd (omega (arith, long, mul-le-mul_left (shape_of chain).len more, mul-suc (shape_of chain).len (frames_in rows), mul_comm (frames_in rows) (shape_of chain).len, (is_frame chain).some_slots))
+      | inl more ↦ absurd (omega (arith, long, mul-le-mul_left len more, mul-suc len (frames_in rows), mul_comm (frames_in rows) len, some_bits chain))
       | inr fewer ↦ fewer
     ]
 
+-- and a receiver of them has the first bits of the line
+pub line_front : (chain : Chain) (files : Files) (rows : List Row) (line : List ℕ) (n : ℕ) → IsDone chain files rows → line ≡ line_bytes chain files rows → n ≤ frames_in rows
+    → take (n * top_len (shapes_of chain)) (bits_of line) ≡ front (mux_line chain files rows) (n * top_len (shapes_of chain))
+line_front chain files rows line n done is few =
+    ap (take (n * top_len (shapes_of chain))) (ap bits_of is ∙ line_bits chain files rows done.none)
+    ∙ take-front (mux_line chain files rows) (n * top_len (shapes_of chain)) (line_len chain rows) (mul-le-mul_right (top_len (shapes_of chain)) few)
+
 -- a leaf's file has the bits that enter
-pub long_there : (chain : Chain) (files : Files) (rows : List Row) (leaf : ℕ) → IsDone chain files rows → leaf < 4 → bits_needed rows leaf ≤ length (leaf_bits files leaf)
+long_there : (chain : Chain) (files : Files) (rows : List Row) (leaf : ℕ) → IsDone chain files rows → leaf < leaves_of chain → bits_needed chain rows leaf ≤ length (leaf_bits files leaf)
 long_there chain files rows leaf done low = let test = done.long leaf low in let e = length-bits_of (bytes_in files (leaf_name leaf)) in grind (arith, nat_tests)
 
-pub gives : (chain : Chain) (files : Files) (rows : List Row) (line : List ℕ) (leaf n : ℕ) → IsDone chain files rows → line ≡ line_bytes chain files rows → leaf < 4 → (shape_of chain).len * n ≤ length (bits_of line) →
-    received (shape_of chain) leaf (take (n * (shape_of chain).len) (bits_of line)) ≡ take (given_back (shape_of chain) (counts_of rows leaf) n) (leaf_bits files leaf)
+-- the rows of a text are of the chain's nodes
+rows_sound : (chain : Chain) (text : List ℕ) (rows : List Row) → rows_of chain text ≡ Ok rows → All (IsRowOf (levels_of chain)) rows
+unfolding rows_of
+rows_sound chain text rows h = schedule_of_sound (levels_of chain) text rows (judged (schedule_of (levels_of chain) text) h)
+  where
+    judged : (r : Result (List Row) ScheduleFault) → rows_or_stop r ≡ Ok rows → r ≡ Ok rows
+    judged (Ok found) e = cc
+    judged (Err fault) e = absurd (cc)
+
+gives : (chain : Chain) (files : Files) (line : List ℕ) (leaf n : ℕ) → DidMux chain files → line ≡ line_bytes chain files (rows_in chain files) → leaf < leaves_of chain → top_len (shapes_of chain) * n ≤ length (bits_of line) →
+    IsPrefix (far (shapes_of chain) (take (n * top_len (shapes_of chain)) (bits_of line)) leaf) (leaf_bits files leaf)
 unfolding event_of
-gives chain files rows line leaf n done is low few =
-    let source = mux_source files rows in
-    let bits : List Bool = leaf_bits files leaf in
-    let made : bits_of line ≡ front (line_bit (shape_of chain) source) (frames_in rows * (shape_of chain).len) = ap bits_of is ∙ line_bits chain files rows done.none in
-    received-prefix_of_list (shape_of chain) source leaf (frames_in rows) n bits (bits_of line) (is_frame chain) (has_tributaries chain) (has_stores chain) (subst (λ n. leaf < n) (sym (four_tributaries chain)) low) done.none (λ k. refl)
-    (long_there chain files rows leaf done low) made (frames_there chain files rows line n done is few)
+gives chain files line leaf n did is low few =
+    let rows : List Row = rows_in chain files in
+    let there = frames_there chain files rows line n did.done is few in
+    let quiet = events_below-none_first (shapes_of chain) (counts rows) (frames_in rows) did.done.none in (
+      _,
+      ap (λ bits. far (shapes_of chain) bits leaf) (line_front chain files rows line n did.done is there)
+          ∙ far-prefix (shapes_of chain) (counts rows) (λ leaf i. slice_index_or (leaf_bits files leaf) i false) (leaf_bits files) (λ n. idle) (frames_in rows) n leaf (are_frames chain) (λ k i. refl)
+          (arrive_singly chain rows (line_len chain rows) (rows_sound chain (bytes_in files schedule_name) rows did.rows)) quiet (long_there chain files rows leaf did.done low) there (subst (λ n. leaf < n) (leaves-are chain) low),
+    )
 
 -- ---- the run
 
@@ -135,7 +162,7 @@ answer_gives_back chain a b k l status (Err stop) performs tells files line leaf
 answer_gives_back chain a b k l status (Ok done) performs tells files line leaf n told now status_is low few =
     let same : Some line ≡ Some (line_bytes chain files (rows_in chain files)) = performs.outputs files 0 told (lit< tt) (Some line) now in
     let is : line ≡ line_bytes chain files (rows_in chain files) = cc in
-    (_, gives chain files (rows_in chain files) line leaf n (mux_done chain files done (performs.cause files told)) is low few)
+    gives chain files line leaf n (mux_done chain files done (performs.cause files told)) is low few
 
 pub gives_back : (command : Option Command) (a b : ShelfState) (k l : SinkState) (status : ℕ) → Runs command a b k l status → GivesBack command a b status
 gives_back None a b k l status runs = tt

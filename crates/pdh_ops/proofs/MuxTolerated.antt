@@ -1,23 +1,32 @@
 -- Within the tolerance `mux` meets no event, and its line gives the leaves' bits back soon.
-use Rattle.std.proofs.Common.{◌≡◌, ℕ, ◌+◌, ◌*◌, ◌<◌, ◌≤◌, List, [], Bool, true, false, cond, Option, None, Some, Result, Ok, Err, length, take, refl, ap, sym, subst, ◌∙◌, inl, inr, arith, lit<, length-take}
+use Rattle.std.proofs.Common.{◌≡◌, ℕ, ◌+◌, ◌*◌, ◌<◌, ◌≤◌, List, [], Bool, true, false, cond, Option, None, Some, Result, Ok, Err, length, take, slice_index_or, refl, ap, sym, subst, ◌∙◌, inl, inr, arith, lit<}
 use Rattle.std.specs.Prelude.{find, is_none, nat_lt}
 use Rattle.std.specs.Option.{option_map_or}
 use Rattle.std.specs.Result.{result_unwrap_or}
+use Rattle.std.proofs.Math.Nat.{mul-le-mul_right}
 use Rattle.pdh_bits.specs.Bits.{bits_of}
 use Rattle.pdh_edge.specs.Files.{ShelfState, SinkState}
-use Rattle.pdh_line.specs.Receiving.{received}
-use Rattle.pdh_line.specs.Sending.{entered, given_back}
-use Rattle.pdh_line.specs.Tolerance.{IsWithin}
-use Rattle.pdh_line.proofs.EventLaws.{entered-grows}
-use Rattle.pdh_line.proofs.WithinTolerance.{no_event, received-behind}
+use Rattle.pdh_shape.specs.Frame.{idle}
+use Rattle.pdh_line.specs.Events.{Event}
+use Rattle.pdh_nesting.specs.Chains.{width, top_len}
+use Rattle.pdh_nesting.specs.Sending.{entered_below, AllWithin}
+use Rattle.pdh_nesting.specs.Receiving.{far, back_below}
+use Rattle.pdh_nesting.proofs.RoundTrip.{far-length}
+use Rattle.pdh_nesting.proofs.NoEvents.{first_event-none, scheduled-within}
+use Rattle.pdh_nesting.proofs.Delay.{delayed}
 use Rattle.pdh_clock.specs.Row.{Row}
+use Rattle.pdh_clock.specs.Contents.{counts, frame_count}
+use Rattle.pdh_clock.specs.Begun.{Shortage}
 use Rattle.pdh_clock.specs.Judged.{schedule_of}
 use Rattle.pdh_clock.specs.declared.fault.ScheduleFault.{ScheduleFault}
 use Rattle.pdh_clock.specs.declared.fault.ScheduleFault.TheVariants.{TooLong, BadRow as RowIsBad, UnknownNode as NodeIsUnknown, CountOver as CountIsOver, Memory as NoMemory}
+use Rattle.pdh_chain.specs.declared.chain.Chain.{Chain}
+use Rattle.pdh_chain.specs.Chains.{shapes_of, levels_of, leaves_of, delay_of}
+use Rattle.pdh_chain.proofs.ChainLaws.{are_frames}
 use Rattle.pdh_ops.specs.Names.{name_of, schedule_name}
 use Rattle.pdh_ops.specs.Answer.{Answer, and_then, status_of}
-use Rattle.pdh_ops.specs.Schedules.{Files, bytes_in, rows_of, rows_or_stop, rows_in, counts_of, frames_in, stop_of_fault}
-use Rattle.pdh_ops.specs.Mux.{mux_inputs, leaf_bits, bits_held, bits_needed, short_leaf, event_of, muxed, line_bytes}
+use Rattle.pdh_ops.specs.Schedules.{Files, bytes_in, rows_of, rows_or_stop, rows_in, frames_in, stop_of_fault}
+use Rattle.pdh_ops.specs.Mux.{mux_inputs, line_len, short_node, stop_of_shortage, leaf_bits, bits_held, bits_needed, short_leaf, event_of, stop_of_event, muxed, line_bytes}
 use Rattle.pdh_ops.specs.Commands.{AreTold, comes_to}
 use Rattle.pdh_ops.specs.Run.{IsCause, Performs, IsTold, Runs}
 use Rattle.pdh_ops.specs.Tolerated.{AreWithin, HasNoEvent, IsDelayed}
@@ -27,17 +36,22 @@ use Rattle.pdh_ops.specs.declared.file.File.{File}
 use Rattle.pdh_ops.specs.declared.file.File.TheVariants.{Leaf}
 use Rattle.pdh_ops.specs.declared.answer.Done.TheVariants.{Muxed}
 use Rattle.pdh_ops.specs.declared.answer.Stop.{Stop}
-use Rattle.pdh_ops.specs.declared.answer.Stop.TheVariants.{Memory, Usage, Read, Write, Missing, LongSchedule, BadRow, UnknownNode, CountOver, Short, Overflow, Underflow, ManyFrames, NoAlignment}
-use Rattle.pdh_ops.proofs.MuxGivesBack.{IsDone, mux_done, frames_there, long_there, gives, stop_status}
-use Rattle.pdh_chain.specs.declared.chain.Chain.{Chain}
-use Rattle.pdh_chain.specs.Chains.{shape_of, levels_of, delay_of}
-use Rattle.pdh_chain.proofs.ChainLaws.{is_frame, has_tributaries, reads_evenly, has_stores, four_tributaries}
+use Rattle.pdh_ops.specs.declared.answer.Stop.TheVariants.{Memory, Usage, Read, Write, Missing, LongSchedule, BadRow, UnknownNode, CountOver, ShortNode, Short, Overflow, Underflow, ManyFrames, NoAlignment}
+use Rattle.pdh_ops.proofs.Levels.{leaves-are, have_stores, all_scheduled, scheduled-fewer}
+use Rattle.pdh_ops.proofs.MuxGivesBack.{DidMux, mux_done, frames_there, line_front, stop_status}
 
 -- ---- no event
 
-within_none : (chain : Chain) (files : Files) → AreWithin chain files → event_of chain (rows_in chain files) ≡ None
+-- where no node is short, each tributary is within the tolerance over the frames that its node begins
+all_within : (chain : Chain) (files : Files) → short_node chain (rows_in chain files) ≡ None → AreWithin chain files
+    → AllWithin (shapes_of chain) (counts (rows_in chain files)) [] (line_len chain (rows_in chain files))
+all_within chain files none within =
+    scheduled-within (shapes_of chain) (counts (rows_in chain files)) (frame_count (rows_in chain files)) [] (line_len chain (rows_in chain files)) (all_scheduled chain (rows_in chain files) none) within
+
+within_none : (chain : Chain) (files : Files) → short_node chain (rows_in chain files) ≡ None → AreWithin chain files → event_of chain (rows_in chain files) ≡ None
 unfolding event_of
-within_none chain files within = no_event (shape_of chain) (counts_of (rows_in chain files)) (frames_in (rows_in chain files)) (is_frame chain) (has_tributaries chain) (reads_evenly chain) (λ stores j known. within j (subst (λ n. j < n) (four_tributaries chain) known))
+within_none chain files none within =
+    first_event-none (shapes_of chain) (counts (rows_in chain files)) (frames_in (rows_in chain files)) (are_frames chain) (have_stores chain) (all_within chain files none within)
 
 -- an answer that names an event
 abbrev names_event : Answer → Bool
@@ -45,18 +59,22 @@ names_event (Err (Overflow place)) = true
 names_event (Err (Underflow place)) = true
 names_event answer = false
 
-muxed_none : (chain : Chain) (files : Files) (rows : List Row) → event_of chain rows ≡ None → names_event (muxed chain files rows) ≡ false
-muxed_none chain files rows none = rw none (go (nat_lt 16384 (frames_in rows)) (short_leaf files rows))
+muxed_none : (chain : Chain) (files : Files) (rows : List Row) → (short_node chain rows ≡ None → event_of chain rows ≡ None) → names_event (muxed chain files rows) ≡ false
+muxed_none chain files rows none = go (nat_lt 16384 (frames_in rows)) (short_node chain rows) (short_leaf chain files rows) (event_of chain rows) none
   where
-    go : (many : Bool) (short : Option ℕ) →
-        names_event (cond many (Err (ManyFrames (frames_in rows))) (option_map_or (λ leaf. Err (Short (Leaf leaf) (bits_held files leaf) (bits_needed rows leaf))) short (Ok (Muxed chain (frames_in rows))))) ≡ false
-    go true short = refl
-    go false (Some leaf) = refl
-    go false None = refl
+    go : (many : Bool) (node : Option Shortage) (short : Option ℕ) (event : Option Event) → (node ≡ None → event ≡ None) →
+        names_event (cond many (Err (ManyFrames (frames_in rows)))
+        (option_map_or (λ short. Err (stop_of_shortage short)) node
+        (option_map_or (λ leaf. Err (Short (Leaf leaf) (bits_held files leaf) (bits_needed chain rows leaf))) short (option_map_or (λ event. Err (stop_of_event event)) event (Ok (Muxed chain (frames_in rows))))))) ≡ false
+    go true node short event none = refl
+    go false (Some node) short event none = refl
+    go false None (Some leaf) event none = refl
+    go false None None (Some event) none = absurd (let wrong : Some event ≡ None = none refl in cc)
+    go false None None None none = refl
 
-comes_none : (chain : Chain) (files : Files) → event_of chain (rows_in chain files) ≡ None → names_event (comes_to (Mux chain) files) ≡ false
+comes_none : (chain : Chain) (files : Files) → (short_node chain (rows_in chain files) ≡ None → event_of chain (rows_in chain files) ≡ None) → names_event (comes_to (Mux chain) files) ≡ false
 unfolding rows_of
-comes_none chain files none = by_held (find (λ file. is_none (files (name_of file))) mux_inputs)
+comes_none chain files none = by_held (find (λ file. is_none (files (name_of file))) (mux_inputs chain))
   where
     by_fault : (fault : ScheduleFault) → names_event (Err (stop_of_fault fault)) ≡ false
     by_fault (TooLong len) = refl
@@ -65,7 +83,8 @@ comes_none chain files none = by_held (find (λ file. is_none (files (name_of fi
     by_fault (CountIsOver line count most) = refl
     by_fault NoMemory = refl
 
-    by_rows : (r : Result (List Row) ScheduleFault) → event_of chain (result_unwrap_or (rows_or_stop r) []) ≡ None → names_event (and_then (rows_or_stop r) (muxed chain files)) ≡ false
+    by_rows : (r : Result (List Row) ScheduleFault) → (short_node chain (result_unwrap_or (rows_or_stop r) []) ≡ None → event_of chain (result_unwrap_or (rows_or_stop r) []) ≡ None)
+        → names_event (and_then (rows_or_stop r) (muxed chain files)) ≡ false
     by_rows (Ok rows) e = muxed_none chain files rows e
     by_rows (Err fault) e = by_fault fault
 
@@ -86,6 +105,7 @@ no_eight chain a b LongSchedule files eight cause told none = absurd (omega arit
 no_eight chain a b (BadRow l) files eight cause told none = absurd (omega arith)
 no_eight chain a b (UnknownNode l) files eight cause told none = absurd (omega arith)
 no_eight chain a b (CountOver l n m) files eight cause told none = absurd (omega arith)
+no_eight chain a b (ShortNode p h n) files eight cause told none = absurd (omega arith)
 no_eight chain a b (Short f h n) files eight cause told none = absurd (omega arith)
 no_eight chain a b (ManyFrames n) files eight cause told none = absurd (omega arith)
 no_eight chain a b (NoAlignment n) files eight cause told none = absurd (omega arith)
@@ -93,7 +113,7 @@ no_eight chain a b (NoAlignment n) files eight cause told none = absurd (omega a
 answer_no_event : (chain : Chain) (a b : ShelfState) (k l : SinkState) (status : ℕ) (answer : Answer) → Performs (Mux chain) a b answer → IsTold answer k l status → HasNoEvent (Some (Mux chain)) a status
 answer_no_event chain a b k l status (Ok done) performs tells files told within eight = elim tells [ inl sent ↦ absurd (omega (arith, sent.0, eight)) | inr failed ↦ absurd (omega (arith, failed.0, eight)) ]
 answer_no_event chain a b k l status (Err stop) performs tells files told within eight =
-    no_eight chain a b stop files (sym tells.0 ∙ eight) performs.cause told (comes_none chain files (within_none chain files within))
+    no_eight chain a b stop files (sym tells.0 ∙ eight) performs.cause told (comes_none chain files (λ none. within_none chain files none within))
 
 pub has_no_event : (command : Option Command) (a b : ShelfState) (k l : SinkState) (status : ℕ) → Runs command a b k l status → HasNoEvent command a status
 has_no_event None a b k l status runs = tt
@@ -104,21 +124,28 @@ has_no_event (Some (Mux chain)) a b k l status runs = answer_no_event chain a b 
 
 -- ---- the delay
 
-behind : (chain : Chain) (files : Files) (rows : List Row) (line : List ℕ) (leaf n : ℕ) → IsDone chain files rows → line ≡ line_bytes chain files rows → leaf < 4 → (shape_of chain).len * n ≤ length (bits_of line) →
-    IsWithin (shape_of chain) (counts_of rows leaf) (frames_in rows) → entered (counts_of rows leaf) n ≤ length (received (shape_of chain) leaf (take (n * (shape_of chain).len) (bits_of line))) + delay_of chain
-behind chain files rows line leaf n done is low few within =
-    let counts = counts_of rows leaf in
-    let bits : List Bool = leaf_bits files leaf in
-    let all : n ≤ frames_in rows = frames_there chain files rows line n done is few in
-    let got : length (received (shape_of chain) leaf (take (n * (shape_of chain).len) (bits_of line))) ≡ length (take (given_back (shape_of chain) counts n) bits) = ap length (gives chain files rows line leaf n done is low few) in
-    omega (arith, got, length-take (given_back (shape_of chain) counts n) bits, received-behind (shape_of chain) counts (frames_in rows) n (has_stores chain) within all, entered-grows counts n (frames_in rows) all, long_there chain files rows leaf done low)
+-- a receiver of the first n frames has of each leaf as many bits as come back, and these are all that entered but the delay
+behind : (chain : Chain) (files : Files) (line : List ℕ) (leaf n : ℕ) → DidMux chain files → line ≡ line_bytes chain files (rows_in chain files) → leaf < leaves_of chain → top_len (shapes_of chain) * n ≤ length (bits_of line) → AreWithin chain files
+    → entered_below (shapes_of chain) (counts (rows_in chain files)) [] (n * top_len (shapes_of chain)) leaf
+    ≤ length (far (shapes_of chain) (take (n * top_len (shapes_of chain)) (bits_of line)) leaf) + delay_of chain
+behind chain files line leaf n did is low few within =
+    let rows : List Row = rows_in chain files in
+    let x : ℕ = n * top_len (shapes_of chain) in
+    let known : leaf < width (shapes_of chain) = subst (λ n. leaf < n) (leaves-are chain) low in
+    let there = frames_there chain files rows line n did.done is few in
+    let got : length (far (shapes_of chain) (take x (bits_of line)) leaf) ≡ back_below (shapes_of chain) (counts rows) [] x leaf =
+    ap (λ bits. length (far (shapes_of chain) bits leaf)) (line_front chain files rows line n did.done is there)
+    ∙ far-length (shapes_of chain) (counts rows) (λ leaf i. slice_index_or (leaf_bits files leaf) i false) (λ n. idle) [] 0 x leaf (are_frames chain) known in
+    let scheduled = scheduled-fewer (shapes_of chain) (counts rows) (frame_count rows) [] x (line_len chain rows) (are_frames chain) (mul-le-mul_right (top_len (shapes_of chain)) there) (all_scheduled chain rows did.done.scheduled) in
+    let short = delayed (shapes_of chain) (counts rows) n leaf (are_frames chain) (have_stores chain) (scheduled-within (shapes_of chain) (counts rows) (frame_count rows) [] x scheduled within) known in
+    subst (λ k. entered_below (shapes_of chain) (counts rows) [] x leaf ≤ k + delay_of chain) (sym got) short
 
 answer_delayed : (chain : Chain) (a b : ShelfState) (k l : SinkState) (status : ℕ) (answer : Answer) → Performs (Mux chain) a b answer → IsTold answer k l status → IsDelayed (Some (Mux chain)) a b status
 answer_delayed chain a b k l status (Err stop) performs tells files line leaf n told within now status_is low few = absurd (omega (arith, tells.0, stop_status stop))
 answer_delayed chain a b k l status (Ok done) performs tells files line leaf n told within now status_is low few =
     let same : Some line ≡ Some (line_bytes chain files (rows_in chain files)) = performs.outputs files 0 told (lit< tt) (Some line) now in
     let is : line ≡ line_bytes chain files (rows_in chain files) = cc in
-    behind chain files (rows_in chain files) line leaf n (mux_done chain files done (performs.cause files told)) is low few (within leaf low)
+    behind chain files line leaf n (mux_done chain files done (performs.cause files told)) is low few within
 
 pub is_delayed : (command : Option Command) (a b : ShelfState) (k l : SinkState) (status : ℕ) → Runs command a b k l status → IsDelayed command a b status
 is_delayed None a b k l status runs = tt

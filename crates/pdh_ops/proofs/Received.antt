@@ -7,14 +7,14 @@ use Rattle.std.proofs.lemmas.List.{length-replicate}
 use Rattle.pdh_bits.specs.Bits.{bits_of, bytes_of}
 use Rattle.pdh_edge.specs.Ports.{Inputs, Outputs, before, after}
 use Rattle.pdh_edge.specs.MemLists.{inputs_of, outputs_of}
-use Rattle.pdh_line.specs.Tracking.{frames_delivered}
-use Rattle.pdh_line.specs.Receiving.{received}
+use Rattle.pdh_nesting.specs.Chains.{width}
+use Rattle.pdh_nesting.specs.Receiving.{far}
 use Rattle.pdh_chain.specs.declared.chain.Chain.{Chain}
-use Rattle.pdh_chain.specs.Chains.{shape_of}
-use Rattle.pdh_chain.specs.Demuxes.{Demuxes, received_of}
-use Rattle.pdh_chain.proofs.ChainLaws.{four_tributaries}
-use Rattle.pdh_ops.specs.Demux.{output_with}
+use Rattle.pdh_chain.specs.Chains.{shapes_of, leaves_of}
+use Rattle.pdh_chain.specs.Demuxes.{Demuxes, received_of, top_delivered}
+use Rattle.pdh_ops.specs.Demux.{output_of}
 use Rattle.pdh_ops.specs.Steps.{AreBytes, IsReceived}
+use Rattle.pdh_ops.proofs.Levels.{leaves-are}
 use Rattle.pdh_ops.specs.declared.demux.Received.{Received}
 
 -- ---- empty lists
@@ -40,28 +40,28 @@ all_given (Some rest) given bits told long =
     sym front ∙ ap (λ n. take n bits) long ∙ take-length bits
 
 -- what was put to a leaf's list
-list_put : (chain : Chain) (given : List Bool) (k : ℕ) (outputs outputs_now : Outputs) → k < 4 → outputs.told k ≡ Some [] → outputs_now.told k ≡ after (received_of (shape_of chain) given k) (outputs.told k) →
-    outputs_now.told k ≡ Some (received (shape_of chain) k given)
+list_put : (chain : Chain) (given : List Bool) (k : ℕ) (outputs outputs_now : Outputs) → k < leaves_of chain → outputs.told k ≡ Some [] → outputs_now.told k ≡ after (received_of (shapes_of chain) given k) (outputs.told k) →
+    outputs_now.told k ≡ Some (far (shapes_of chain) given k)
 list_put chain given k outputs outputs_now low empty put =
-    let known : nat_lt k (shape_of chain).tribs ≡ true = ap (nat_lt k) (four_tributaries chain) ∙ lt-ltb k 4 low in
-    let bits : received_of (shape_of chain) given k ≡ received (shape_of chain) k given = rw known refl in
-    put ∙ ap (after (received_of (shape_of chain) given k)) empty ∙ ap Some bits
+    let known : nat_lt k (width (shapes_of chain)) ≡ true = ap (nat_lt k) (sym (leaves-are chain)) ∙ lt-ltb k (leaves_of chain) low in
+    let bits : received_of (shapes_of chain) given k ≡ far (shapes_of chain) given k = rw known refl in
+    put ∙ ap (after (received_of (shapes_of chain) given k)) empty ∙ ap Some bits
 
 -- a line that was taken apart whole, and the bytes of what was put
-pub is_received : (chain : Chain) (line : List ℕ) (bits : List Bool) (count leaves : ℕ) (inputs inputs_now : Inputs) (outputs outputs_now : Outputs) (result : Received) → bits ≡ bits_of line → count ≡ length bits → leaves ≡ 4 →
-    inputs ≡ inputs_of (bits ∷ []) → outputs ≡ outputs_of (replicate leaves []) → Demuxes (shape_of chain) count result.frames inputs inputs_now outputs outputs_now → AreBytes outputs_now leaves result.outputs.items → IsReceived chain line result
-unfolding output_with
-is_received chain line bits count leaves inputs inputs_now outputs outputs_now result made long four inputs_are outputs_are demuxes bytes =
+pub is_received : (chain : Chain) (line : List ℕ) (bits : List Bool) (count leaves : ℕ) (inputs inputs_now : Inputs) (outputs outputs_now : Outputs) (result : Received) → bits ≡ bits_of line → count ≡ length bits → leaves ≡ leaves_of chain →
+    inputs ≡ inputs_of (bits ∷ []) → outputs ≡ outputs_of (replicate leaves []) → Demuxes (shapes_of chain) count result.frames inputs inputs_now outputs outputs_now → AreBytes outputs_now leaves result.outputs.items → IsReceived chain line result
+unfolding output_of
+is_received chain line bits count leaves inputs inputs_now outputs outputs_now result made long all inputs_are outputs_are demuxes bytes =
     let told : Some bits ≡ before demuxes.given (inputs_now.told 0) = sym (ap (λ (i : Inputs). i.told 0) inputs_are) ∙ demuxes.line.takes.bits 0 in
     let same : demuxes.given ≡ bits_of line = all_given (inputs_now.told 0) demuxes.given bits told (demuxes.count ∙ long) ∙ made in
     record {
       outputs = record {
-        count = bytes.count ∙ four;
+        count = bytes.count ∙ all;
         each = λ leaf d low.
-            let known : leaf < leaves = subst (λ n. leaf < n) (sym four) low in
+            let known : leaf < leaves = subst (λ n. leaf < n) (sym all) low in
             let empty : outputs.told leaf ≡ Some [] = ap (λ (o : Outputs). o.told leaf) outputs_are ∙ empty_list leaves leaf known in
-            bytes.each leaf d (received (shape_of chain) leaf demuxes.given) known (list_put chain demuxes.given leaf outputs outputs_now low empty (demuxes.line.puts leaf))
-            ∙ ap (λ (b : List Bool). bytes_of (received (shape_of chain) leaf b)) same;
+            bytes.each leaf d (far (shapes_of chain) demuxes.given leaf) known (list_put chain demuxes.given leaf outputs outputs_now low empty (demuxes.line.puts leaf))
+            ∙ ap (λ (b : List Bool). bytes_of (far (shapes_of chain) b leaf)) same;
       };
-      frames_are = demuxes.frames_are ∙ ap (frames_delivered (shape_of chain)) same;
+      frames_are = demuxes.frames_are ∙ ap (top_delivered (shapes_of chain)) same;
     }

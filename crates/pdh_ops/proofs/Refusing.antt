@@ -10,7 +10,7 @@ use Rattle.pdh_ops.specs.Run.{Comes, Performs}
 use Rattle.pdh_ops.specs.Refusing.{Refuses}
 use Rattle.pdh_ops.specs.declared.file.File.{File}
 use Rattle.pdh_ops.specs.declared.answer.Stop.{Stop}
-use Rattle.pdh_ops.specs.declared.answer.Stop.TheVariants.{Memory, Usage, Read, Write, Missing, LongSchedule, BadRow, UnknownNode, CountOver, Short, Overflow, Underflow, ManyFrames, NoAlignment}
+use Rattle.pdh_ops.specs.declared.answer.Stop.TheVariants.{Memory, Usage, Read, Write, Missing, LongSchedule, BadRow, UnknownNode, CountOver, ShortNode, Short, Overflow, Underflow, ManyFrames, NoAlignment}
 use Rattle.pdh_ops.proofs.Causes.{looks_others}
 
 comes_before : (command : Command) (a b : ShelfState) (answer : Answer) → Looks a b → Comes command b answer → Comes command a answer
@@ -29,6 +29,7 @@ refuses_since command a b c LongSchedule looks cause = comes_before command a b 
 refuses_since command a b c (BadRow l) looks cause = comes_before command a b _ looks cause
 refuses_since command a b c (UnknownNode l) looks cause = comes_before command a b _ looks cause
 refuses_since command a b c (CountOver l n m) looks cause = comes_before command a b _ looks cause
+refuses_since command a b c (ShortNode p h n) looks cause = comes_before command a b _ looks cause
 refuses_since command a b c (Short f h n) looks cause = comes_before command a b _ looks cause
 refuses_since command a b c (Overflow p) looks cause = absurd cause
 refuses_since command a b c (Underflow p) looks cause = absurd cause
@@ -46,6 +47,7 @@ refuses_performs command a b LongSchedule looks cause = record { cause = cause; 
 refuses_performs command a b (BadRow l) looks cause = record { cause = cause; outputs = looks.told; others = looks_others (IsOutput command) a b looks }
 refuses_performs command a b (UnknownNode l) looks cause = record { cause = cause; outputs = looks.told; others = looks_others (IsOutput command) a b looks }
 refuses_performs command a b (CountOver l n m) looks cause = record { cause = cause; outputs = looks.told; others = looks_others (IsOutput command) a b looks }
+refuses_performs command a b (ShortNode p h n) looks cause = record { cause = cause; outputs = looks.told; others = looks_others (IsOutput command) a b looks }
 refuses_performs command a b (Short f h n) looks cause = record { cause = cause; outputs = looks.told; others = looks_others (IsOutput command) a b looks }
 refuses_performs command a b (Overflow p) looks cause = absurd cause
 refuses_performs command a b (Underflow p) looks cause = absurd cause
@@ -65,6 +67,7 @@ size_stop file a b LongSchedule cause = absurd cause
 size_stop file a b (BadRow l) cause = absurd cause
 size_stop file a b (UnknownNode l) cause = absurd cause
 size_stop file a b (CountOver l n m) cause = absurd cause
+size_stop file a b (ShortNode p h n) cause = absurd cause
 size_stop file a b (Short f h n) cause = absurd cause
 size_stop file a b (Overflow p) cause = absurd cause
 size_stop file a b (Underflow p) cause = absurd cause
@@ -81,6 +84,7 @@ read_refuses command file a b LongSchedule cause = absurd cause
 read_refuses command file a b (BadRow l) cause = absurd cause
 read_refuses command file a b (UnknownNode l) cause = absurd cause
 read_refuses command file a b (CountOver l n m) cause = absurd cause
+read_refuses command file a b (ShortNode p h n) cause = absurd cause
 read_refuses command file a b (Short f h n) cause = absurd cause
 read_refuses command file a b (Overflow p) cause = absurd cause
 read_refuses command file a b (Underflow p) cause = absurd cause

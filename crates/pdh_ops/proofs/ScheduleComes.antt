@@ -19,7 +19,7 @@ use Rattle.pdh_ops.specs.Refusing.{Refuses}
 use Rattle.pdh_ops.specs.ScheduleSteps.{RowsAre, IsScheduleStop}
 use Rattle.pdh_ops.specs.declared.file.File.TheVariants.{Schedule}
 use Rattle.pdh_ops.specs.declared.answer.Stop.{Stop}
-use Rattle.pdh_ops.specs.declared.answer.Stop.TheVariants.{Memory, Usage, Read, Write, Missing, LongSchedule, BadRow, UnknownNode, CountOver, Short, Overflow, Underflow, ManyFrames, NoAlignment}
+use Rattle.pdh_ops.specs.declared.answer.Stop.TheVariants.{Memory, Usage, Read, Write, Missing, LongSchedule, BadRow, UnknownNode, CountOver, ShortNode, Short, Overflow, Underflow, ManyFrames, NoAlignment}
 use Rattle.pdh_chain.specs.declared.chain.Chain.{Chain}
 use Rattle.pdh_chain.specs.Chains.{levels_of}
 
@@ -45,6 +45,7 @@ read_stops chain a b LongSchedule cause = absurd cause
 read_stops chain a b (BadRow l) cause = absurd cause
 read_stops chain a b (UnknownNode l) cause = absurd cause
 read_stops chain a b (CountOver l n m) cause = absurd cause
+read_stops chain a b (ShortNode p h n) cause = absurd cause
 read_stops chain a b (Short f h n) cause = absurd cause
 read_stops chain a b (Overflow p) cause = absurd cause
 read_stops chain a b (Underflow p) cause = absurd cause
@@ -99,6 +100,7 @@ schedule_refuses chain command next a b (CountOver l n m) begins cause = comes c
 schedule_refuses chain command next a b (Missing f) begins cause = absurd cause
 schedule_refuses chain command next a b Usage begins cause = absurd cause
 schedule_refuses chain command next a b (Write f) begins cause = absurd cause
+schedule_refuses chain command next a b (ShortNode p h n) begins cause = absurd cause
 schedule_refuses chain command next a b (Short f h n) begins cause = absurd cause
 schedule_refuses chain command next a b (Overflow p) begins cause = absurd cause
 schedule_refuses chain command next a b (Underflow p) begins cause = absurd cause

@@ -8,7 +8,7 @@ use Rattle.pdh_ops.specs.declared.answer.Done.{Done}
 use Rattle.pdh_ops.specs.declared.answer.Done.TheVariants.{Demuxed, Muxed, ClockInside, ClockOutside, ClockMade}
 use Rattle.pdh_ops.specs.declared.answer.OutOfTolerance.{OutOfTolerance}
 use Rattle.pdh_ops.specs.declared.answer.Stop.{Stop}
-use Rattle.pdh_ops.specs.declared.answer.Stop.TheVariants.{Memory, Usage, Read, Write, Missing, LongSchedule, BadRow, UnknownNode, CountOver, Short, Overflow, Underflow, ManyFrames, NoAlignment}
+use Rattle.pdh_ops.specs.declared.answer.Stop.TheVariants.{Memory, Usage, Read, Write, Missing, LongSchedule, BadRow, UnknownNode, CountOver, ShortNode, Short, Overflow, Underflow, ManyFrames, NoAlignment}
 
 -- what was done, or why not
 abbrev pub Answer : Type 0
@@ -29,6 +29,7 @@ status_of LongSchedule = 6
 status_of (BadRow line) = 6
 status_of (UnknownNode line) = 6
 status_of (CountOver line count most) = 6
+status_of (ShortNode node have need) = 7
 status_of (Short file have need) = 7
 status_of (Overflow place) = 8
 status_of (Underflow place) = 8
@@ -63,6 +64,7 @@ stop_text LongSchedule = codes "schedule: too long\n"
 stop_text (BadRow line) = codes "schedule: line " ++ decimal line ++ codes ": bad row\n"
 stop_text (UnknownNode line) = codes "schedule: line " ++ decimal line ++ codes ": unknown node\n"
 stop_text (CountOver line count most) = codes "schedule: line " ++ decimal line ++ codes ": count " ++ decimal count ++ codes " over " ++ decimal most ++ codes "\n"
+stop_text (ShortNode node have need) = codes "short: " ++ path_text node ++ codes ": have " ++ decimal have ++ codes " frames, need " ++ decimal need ++ codes "\n"
 stop_text (Short file have need) = codes "short: " ++ name_of file ++ codes ": have " ++ decimal have ++ codes " bits, need " ++ decimal need ++ codes "\n"
 stop_text (Overflow place) = codes "overflow: " ++ place_text place ++ codes "\n"
 stop_text (Underflow place) = codes "underflow: " ++ place_text place ++ codes "\n"

@@ -3,6 +3,7 @@
 use Rattle.std.specs.Prelude.{◌≡◌, ℕ, zero, suc, ◌<◌, List, [], Ok}
 use Rattle.pdh_edge.specs.Files.{Told}
 use Rattle.pdh_edge.specs.Files.Told.{Known}
+use Rattle.pdh_chain.specs.Chains.{leaves_of}
 use Rattle.pdh_ops.specs.Names.{line_name, schedule_name, leaf_name, output_name}
 use Rattle.pdh_ops.specs.Answer.{Answer, and_then}
 use Rattle.pdh_ops.specs.Demux.{line_of, demuxed, output_of}
@@ -25,13 +26,13 @@ mux_input (suc leaf) = leaf_name leaf
 -- what a command reads
 abbrev pub inputs : Command → Names
 inputs (Demux chain) = record { count = 1; name = λ _. line_name }
-inputs (Mux chain) = record { count = 5; name = mux_input }
+inputs (Mux chain) = record { count = suc (leaves_of chain); name = mux_input }
 inputs (ClockCheck chain) = record { count = 1; name = λ _. schedule_name }
 inputs (ClockMake chain frames bias) = record { count = 0; name = λ _. schedule_name }
 
 -- what it writes, in the order in which it starts them
 abbrev pub outputs : Command → Names
-outputs (Demux chain) = record { count = 4; name = output_name }
+outputs (Demux chain) = record { count = leaves_of chain; name = output_name }
 outputs (Mux chain) = record { count = 1; name = λ _. line_name }
 outputs (ClockCheck chain) = record { count = 0; name = λ _. schedule_name }
 outputs (ClockMake chain frames bias) = record { count = 1; name = λ _. schedule_name }
@@ -46,7 +47,7 @@ output_bytes (ClockMake chain frames bias) files _ = made_text chain frames bias
 -- its work, or the first refusal in the order of its steps, where no memory is wanting and no device fails
 abbrev pub comes_to : Command → Files → Answer
 comes_to (Demux chain) files = and_then (line_of chain (files line_name)) (demuxed chain)
-comes_to (Mux chain) files = and_then (all_held mux_inputs files) (λ _. and_then (rows_of chain (bytes_in files schedule_name)) (muxed chain files))
+comes_to (Mux chain) files = and_then (all_held (mux_inputs chain) files) (λ _. and_then (rows_of chain (bytes_in files schedule_name)) (muxed chain files))
 comes_to (ClockCheck chain) files = and_then (all_held check_inputs files) (λ _. and_then (rows_of chain (bytes_in files schedule_name)) (λ rows. Ok (checked chain rows)))
 comes_to (ClockMake chain frames bias) files = clock_made chain frames bias
 

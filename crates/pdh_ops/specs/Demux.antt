@@ -1,11 +1,10 @@
 -- What `demux` comes to, and what its outputs hold.
 use Rattle.std.specs.Prelude.{ℕ, ◌*◌, ◌/◌, ◌==◌, nat_lt, List, Option, Some, None, Result, Ok, Err, length, if◌then◌else◌}
 use Rattle.pdh_bits.specs.Bits.{bits_of, bytes_of}
-use Rattle.pdh_shape.specs.Frame.{FrameShape}
-use Rattle.pdh_chain.specs.Chains.{shape_of, frame_bytes_of}
+use Rattle.pdh_chain.specs.Chains.{shapes_of, frame_bytes_of}
+use Rattle.pdh_chain.specs.Demuxes.{top_delivered}
 use Rattle.pdh_chain.specs.declared.chain.Chain.{Chain}
-use Rattle.pdh_line.specs.Tracking.{frames_delivered}
-use Rattle.pdh_line.specs.Receiving.{received}
+use Rattle.pdh_nesting.specs.Receiving.{far}
 use Rattle.pdh_ops.specs.Answer.{Answer}
 use Rattle.pdh_ops.specs.declared.file.File.TheVariants.{Line}
 use Rattle.pdh_ops.specs.declared.answer.Done.TheVariants.{Demuxed}
@@ -21,17 +20,14 @@ abbrev pub line_of : Chain → Option (List ℕ) → Result (List ℕ) Stop
 line_of chain None = Err (Missing Line)
 line_of chain (Some line) = (if nat_lt 16384 (frames_of chain line) then Err (ManyFrames (frames_of chain line)) else Ok line)
 
--- how many frames of the line are delivered
+-- how many frames of the line are delivered at the top
 abbrev pub frames_received : Chain → List ℕ → ℕ
-frames_received chain line = frames_delivered (shape_of chain) (bits_of line)
+frames_received chain line = top_delivered (shapes_of chain) (bits_of line)
 
 -- how many frames of the line are delivered; or none is, and then how many bits the line has
 unfoldable pub demuxed : Chain → List ℕ → Answer
 demuxed chain line = (if frames_received chain line == 0 then Err (NoAlignment (8 * length line)) else Ok (Demuxed chain (frames_received chain line)))
 
--- what a leaf's output holds: the whole bytes of the received line of its tributary
-unfoldable pub output_with : FrameShape → List ℕ → ℕ → List ℕ
-output_with s line leaf = bytes_of (received s leaf (bits_of line))
-
-abbrev pub output_of : Chain → List ℕ → ℕ → List ℕ
-output_of chain = output_with (shape_of chain)
+-- what a leaf's output holds: the whole bytes of what the leaf receives of the line
+unfoldable pub output_of : Chain → List ℕ → ℕ → List ℕ
+output_of chain line leaf = bytes_of (far (shapes_of chain) (bits_of line) leaf)

@@ -3,8 +3,9 @@ use Rattle.std.specs.Prelude.{◌≡◌, ℕ, ◌*◌, ◌<◌, ◌≤◌, List,
 use Rattle.pdh_bits.specs.Bits.{bits_of}
 use Rattle.pdh_edge.specs.Files.{ShelfState}
 use Rattle.pdh_edge.specs.Files.Told.{Known}
-use Rattle.pdh_chain.specs.Chains.{shape_of}
-use Rattle.pdh_line.specs.Receiving.{received}
+use Rattle.pdh_nesting.specs.Chains.{top_len}
+use Rattle.pdh_nesting.specs.Receiving.{far}
+use Rattle.pdh_chain.specs.Chains.{shapes_of, leaves_of}
 use Rattle.pdh_ops.specs.Names.{line_name}
 use Rattle.pdh_ops.specs.Schedules.{Files}
 use Rattle.pdh_ops.specs.Mux.{leaf_bits}
@@ -21,5 +22,6 @@ IsPrefix front bits = (m : ℕ) × (front ≡ take m bits)
 abbrev pub GivesBack : Option Command → ShelfState → ShelfState → ℕ → Type 0
 GivesBack (Some (Mux chain)) old new status =
     (files : Files) (line : List ℕ) (leaf n : ℕ) → AreTold (Mux chain) old.told files → new.told line_name ≡ Known (Some line) → status ≡ 0
-    → leaf < 4 → (shape_of chain).len * n ≤ length (bits_of line) → IsPrefix (received (shape_of chain) leaf (take (n * (shape_of chain).len) (bits_of line))) (leaf_bits files leaf)
+    → leaf < leaves_of chain → top_len (shapes_of chain) * n ≤ length (bits_of line)
+    → IsPrefix (far (shapes_of chain) (take (n * top_len (shapes_of chain)) (bits_of line)) leaf) (leaf_bits files leaf)
 GivesBack _ old new status = ⊤

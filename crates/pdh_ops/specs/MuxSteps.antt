@@ -1,72 +1,83 @@
 -- The steps of `mux`: what each finds, and why it stops.
 use Rattle.std.specs.Prelude.{◌≡◌, ℕ, ◌*◌, ◌<◌, ◌≤◌, List, Bool, Option, Some, None, Ok, length, Vec, slice_index, slice_index_or}
+use Rattle.std.specs.Option.{option_map}
 use Rattle.std.specs.declared.alloc.Global.{Global}
 use Rattle.pdh_bits.specs.Bits.{bytes_of}
 use Rattle.pdh_edge.specs.Files.{ShelfState}
-use Rattle.pdh_chain.specs.Chains.{shape_of}
+use Rattle.pdh_shape.specs.declared.place.Path.{Path}
+use Rattle.pdh_chain.specs.Chains.{shapes_of, leaves_of}
 use Rattle.pdh_chain.specs.declared.chain.Chain.{Chain}
 use Rattle.pdh_line.specs.Events.{Event}
 use Rattle.pdh_chain.specs.Muxes.{frames_of_line}
 use Rattle.pdh_clock.specs.Row.{Row}
+use Rattle.pdh_clock.specs.Contents.{counts}
 use Rattle.pdh_ops.specs.Names.{schedule_name, leaf_name}
 use Rattle.pdh_ops.specs.Reading.{HasLength}
-use Rattle.pdh_ops.specs.Schedules.{Files, bytes_in, rows_of, counts_of, frames_in}
-use Rattle.pdh_ops.specs.Mux.{mux_inputs, all_held, leaf_bits, bits_needed, event_of, frames_made, stop_of_event}
+use Rattle.pdh_ops.specs.Schedules.{Files, bytes_in, rows_of, frames_in}
+use Rattle.pdh_ops.specs.Mux.{mux_inputs, all_held, leaf_bits, short_node, stop_of_shortage, bits_needed, event_of, frames_made, stop_of_event}
 use Rattle.pdh_ops.specs.Commands.{AreTold}
 use Rattle.pdh_words.specs.declared.commands.Command.TheVariants.{Mux}
 use Rattle.pdh_ops.specs.declared.file.File.TheVariants.{Leaf}
 use Rattle.pdh_ops.specs.declared.mux.InputSizes.{InputSizes}
 use Rattle.pdh_ops.specs.declared.mux.Made.{Made}
 use Rattle.pdh_ops.specs.declared.answer.Stop.{Stop}
-use Rattle.pdh_ops.specs.declared.answer.Stop.TheVariants.{Short, ManyFrames}
+use Rattle.pdh_ops.specs.declared.answer.Stop.TheVariants.{ShortNode, Short, ManyFrames}
 
 -- where the inputs of `mux` are told, this holds of them
 abbrev pub OfInputs : Chain → ShelfState → (Files → Type 0) → Type 0
 OfInputs chain state P = (files : Files) → AreTold (Mux chain) state.told files → P files
 
 -- the sizes of the inputs
-pub record AreSizes (sizes : InputSizes) (state : ShelfState) : Type 0 where
+pub record AreSizes (chain : Chain) (sizes : InputSizes) (state : ShelfState) : Type 0 where
   pub schedule : HasLength schedule_name sizes.schedule state
-  pub leaf : (k : ℕ) → k < 4 → HasLength (leaf_name k) (slice_index sizes.leaves k) state
+  pub leaf : (k : ℕ) → k < leaves_of chain → HasLength (leaf_name k) (slice_index sizes.leaves k) state
 
 -- all inputs are held
 abbrev pub AreHeld : Chain → ShelfState → Type 0
-AreHeld chain state = OfInputs chain state (λ files. all_held mux_inputs files ≡ Ok tt)
+AreHeld chain state = OfInputs chain state (λ files. all_held (mux_inputs chain) files ≡ Ok tt)
 
 -- the schedule has these rows
 abbrev pub HasRows : Chain → ShelfState → List Row → Type 0
 HasRows chain state rows = OfInputs chain state (λ files. rows_of chain (bytes_in files schedule_name) ≡ Ok rows)
 
 -- leaf k has as many bits as must enter, at least
-abbrev pub IsLong : List Row → InputSizes → ℕ → Type 0
-IsLong rows sizes k = bits_needed rows k ≤ 8 * slice_index sizes.leaves k
+abbrev pub IsLong : Chain → List Row → InputSizes → ℕ → Type 0
+IsLong chain rows sizes k = bits_needed chain rows k ≤ 8 * slice_index sizes.leaves k
 
--- there are no more frames than a line may have, and the leaves are long enough
-pub record AreEnough (rows : List Row) (sizes : InputSizes) (frames : ℕ) : Type 0 where
+-- there are no more frames than a line may have, each node has those that it begins, and the leaves are long enough
+pub record AreEnough (chain : Chain) (rows : List Row) (sizes : InputSizes) (frames : ℕ) : Type 0 where
   pub frames_are : frames ≡ frames_in rows
   pub few : frames ≤ 16384
-  pub long : (k : ℕ) → k < 4 → IsLong rows sizes k
+  pub scheduled : short_node chain rows ≡ None
+  pub long : (k : ℕ) → k < leaves_of chain → IsLong chain rows sizes k
+
+-- this node is the first that has fewer frames than it begins
+pub record IsShortNode (chain : Chain) (rows : List Row) (node : Path) (have need : ℕ) : Type 0 where
+  pub few : frames_in rows ≤ 16384
+  pub first : option_map stop_of_shortage (short_node chain rows) ≡ Some (ShortNode node have need)
 
 -- leaf k is the first that is too short
-pub record IsShort (rows : List Row) (sizes : InputSizes) (k have need : ℕ) : Type 0 where
-  pub leaf : k < 4
+pub record IsShort (chain : Chain) (rows : List Row) (sizes : InputSizes) (k have need : ℕ) : Type 0 where
+  pub leaf : k < leaves_of chain
   pub few : frames_in rows ≤ 16384
+  pub scheduled : short_node chain rows ≡ None
   pub have_is : have ≡ 8 * slice_index sizes.leaves k
-  pub need_is : need ≡ bits_needed rows k
+  pub need_is : need ≡ bits_needed chain rows k
   pub short : have < need
-  pub before : (i : ℕ) → i < k → IsLong rows sizes i
+  pub before : (i : ℕ) → i < k → IsLong chain rows sizes i
 
 -- why the frames or the leaves are refused
-abbrev pub IsEnoughStop : List Row → InputSizes → Stop → Type 0
-IsEnoughStop rows sizes (ManyFrames n) = (n ≡ frames_in rows) × (16384 < n)
-IsEnoughStop rows sizes (Short (Leaf k) have need) = IsShort rows sizes k have need
-IsEnoughStop rows sizes _ = ⊥
+abbrev pub IsEnoughStop : Chain → List Row → InputSizes → Stop → Type 0
+IsEnoughStop chain rows sizes (ManyFrames n) = (n ≡ frames_in rows) × (16384 < n)
+IsEnoughStop chain rows sizes (ShortNode node have need) = IsShortNode chain rows node have need
+IsEnoughStop chain rows sizes (Short (Leaf k) have need) = IsShort chain rows sizes k have need
+IsEnoughStop chain rows sizes _ = ⊥
 
 -- the leaves' bits
 pub record AreLeaves (chain : Chain) (sizes : InputSizes) (state : ShelfState) (leaves : List (Vec Bool Global)) : Type 0 where
-  pub count : length leaves ≡ 4
-  pub len : (k : ℕ) (d : Vec Bool Global) → k < 4 → length (slice_index_or leaves k d).items ≡ 8 * slice_index sizes.leaves k
-  pub bits : (k : ℕ) (d : Vec Bool Global) → k < 4 → OfInputs chain state (λ files. (slice_index_or leaves k d).items ≡ leaf_bits files k)
+  pub count : length leaves ≡ leaves_of chain
+  pub len : (k : ℕ) (d : Vec Bool Global) → k < leaves_of chain → length (slice_index_or leaves k d).items ≡ 8 * slice_index sizes.leaves k
+  pub bits : (k : ℕ) (d : Vec Bool Global) → k < leaves_of chain → OfInputs chain state (λ files. (slice_index_or leaves k d).items ≡ leaf_bits files k)
 
 -- how an event ends the command, if there is one
 abbrev pub IsEnd : Option Event → Option Stop → Type 0
@@ -74,10 +85,10 @@ IsEnd None end = end ≡ None
 IsEnd (Some event) end = end ≡ Some (stop_of_event event)
 
 -- these are the leaves' bits
-abbrev pub AreBits : List (Vec Bool Global) → (ℕ → List Bool) → Type 0
-AreBits leaves lists = (k : ℕ) (d : Vec Bool Global) → k < 4 → lists k ≡ (slice_index_or leaves k d).items
+abbrev pub AreBits : Chain → List (Vec Bool Global) → (ℕ → List Bool) → Type 0
+AreBits chain leaves lists = (k : ℕ) (d : Vec Bool Global) → k < leaves_of chain → lists k ≡ (slice_index_or leaves k d).items
 
 -- the line's bytes up to the first event, and how that ends the command
 pub record IsMade (chain : Chain) (rows : List Row) (leaves : List (Vec Bool Global)) (made : Made) : Type 0 where
-  pub bytes : (lists : ℕ → List Bool) → AreBits leaves lists → made.bytes.items ≡ bytes_of (frames_of_line (shape_of chain) (counts_of rows) lists (frames_made chain rows))
+  pub bytes : (lists : ℕ → List Bool) → AreBits chain leaves lists → made.bytes.items ≡ bytes_of (frames_of_line (shapes_of chain) (counts rows) lists (frames_made chain rows))
   pub end : IsEnd (event_of chain rows) made.end

@@ -7,7 +7,7 @@ use Rattle.pdh_clock.specs.declared.fault.ScheduleFault.{ScheduleFault}
 use Rattle.pdh_clock.specs.declared.fault.ScheduleFault.TheVariants.{TooLong, BadRow as RowIsBad, UnknownNode as NodeIsUnknown, CountOver as CountIsOver, Memory as NoMemory}
 use Rattle.pdh_clock.specs.Row.{Row}
 use Rattle.pdh_clock.specs.Judged.{schedule_of}
-use Rattle.pdh_clock.specs.Contents.{counts, frame_count}
+use Rattle.pdh_clock.specs.Contents.{Contents, frame_count}
 use Rattle.pdh_ops.specs.Names.{schedule_name}
 use Rattle.pdh_ops.specs.declared.answer.Stop.{Stop}
 use Rattle.pdh_ops.specs.declared.answer.Stop.TheVariants.{LongSchedule, BadRow, UnknownNode, CountOver, Memory}
@@ -36,11 +36,11 @@ rows_or_stop (Err fault) = Err (stop_of_fault fault)
 unfoldable pub rows_of : Chain → List ℕ → Result (List Row) Stop
 rows_of chain text = rows_or_stop (schedule_of (levels_of chain) text)
 
--- how many bits of each tributary arrive in each frame
-abbrev pub counts_of : List Row → ℕ → ℕ → ℕ
-counts_of rows leaf frame = counts rows [] leaf frame
+-- the schedule of a chain with these rows
+abbrev pub contents_of : Chain → List Row → Contents
+contents_of chain rows = record { levels = levels_of chain; rows = rows }
 
--- the frames of the line
+-- the frames of the line, which are those of the top
 abbrev pub frames_in : List Row → ℕ
 frames_in rows = frame_count rows []
 

@@ -4,6 +4,7 @@ use Rattle.std.specs.declared.alloc.Global.{Global}
 use Rattle.pdh_bits.specs.Bits.{bytes_of}
 use Rattle.pdh_edge.specs.Files.{ShelfState, WhereTold, Rose, FailsToRead}
 use Rattle.pdh_edge.specs.Ports.{Outputs}
+use Rattle.pdh_chain.specs.Chains.{leaves_of}
 use Rattle.pdh_chain.specs.declared.chain.Chain.{Chain}
 use Rattle.pdh_ops.specs.Names.{line_name, name_of}
 use Rattle.pdh_ops.specs.Demux.{line_of, frames_received, output_of}
@@ -24,10 +25,10 @@ pub record AreBytes (lists : Outputs) (leaves : ℕ) (outputs : List (Vec ℕ Gl
   pub count : length outputs ≡ leaves
   pub each : (leaf : ℕ) (d : Vec ℕ Global) (bits : List Bool) → leaf < leaves → lists.told leaf ≡ Some bits → (slice_index_or outputs leaf d).items ≡ bytes_of bits
 
--- the outputs of the four leaves of a line
+-- the outputs of the leaves of a line
 pub record AreOutputs (chain : Chain) (line : List ℕ) (outputs : List (Vec ℕ Global)) : Type 0 where
-  pub count : length outputs ≡ 4
-  pub each : (leaf : ℕ) (d : Vec ℕ Global) → leaf < 4 → (slice_index_or outputs leaf d).items ≡ output_of chain line leaf
+  pub count : length outputs ≡ leaves_of chain
+  pub each : (leaf : ℕ) (d : Vec ℕ Global) → leaf < leaves_of chain → (slice_index_or outputs leaf d).items ≡ output_of chain line leaf
 
 -- what a line gives: these outputs, and so many delivered frames
 pub record IsReceived (chain : Chain) (line : List ℕ) (received : Received) : Type 0 where

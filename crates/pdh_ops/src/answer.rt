@@ -51,6 +51,8 @@ pub enum Stop {
     UnknownNode(u32),
     /// A row's count is above the slots of a frame: the line, the count, and the slots.
     CountOver(u32, u64, u32),
+    /// The schedule has fewer frames of a node than the node begins: how many it has, and how many it must have.
+    ShortNode(Path, u64, u64),
     /// A file has fewer bits than the command needs: how many it has, and how many it must have.
     Short(File, u64, u64),
     /// A bit arrived at a full elastic store.
@@ -81,6 +83,7 @@ impl Stop {
             Stop::BadRow(_) => 6,
             Stop::UnknownNode(_) => 6,
             Stop::CountOver(_, _, _) => 6,
+            Stop::ShortNode(_, _, _) => 7,
             Stop::Short(_, _, _) => 7,
             Stop::Overflow(_) => 8,
             Stop::Underflow(_) => 8,

@@ -1,37 +1,47 @@
 ghost use Rattle.std.specs.Prelude.{◌≡◌, ◌≤◌, count_by, ◌==◌, IfOk, IfErr};
 ghost use Rattle.pdh_words.specs.declared.commands.Command.TheVariants.{ClockCheck, ClockMake};
+ghost use Rattle.pdh_clock.specs.Chain.{stores_at, steps_of};
 ghost use Rattle.pdh_chain.specs.Chains.{levels_of};
-ghost use Rattle.pdh_ops.specs.Clock.{checked as checked_rows, made_text as text_made, rows_in_text};
+ghost use Rattle.pdh_chain.specs.Trees.{path_of};
+ghost use Rattle.pdh_ops.specs.Clock.{first_outside_of, checked as checked_rows, made_text as text_made, rows_in_text};
 ghost use Rattle.pdh_ops.specs.Run.{Performs};
 ghost use Rattle.pdh_ops.specs.declared.answer.Stop.TheVariants.{Memory};
 
 use crate::answer::{Done, OutOfTolerance, Stop};
 use crate::file::File;
 use crate::files::{append, size, start};
+use crate::node::{node_at, node_count};
 use crate::schedule::read_schedule;
-use crate::top::{MOST_FRAMES, TOP};
+use crate::top::MOST_FRAMES;
 use pdh_chain::{Chain, levels};
 use pdh_clock::{Bias, Schedule};
 use pdh_edge::Shelf;
+use pdh_shape::Path;
 use std::alloc::Global;
 
-// The first leaf that isn't within the tolerance, or that all are.
-#[tactic(auto, unfolding(crate::specs::Clock::checked))]
+// The first tributary of a node that isn't within the tolerance.
+fn outside_of(clock: &Schedule, node: Path) -> Option<OutOfTolerance>
+    requires stores { stores_at clock.now.levels (steps_of node) ≡ 4 }
+    requires plain { node ≡ path_of (steps_of node) }
+    ensures { result ≡ first_outside_of clock.now (steps_of node) }
+{
+    for index in 0..4u8 {
+        if let Err(run) = clock.within(&node, index) {
+            let trib = index + 1;
+            return Some(OutOfTolerance { node, trib, run });
+        }
+    }
+    None
+}
+
+// The first tributary that isn't within the tolerance, or that all are.
 fn checked(chain: Chain, clock: &Schedule) -> Done
     requires { clock.now.levels ≡ levels_of chain }
     ensures { result ≡ checked_rows chain clock.now.rows }
 {
-    for leaf in 0..4u8 {
-        if let Err(run) = clock.within(&TOP, leaf) {
-            let trib = leaf + 1;
-            return Done::ClockOutside(
-                chain,
-                OutOfTolerance {
-                    node: TOP,
-                    trib,
-                    run,
-                },
-            );
+    for place in 0..node_count(chain) {
+        if let Some(out) = outside_of(clock, node_at(chain, place)) {
+            return Done::ClockOutside(chain, out);
         }
     }
     Done::ClockInside(chain)

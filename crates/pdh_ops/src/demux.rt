@@ -2,6 +2,7 @@ ghost use Rattle.std.specs.Prelude.{◌≡◌, ◌<◌, ℕ, [], ◌∷◌, leng
 ghost use Rattle.std.specs.declared.alloc.Global.{Global};
 ghost use Rattle.pdh_edge.specs.Files.{TouchesOnly, Holds, HoldsPrefix};
 ghost use Rattle.pdh_edge.specs.MemLists.{inputs_of, outputs_of};
+ghost use Rattle.pdh_chain.specs.Chains.{leaves_of};
 ghost use Rattle.pdh_ops.specs.Names.{output_name};
 ghost use Rattle.pdh_ops.specs.Demux.{line_of};
 ghost use Rattle.pdh_ops.specs.Commands.{IsOutput};
@@ -13,6 +14,7 @@ ghost use Rattle.pdh_ops.specs.Writing.{IsWriteStop};
 use crate::answer::{Done, Stop};
 use crate::file::File;
 use crate::files::{append, start};
+use crate::leaf::leaf_count;
 use crate::line::read_line;
 use pdh_bits::{bits_of, bytes_of};
 use pdh_chain::{Chain, leaves};
@@ -89,11 +91,11 @@ fn receive(alloc: Global, chain: Chain, line: &[u8]) -> Result<Received, Stop>
 // Makes the outputs empty, in order.
 fn start_all<S: Shelf>(chain: Chain, shelf: &mut S) -> Result<(), Stop>
     ensures kept { TouchesOnly (IsOutput (Demux chain)) (S.state shelf.old) (S.state shelf.new) }
-    ensures ok { OnOk result ((leaf : ℕ) → leaf < 4 → Holds ((S.state shelf.new).told (output_name leaf)) []) }
+    ensures ok { OnOk result ((leaf : ℕ) → leaf < leaves_of chain → Holds ((S.state shelf.new).told (output_name leaf)) []) }
     ensures err { IfErr result (IsWriteStop (S.state shelf.old) (S.state shelf.new)) }
     ensures cut { OnErr result (AreCut (Demux chain) (S.state shelf.old) (S.state shelf.new)) }
 {
-    for leaf in 0..4 {
+    for leaf in 0..leaf_count(chain) {
         start(shelf, File::Output(leaf))?;
     }
     Ok(())
@@ -101,16 +103,16 @@ fn start_all<S: Shelf>(chain: Chain, shelf: &mut S) -> Result<(), Stop>
 
 // Adds the bytes of the outputs, in order.
 fn append_all<S: Shelf>(chain: Chain, shelf: &mut S, outputs: &[Vec<u8>]) -> Result<(), Stop>
-    requires four { length outputs.now ≡ 4 }
-    requires started { (leaf : ℕ) → leaf < 4 → Holds ((S.state shelf.old).told (output_name leaf)) [] }
+    requires all { length outputs.now ≡ leaves_of chain }
+    requires started { (leaf : ℕ) → leaf < leaves_of chain → Holds ((S.state shelf.old).told (output_name leaf)) [] }
     ensures kept { TouchesOnly (IsOutput (Demux chain)) (S.state shelf.old) (S.state shelf.new) }
-    ensures ok { OnOk result ((leaf : ℕ) (d : Vec ℕ Global) → leaf < 4
+    ensures ok { OnOk result ((leaf : ℕ) (d : Vec ℕ Global) → leaf < leaves_of chain
         → Holds ((S.state shelf.new).told (output_name leaf)) (slice_index_or outputs.now leaf d).items) }
     ensures err { IfErr result (IsWriteStop (S.state shelf.old) (S.state shelf.new)) }
-    ensures cut { OnErr result ((leaf : ℕ) (d : Vec ℕ Global) → leaf < 4
+    ensures cut { OnErr result ((leaf : ℕ) (d : Vec ℕ Global) → leaf < leaves_of chain
         → HoldsPrefix ((S.state shelf.new).told (output_name leaf)) (slice_index_or outputs.now leaf d).items) }
 {
-    for leaf in 0..4 {
+    for leaf in 0..leaf_count(chain) {
         append(shelf, File::Output(leaf), &outputs[leaf as usize])?;
     }
     Ok(())

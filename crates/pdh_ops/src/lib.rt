@@ -12,10 +12,14 @@ mod clock_tests;
 mod demux;
 mod file;
 mod files;
+mod leaf;
 mod line;
 mod mux;
 #[cfg(test)]
 mod mux_tests;
+#[cfg(test)]
+mod nested_tests;
+mod node;
 mod program;
 mod report;
 mod schedule;

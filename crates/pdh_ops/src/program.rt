@@ -52,9 +52,10 @@ fn answer<S: Shelf>(alloc: Global, words: &[String], shelf: &mut S) -> Result<Do
 /// The statuses: 0, the command did its work; 1, memory was wanting; 2, the words are no row of the
 /// table; 3, a call of the shelf failed to read; 4, a call of the shelf failed to write, or the
 /// sink failed to take the text of status 0; 5, an input isn't held; 6, the schedule's text has a
-/// fault; 7, a leaf's file has too few bits; 8, an elastic store overflows or underflows, and the line
-/// ends before that frame; 10, the line, or the schedule that is asked for, has too many frames; 11, no
-/// frame of the line was delivered, and the outputs hold what a search for one gives.
+/// fault; 7, the schedule has too few frames of a node below the top, or a leaf's file too few bits; 8,
+/// an elastic store overflows or underflows, and the line ends before the frame in whose making that
+/// happens; 10, the line, or the schedule that is asked for, has too many frames; 11, no frame of the
+/// line was delivered, and the outputs hold what a search for one gives.
 pub fn run<S: Shelf, K: Sink>(
     alloc: Global,
     words: &[String],
@@ -64,8 +65,8 @@ pub fn run<S: Shelf, K: Sink>(
     ensures runs { Runs (command_of (map string_bytes words.now)) (S.state shelf) (S.state result.shelf) (K.state out) (K.state result.out) result.status }
     // What `mux` wrote, `demux` gives back in order.
     ensures gives_back { GivesBack (command_of (map string_bytes words.now)) (S.state shelf) (S.state result.shelf) result.status }
-    // Where each leaf is within the tolerance, `mux` meets no event, and what its line gives back is
-    // at most the chain's delay behind arrival.
+    // Where each tributary of each node is within the tolerance, `mux` meets no event, and what its
+    // line gives back is at most the chain's delay behind arrival.
     ensures no_event { HasNoEvent (command_of (map string_bytes words.now)) (S.state shelf) result.status }
     ensures delay { IsDelayed (command_of (map string_bytes words.now)) (S.state shelf) (S.state result.shelf) result.status }
     // The same as the first, said of inputs that are told and of a shelf without faults.

@@ -1,5 +1,6 @@
 ghost use Rattle.std.specs.Prelude.{◌≡◌, ◌≤◌, ◌++◌, length, decimal, codes};
 ghost use Rattle.pdh_chain.specs.Chains.{name_of as name_of_chain};
+ghost use Rattle.pdh_words.specs.Paths.{path_text};
 ghost use Rattle.pdh_ops.specs.Names.{name_of};
 ghost use Rattle.pdh_ops.specs.Answer.{text_of, done_text as done_of, stop_text as stop_of, place_text as place_of, outside_text as outside_of};
 ghost use Rattle.pdh_ops.specs.Run.{IsTold};
@@ -8,7 +9,7 @@ use crate::answer::{Done, OutOfTolerance, Stop};
 use crate::file::File;
 use pdh_chain::Chain;
 use pdh_edge::Sink;
-use pdh_shape::Place;
+use pdh_shape::{Path, Place};
 use pdh_words::Text;
 
 // A line of a part and a number.
@@ -173,6 +174,22 @@ fn short(file: File, have: u64, need: u64) -> Text
     text
 }
 
+// The line of a node with too few frames.
+#[tactic(auto, using(crate::proofs::Texts::digits, crate::proofs::Texts::path_len))]
+fn short_node(node: Path, have: u64, need: u64) -> Text
+    ensures { result ≡ codes "short: " ++ path_text node ++ codes ": have " ++ decimal have ++ codes " frames, need " ++ decimal need ++ codes "\n" }
+{
+    let mut text = Text::new();
+    text.text("short: ");
+    text.path(&node);
+    text.text(": have ");
+    text.number(have);
+    text.text(" frames, need ");
+    text.number(need);
+    text.text("\n");
+    text
+}
+
 fn done_text(done: Done) -> Text
     ensures { result ≡ done_of done }
 {
@@ -200,6 +217,7 @@ fn stop_text(stop: Stop) -> Text
         Stop::BadRow(line) => faulty(line, ": bad row"),
         Stop::UnknownNode(line) => faulty(line, ": unknown node"),
         Stop::CountOver(line, count, most) => over(line, count, most),
+        Stop::ShortNode(node, have, need) => short_node(node, have, need),
         Stop::Short(file, have, need) => short(file, have, need),
         Stop::Overflow(place) => placed("overflow: ", place),
         Stop::Underflow(place) => placed("underflow: ", place),

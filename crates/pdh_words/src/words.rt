@@ -14,6 +14,9 @@ fn chain(word: &str) -> Option<Chain>
         "e12" => Some(Chain::E12),
         "e23" => Some(Chain::E23),
         "e34" => Some(Chain::E34),
+        "e13" => Some(Chain::E13),
+        "e24" => Some(Chain::E24),
+        "e14" => Some(Chain::E14),
         _ => None,
     }
 }
@@ -58,7 +61,7 @@ fn making(chain_word: &str, frames: &str, bias_word: &str) -> Option<Command>
 
 /// The command of the words, without the program's own name, if they are a row of the table: `mux CHAIN`, `demux CHAIN`,
 /// `clock check CHAIN`, or `clock make CHAIN FRAMES BIAS` with a number and `nominal`, `fast`, `slow` or `mixed`. CHAIN is
-/// `e12`, `e23` or `e34`.
+/// `e12`, `e23`, `e34`, `e13`, `e24` or `e14`.
 pub fn command(words: &[String]) -> Option<Command>
     ensures { result ≡ command_of (map string_bytes words.now) }
 {

@@ -1,5 +1,4 @@
 use Rattle.std.proofs.Common.{◌≡◌, ◌≤◌, Err, [], refl, ap, ◌∙◌, sym, subst, arith}
-use Rattle.std.specs.Prelude.{IsTrue}
 use Rattle.std.proofs.lemmas.Result.{err_from_is_err_and}
 use Rattle.pdh_chain.specs.Demuxing.{Receives}
 use Rattle.pdh_chain.proofs.Received.{receives_none, receives_more, feed_stops, put_stops}

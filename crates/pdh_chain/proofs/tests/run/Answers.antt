@@ -1,10 +1,14 @@
-use Rattle.std.proofs.Common.{ap, ◌∙◌}
+use Rattle.std.proofs.Common.{ap, sym, subst, ◌<◌, ◌∙◌}
+use Rattle.pdh_clock.specs.Chain.{AreLevels}
 use Rattle.pdh_edge.specs.Ports.{Outputs}
 use Rattle.pdh_edge.proofs.Holding.{inputs_hold}
 use Rattle.pdh_chain.proofs.tests.run.Goals as goal
 
+pub read-requires : goal.read-requires
+read-requires c = subst AreLevels (sym c.deref.ensures.value) c.in_ok-levels.ensures.sound
+
 pub mux-end-requires-clause-leaves : goal.mux-end-requires-clause-leaves
-mux-end-requires-clause-leaves c k low = inputs_hold c.in_ok-zeros.field-0.items 4 k c.in_ok-port.ensures.inputs c.in_ok-zeros.ensures low
+mux-end-requires-clause-leaves c k low = inputs_hold c.in_ok-zeros.field-0.items 4 k c.in_ok-port.ensures.inputs c.in_ok-zeros.ensures (subst (λ n. k < n) c.requires low)
 
 pub mux-end-requires-clause-line : goal.mux-end-requires-clause-line
 mux-end-requires-clause-line c = ap (λ (o : Outputs). o.holds 0) c.in_ok-port.ensures.outputs

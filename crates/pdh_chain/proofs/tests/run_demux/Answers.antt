@@ -1,7 +1,9 @@
-use Rattle.std.proofs.Common.{◌∙◌, ◌≡◌, ◌++◌, ◌∷◌, [], ap, length, map, nat_lt}
+use Rattle.std.proofs.Common.{◌∙◌, ◌<◌, ◌-◌, ◌++◌, ◌∷◌, [], ap, arith, length, map, nat_lt, subst, sym, ℕ}
 use Rattle.std.proofs.lemmas.Bool.{lt-ltb}
+use Rattle.std.proofs.lemmas.List.{length-replicate}
 use Rattle.pdh_edge.specs.MemLists.{items_of}
 use Rattle.pdh_edge.specs.Ports.{Inputs, Outputs}
+use Rattle.pdh_chain.proofs.ChainLaws.{some_leaves}
 use Rattle.pdh_chain.proofs.tests.run_demux.Goals as goal
 
 pub demux-end-requires-clause-line : goal.demux-end-requires-clause-line
@@ -10,7 +12,12 @@ demux-end-requires-clause-line c =
     ∙ ap (λ l. nat_lt 0 (length (map items_of l))) (c.in_ok-push.ensures.items ∙ ap (λ l. l ++ c.in_ok-vec.field-0 ∷ []) c.new-lists.ensures.items)
 
 pub demux-end-requires-clause-leaves : goal.demux-end-requires-clause-leaves
-demux-end-requires-clause-leaves c k low = ap (λ (o : Outputs). o.holds k) c.in_ok-port.ensures.outputs ∙ lt-ltb k 4 low
+demux-end-requires-clause-leaves c k low =
+    let count : ℕ = c.leaves-count.result in
+    ap (λ (o : Outputs). o.holds k) c.in_ok-port.ensures.outputs ∙ ap (λ n. nat_lt k n) (length-replicate count []) ∙ lt-ltb k count (subst (λ n. k < n) (sym c.leaves-count.ensures.value) low)
 
 pub output-requires : goal.output-requires
-output-requires c = ap (λ h. h 3) c.demux-end.ensures.kept.2 ∙ ap (λ (o : Outputs). o.holds 3) c.in_ok-port.ensures.outputs
+output-requires c =
+    let count : ℕ = c.leaves-count.result in
+    let last : count - 1 < count = omega (arith, some_leaves c.args.chain, c.leaves-count.ensures.value) in
+    ap (λ h. h (count - 1)) c.demux-end.ensures.kept.2 ∙ ap (λ (o : Outputs). o.holds (count - 1)) c.in_ok-port.ensures.outputs ∙ ap (λ n. nat_lt (count - 1) n) (length-replicate count []) ∙ lt-ltb (count - 1) count last

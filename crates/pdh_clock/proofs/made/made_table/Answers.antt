@@ -1,5 +1,5 @@
 use Rattle.std.proofs.Common.{◌∙◌, ◌+◌, ◌*◌, ◌<◌, ◌≤◌, ◌^◌, ◌∷◌, [], ◌++◌, ap, sym, subst, arith, take, length, slice_index}
-use Rattle.pdh_clock.specs.Stored.{rows_of, row_frames, row_bits, top_row}
+use Rattle.pdh_rows.specs.Stored.{rows_of, row_frames, row_bits, node_row}
 use Rattle.pdh_clock.proofs.MadeRows.{made_frame, made_rows, made_rows-zero, made_rows-more, made_frames-fit, made_bits-fit, counts-taken}
 use Rattle.pdh_clock.proofs.made.made_table.Goals as goal
 
@@ -7,33 +7,33 @@ pub loop-frame-init : goal.loop-frame-init
 loop-frame-init c = record {
   stored = c.in_ok-table.ensures.table;
   tribs = c.in_ok-table.ensures.tribs ∙ c.from-tribs.ensures;
-  rows = c.in_ok-table.ensures.rows ∙ sym (made_rows-zero c.args.level.now c.args.bias);
+  rows = c.in_ok-table.ensures.rows ∙ sym (made_rows-zero c.args.level.now c.args.clocks.bias c.args.clocks.height c.args.clocks.line);
 }
 
 pub add-requires-clause-frames_fit : goal.add-requires-clause-frames_fit
 add-requires-clause-frames_fit c =
     subst (λ rows. row_frames rows + 1 < 2 ^ 64) (sym c.loop-frame.invariant.rows)
-    (made_frames-fit c.args.level.now c.args.bias c.loop-frame.frame c.requires.level c.requires.rated (omega (arith, c.requires.few)))
+    (made_frames-fit c.args.level.now c.args.clocks.bias c.args.clocks.height c.args.clocks.line c.loop-frame.frame c.requires.level c.requires.rated (omega (arith, c.requires.few)))
 
 pub add-requires-clause-bits_fit : goal.add-requires-clause-bits_fit
 add-requires-clause-bits_fit c = λ trib l.
     let level = c.args.level.now in
     let long : level.tribs ≤ length c.counts-counts.result = omega (arith, c.counts-counts.type_inv, c.requires.level.most) in
-    let added = counts-taken level c.args.bias c.loop-frame.frame c.from-tribs.result c.counts-counts.result c.from-tribs.ensures long c.counts-counts.ensures.counts in
+    let added = counts-taken level c.args.clocks.bias c.args.clocks.height c.args.clocks.line c.loop-frame.frame c.from-tribs.result c.counts-counts.result c.from-tribs.ensures long c.counts-counts.ensures.counts in
     subst (λ rows. row_bits rows trib + 1 * slice_index (take c.from-tribs.result c.counts-counts.result) trib < 2 ^ 64) (sym c.loop-frame.invariant.rows)
-    (subst (λ counts. row_bits (made_rows level c.args.bias c.loop-frame.frame) trib + 1 * slice_index counts trib < 2 ^ 64) (sym added)
-    (made_bits-fit level c.args.bias c.loop-frame.frame trib c.requires.level c.requires.rated (omega (arith, c.requires.few))))
+    (subst (λ counts. row_bits (made_rows level c.args.clocks.bias c.args.clocks.height c.args.clocks.line c.loop-frame.frame) trib + 1 * slice_index counts trib < 2 ^ 64) (sym added)
+    (made_bits-fit level c.args.clocks.bias c.args.clocks.height c.args.clocks.line c.loop-frame.frame trib c.requires.level c.requires.rated (omega (arith, c.requires.few))))
 
 pub loop-frame-preserved : goal.loop-frame-preserved
 loop-frame-preserved c =
     let level = c.args.level.now in
     let long : level.tribs ≤ length c.counts-counts.result = omega (arith, c.counts-counts.type_inv, c.requires.level.most) in
-    let added = counts-taken level c.args.bias c.loop-frame.frame c.from-tribs.result c.counts-counts.result c.from-tribs.ensures long c.counts-counts.ensures.counts in
+    let added = counts-taken level c.args.clocks.bias c.args.clocks.height c.args.clocks.line c.loop-frame.frame c.from-tribs.result c.counts-counts.result c.from-tribs.ensures long c.counts-counts.ensures.counts in
     record {
       stored = c.in_ok-add.ensures.table;
       tribs = c.in_ok-add.ensures.tribs ∙ c.loop-frame.invariant.tribs;
       rows = c.in_ok-add.ensures.rows
-          ∙ ap (λ counts. rows_of c.loop-frame.table ++ top_row 1 counts ∷ []) added
-          ∙ ap (λ rows. rows ++ top_row 1 (made_frame level c.args.bias c.loop-frame.frame) ∷ []) c.loop-frame.invariant.rows
-          ∙ sym (made_rows-more level c.args.bias c.loop-frame.frame);
+          ∙ ap (λ counts. rows_of c.loop-frame.table ++ node_row 1 counts ∷ []) added
+          ∙ ap (λ rows. rows ++ node_row 1 (made_frame level c.args.clocks.bias c.args.clocks.height c.args.clocks.line c.loop-frame.frame) ∷ []) c.loop-frame.invariant.rows
+          ∙ sym (made_rows-more level c.args.clocks.bias c.args.clocks.height c.args.clocks.line c.loop-frame.frame);
     }

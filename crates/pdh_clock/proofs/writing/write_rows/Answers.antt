@@ -1,47 +1,18 @@
-use Rattle.std.proofs.Common.{◌≡◌, ◌∙◌, ◌+◌, ◌-◌, ◌++◌, ◌<◌, ap, sym, subst, arith, length, slice_index}
-use Rattle.std.proofs.lemmas.List.{get_or_default}
-use Rattle.pdh_clock.specs.Stored.{top_row}
-use Rattle.pdh_clock.specs.Written.{row_line}
-use Rattle.pdh_clock.proofs.Tabled.{next_first}
-use Rattle.pdh_clock.proofs.WrittenRows.{IsWriting, writing_begins, writing_ends, writing_kept, writing_row}
+use Rattle.std.proofs.Common.{◌∙◌, get_or, ap, sym, subst, arith}
+use Rattle.std.specs.List.{flat_map}
+use Rattle.std.proofs.lemmas.List.{take_all}
+use Rattle.std.proofs.lemmas.List.Elements.{All-get_or}
+use Rattle.pdh_clock.specs.Stored.{IsNode}
+use Rattle.pdh_clock.proofs.WrittenNodes.{node_text, some_frames, text_of_nodes}
 use Rattle.pdh_clock.proofs.writing.write_rows.Goals as goal
-use Rattle.pdh_clock.proofs.writing.write_rows.Goals.{then-ends_run+in_ok-push_row, else-ends_run}
 
-pub loop-row-init : goal.loop-row-init
-loop-row-init c = subst (λ text. IsWriting c.args.table.now text 0 0) (sym c.new-text.ensures.items)
-    (writing_begins c.args.table.now c.requires.table)
-
-pub overflow_sub-end : goal.overflow_sub-end
-overflow_sub-end c =
-    let t = c.args.table.now in
-    let k = c.loop-row.row in
-    let within : k + 1 < length t.firsts.items = omega (arith, c.requires.table.firsts_len) in
-    let end : c.index-end.result.now ≡ slice_index t.firsts.items (k + 1) = c.index-end.ensures
-    ∙ get_or_default t.firsts.items (k + 1) c.index-end.result.now 0 within in
-    omega (arith, end, c.loop-row.invariant.begun, next_first t k c.requires.table (omega arith))
-
-pub loop-row-preserved : goal.loop-row-preserved
-loop-row-preserved c =
-    let t = c.args.table.now in
-    let k = c.loop-row.row in
-    let within : k + 1 < length t.firsts.items = omega (arith, c.requires.table.firsts_len) in
-    let end : c.index-end.result.now ≡ slice_index t.firsts.items (k + 1) = c.index-end.ensures
-    ∙ get_or_default t.firsts.items (k + 1) c.index-end.result.now 0 within in
-    elim c.if-ends_run.branch [
-      | then-ends_run+in_ok-push_row w ↦
-          let ends = sym (w.if-ends_run.ensures) in
-          let line = w.in_ok-push_row.ensures
-          ∙ ap (λ n. c.loop-row.text.items ++ row_line (top_row (n - c.loop-row.first) w.row_counts.result.now)) end
-          ∙ ap (λ counts. c.loop-row.text.items ++ row_line (top_row (slice_index t.firsts.items (k + 1) - c.loop-row.first) counts))
-          w.row_counts.ensures in
-          let written = writing_row t c.loop-row.text.items w.push_row.new.text.items c.loop-row.first k c.requires.table
-          c.requires.some_frames (omega arith) c.loop-row.invariant ends line in
-          rw (w.text-is, w.first-is, end) written
-      | else-ends_run w ↦
-          let goes_on = sym (w.if-ends_run.ensures) in
-          rw (w.text-is, w.first-is)
-          (writing_kept t c.loop-row.text.items c.loop-row.first k c.requires.table (omega arith) c.loop-row.invariant goes_on)
-    ]
+pub push_node-requires-clause-some_frames : goal.push_node-requires-clause-some_frames
+push_node-requires-clause-some_frames c =
+    let levels = c.args.tree.now.levels.items in
+    some_frames levels c.node-item.result (subst (IsNode levels)
+    (sym (c.node-item.is ∙ ap (λ nodes. get_or nodes c.loop-node.node-index c.node-item.result) c.deref-node-items.ensures.value))
+    (All-get_or (IsNode levels) c.args.tree.now.nodes.items c.loop-node.node-index c.node-item.result (omega arith) c.requires.each))
 
 pub returns : goal.returns
-returns c = writing_ends c.args.table.now c.loop-row.text.items c.loop-row.first c.loop-row.row (omega arith) c.loop-row.invariant
+returns c = c.loop-node.invariant ∙ ap (flat_map node_text) (take_all c.loop-node.node-index c.args.tree.now.nodes.items (omega arith))
+    ∙ text_of_nodes c.args.tree.now c.requires

@@ -1,30 +1,29 @@
-use Rattle.std.proofs.Common.{subst, ◌≡◌, None, Some, below_more, sym, arith}
-use Rattle.pdh_clock.specs.Outside.{run_of}
-use Rattle.pdh_ops.specs.Clock.{run_outside}
-use Rattle.pdh_ops.proofs.ClockComes.{first_outside_is, all_inside}
-use Rattle.pdh_clock.specs.Outside.{first_outside}
-use Rattle.pdh_ops.specs.Schedules.{counts_of, frames_in}
-use Rattle.pdh_chain.proofs.ChainLaws.{level_low}
+use Rattle.std.proofs.Common.{◌≡◌, [], None, Some, get_or, length, below_more, sym, ◌∙◌, ◌<◌, arith}
+use Rattle.pdh_clock.specs.Chain.{nodes_of}
+use Rattle.pdh_chain.specs.Chains.{levels_of}
+use Rattle.pdh_ops.specs.Schedules.{contents_of}
+use Rattle.pdh_ops.specs.Clock.{first_outside_of}
+use Rattle.pdh_ops.proofs.ClockComes.{first_outside_is, all_inside, node_plain, outside_now}
 use Rattle.pdh_ops.proofs.clock.checked.Goals as goal
 
-pub loop-leaf-init : goal.loop-leaf-init
-loop-leaf-init c = λ k h. absurd (omega arith)
+pub loop-place-init : goal.loop-place-init
+loop-place-init c = λ k h. absurd (omega arith)
 
-pub returns-in-Err : goal.returns-in-Err
-returns-in-Err c =
-    let rows = c.args.clock.now.rows in
-    let said = rw (c.requires) at c.in-Err.ensures.run in
-    let here : run_outside c.args.chain rows c.loop-leaf.leaf ≡ Some (run_of c.in-Err.run') =
-    subst (λ low. first_outside low (counts_of rows c.loop-leaf.leaf) (frames_in rows) ≡ Some (run_of c.in-Err.run')) (level_low c.args.chain) (sym said) in
-    sym (first_outside_is c.args.chain rows c.loop-leaf.leaf (run_of c.in-Err.run') c.loop-leaf-test.true c.loop-leaf.invariant here)
+pub outside_of-requires-clause-plain : goal.outside_of-requires-clause-plain
+outside_of-requires-clause-plain c =
+    node_plain c.args.chain c.loop-place.place c.node_at.result (omega (arith, c.node_count-place-end.ensures)) c.node_at.ensures
 
-pub loop-leaf-preserved : goal.loop-leaf-preserved
-loop-leaf-preserved c =
-    let said = rw (c.requires) at c.in_default.ensures.run in
-    let rows = c.args.clock.now.rows in
-    let here : run_outside c.args.chain rows c.loop-leaf.leaf ≡ None =
-    subst (λ low. first_outside low (counts_of rows c.loop-leaf.leaf) (frames_in rows) ≡ None) (level_low c.args.chain) (sym said) in
-    below_more (λ k. run_outside c.args.chain c.args.clock.now.rows k ≡ None) c.loop-leaf.leaf c.loop-leaf.invariant here
+pub returns-in-Some : goal.returns-in-Some
+returns-in-Some c =
+    let low : c.loop-place.place < length (nodes_of (levels_of c.args.chain)) = omega (arith, c.node_count-place-end.ensures) in
+    let here = outside_now c.args.chain c.args.clock.now c.loop-place.place c.node_at.result (Some c.in-Some.out) c.requires low c.node_at.ensures (sym c.in-Some.is ∙ c.outside_of.ensures) in
+    sym (first_outside_is c.args.chain c.args.clock.now.rows c.loop-place.place c.in-Some.out low c.loop-place.invariant here)
+
+pub loop-place-preserved : goal.loop-place-preserved
+loop-place-preserved c =
+    let low : c.loop-place.place < length (nodes_of (levels_of c.args.chain)) = omega (arith, c.node_count-place-end.ensures) in
+    let here = outside_now c.args.chain c.args.clock.now c.loop-place.place c.node_at.result None c.requires low c.node_at.ensures (sym c.in_default.is ∙ c.outside_of.ensures) in
+    below_more (λ k. first_outside_of (contents_of c.args.chain c.args.clock.now.rows) (get_or (nodes_of (levels_of c.args.chain)) k []) ≡ None) c.loop-place.place c.loop-place.invariant here
 
 pub returns : goal.returns
-returns c = sym (all_inside c.args.chain c.args.clock.now.rows (λ k h. c.loop-leaf.invariant k (omega arith)))
+returns c = sym (all_inside c.args.chain c.args.clock.now.rows (λ k h. c.loop-place.invariant k (omega (arith, c.node_count-place-end.ensures))))

@@ -1,7 +1,10 @@
-use Rattle.std.proofs.Common.{◌≡◌, ℕ, ◌<◌, None}
-use Rattle.pdh_ops.specs.Clock.{run_outside}
+use Rattle.std.proofs.Common.{◌≡◌, ℕ, [], ◌<◌, None, get_or}
+use Rattle.pdh_clock.specs.Chain.{nodes_of}
+use Rattle.pdh_chain.specs.Chains.{levels_of}
+use Rattle.pdh_ops.specs.Schedules.{contents_of}
+use Rattle.pdh_ops.specs.Clock.{first_outside_of}
 use Rattle.pdh_ops.proofs.clock.checked.Given as goal
 
--- the leaves before this one are within the tolerance
-abbrev pub invariant-loop-leaf : goal.invariant-loop-leaf
-invariant-loop-leaf l = (k : ℕ) → k < l.leaf → run_outside l.fn.chain l.clock.rows k ≡ None
+-- all tributaries of the nodes before this one are within the tolerance
+abbrev pub invariant-loop-place : goal.invariant-loop-place
+invariant-loop-place l = (k : ℕ) → k < l.place → first_outside_of (contents_of l.fn.chain l.clock.rows) (get_or (nodes_of (levels_of l.fn.chain)) k []) ≡ None

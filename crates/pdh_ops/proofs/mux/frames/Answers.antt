@@ -1,6 +1,9 @@
-use Rattle.std.proofs.Common.{◌≡◌, refl, arith, below_more}
+use Rattle.std.proofs.Common.{◌≡◌, refl, ap, sym, ◌∙◌, arith, below_more}
+use Rattle.std.specs.Option.{option_map}
+use Rattle.pdh_clock.specs.Begun.{shortage_of}
 use Rattle.pdh_ops.specs.Mux.{bits_needed}
 use Rattle.pdh_ops.specs.MuxSteps.{IsLong}
+use Rattle.pdh_ops.proofs.Levels.{short_is}
 use Rattle.pdh_ops.proofs.mux.frames.Goals as goal
 
 pub loop-leaf-init : goal.loop-leaf-init
@@ -9,12 +12,12 @@ loop-leaf-init c = λ k h. absurd (omega arith)
 pub returns-then-have-need-clause-err : goal.returns-then-have-need-clause-err
 returns-then-have-need-clause-err c =
     let rows = c.args.clock.now.rows in
-    let need : c.entered-need.result ≡ bits_needed rows c.loop-leaf.leaf = rw c.frames-frames.ensures at c.entered-need.ensures.value in
     record {
-      leaf = omega arith;
+      leaf = omega (arith, c.leaf_count-leaf-end.ensures.value);
       few = omega (arith, c.frames-frames.ensures);
+      scheduled = sym (short_is c.args.chain c.args.clock.now c.frames-frames.result c.requires.levels c.frames-frames.ensures) ∙ sym c.short.ensures ∙ ap (option_map shortage_of) c.in_default.is;
       have_is = refl;
-      need_is = need;
+      need_is = c.entered-need.ensures.value;
       short = omega arith;
       before = c.loop-leaf.invariant;
     }
@@ -22,12 +25,13 @@ returns-then-have-need-clause-err c =
 pub loop-leaf-preserved : goal.loop-leaf-preserved
 loop-leaf-preserved c =
     let rows = c.args.clock.now.rows in
-    let need : c.entered-need.result ≡ bits_needed rows c.loop-leaf.leaf = rw c.frames-frames.ensures at c.entered-need.ensures.value in
-    below_more (IsLong rows c.args.sizes.now) c.loop-leaf.leaf c.loop-leaf.invariant (omega arith)
+    let need : c.entered-need.result ≡ bits_needed c.args.chain rows c.loop-leaf.leaf = c.entered-need.ensures.value in
+    below_more (IsLong c.args.chain rows c.args.sizes.now) c.loop-leaf.leaf c.loop-leaf.invariant (omega arith)
 
 pub returns-clause-ok : goal.returns-clause-ok
 returns-clause-ok c = record {
   frames_are = c.frames-frames.ensures;
   few = omega arith;
-  long = λ k h. c.loop-leaf.invariant k (omega arith);
+  scheduled = sym (short_is c.args.chain c.args.clock.now c.frames-frames.result c.requires.levels c.frames-frames.ensures) ∙ sym c.short.ensures ∙ ap (option_map shortage_of) c.in_default.is;
+  long = λ k h. c.loop-leaf.invariant k (omega (arith, c.leaf_count-leaf-end.ensures.value));
 }

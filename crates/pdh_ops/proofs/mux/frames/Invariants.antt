@@ -4,4 +4,4 @@ use Rattle.pdh_ops.proofs.mux.frames.Given as goal
 
 -- each leaf before this one is long enough
 abbrev pub invariant-loop-leaf : goal.invariant-loop-leaf
-invariant-loop-leaf l = (k : ℕ) → k < l.leaf → IsLong l.clock.rows l.sizes k
+invariant-loop-leaf l = (k : ℕ) → k < l.leaf → IsLong l.fn.chain l.clock.rows l.sizes k

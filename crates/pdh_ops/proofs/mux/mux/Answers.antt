@@ -13,11 +13,11 @@ returns-in_err-frames g c =
     let p = err_from_is_err_and c.from_residual-in_err-frames.result c.from_residual-in_err-frames.ensures.1 in
     let b = g.S.Shelf.state c.read_schedule.new.shelf in
     let looks = looks_then _ _ b c.read_sizes.ensures.looks c.read_schedule.ensures.looks in
-    let sizes = sizes_since c.in_ok-sizes.sizes _ b c.read_schedule.ensures.looks c.in_ok-sizes.ensures.ok in
+    let sizes = sizes_since c.args.chain c.in_ok-sizes.sizes _ b c.read_schedule.ensures.looks c.in_ok-sizes.ensures.ok in
     rw (p.1, p.2) (refuses_performs (Mux c.args.chain) _ b _ looks (refuses_since (Mux c.args.chain) _ b b _ looks (enough_refuses c.args.chain c.in_ok-sizes.sizes c.in_ok-clock.clock.rows b b _ sizes (of_inputs_since c.args.chain _ _ (g.S.Shelf.state c.read_schedule.new.shelf) c.read_schedule.ensures.looks (has_rows c.args.chain _ c.in_ok-sizes.sizes.schedule c.in_ok-clock.clock.rows c.in_ok-sizes.ensures.ok.schedule c.in_ok-clock.ensures.rows)) c.in_err-frames.ensures.err)))
 
 pub read_leaves-requires : goal.read_leaves-requires
-read_leaves-requires g c = sizes_since c.in_ok-sizes.sizes _ _ c.read_schedule.ensures.looks c.in_ok-sizes.ensures.ok
+read_leaves-requires g c = sizes_since c.args.chain c.in_ok-sizes.sizes _ _ c.read_schedule.ensures.looks c.in_ok-sizes.ensures.ok
 
 pub returns-in_err-leaves : goal.returns-in_err-leaves
 returns-in_err-leaves g c =

@@ -6,6 +6,7 @@ use Rattle.std.proofs.lemmas.Result.{err_from_is_err_and}
 use Rattle.pdh_bits.specs.Bits.{bits_of}
 use Rattle.pdh_bits.proofs.BitsLemmas.{length-bits_of}
 use Rattle.pdh_edge.specs.Files.{Told, Holds}
+use Rattle.pdh_chain.specs.Chains.{leaves_of}
 use Rattle.pdh_ops.specs.Names.{leaf_name}
 use Rattle.pdh_ops.specs.Mux.{leaf_bits}
 use Rattle.pdh_ops.specs.MuxSteps.{OfInputs}
@@ -26,7 +27,7 @@ loop-leaf-init g c = record {
 
 pub read-requires : goal.read-requires
 read-requires g c =
-    let here : c.loop-leaf.leaf < 4 = omega arith in
+    let here : c.loop-leaf.leaf < leaves_of c.args.chain = omega (arith, c.leaf_count-leaf-end.ensures.value) in
     has_length_still (leaf_name c.loop-leaf.leaf) _ _ _ c.loop-leaf.invariant.looks (c.requires.leaf c.loop-leaf.leaf here)
 
 pub returns-in_err-bytes-clause-looks : goal.returns-in_err-bytes-clause-looks
@@ -47,7 +48,7 @@ pub loop-leaf-preserved : goal.loop-leaf-preserved
 loop-leaf-preserved g c =
     let inv = c.loop-leaf.invariant in
     let old = g.S.Shelf.state c.args.shelf.now in
-    let here : c.loop-leaf.leaf < 4 = omega arith in
+    let here : c.loop-leaf.leaf < leaves_of c.args.chain = omega (arith, c.leaf_count-leaf-end.ensures.value) in
     let leaf = c.loop-leaf.leaf in
     let bits : Vec Bool Global = c.in_ok-bits.bits in
     let bytes : List ℕ = c.in_ok-bytes.bytes.items in
@@ -70,7 +71,7 @@ pub returns-clause-ok : goal.returns-clause-ok
 returns-clause-ok g c =
     let inv = c.loop-leaf.invariant in
     record {
-      count = omega (arith, inv.count);
-      len = λ k d h. inv.len k d (omega arith);
-      bits = λ k d h. of_inputs_since c.args.chain _ _ _ inv.looks (inv.bits k d (omega arith));
+      count = omega (arith, inv.count, c.leaf_count-leaf-end.ensures.value);
+      len = λ k d h. inv.len k d (omega (arith, c.leaf_count-leaf-end.ensures.value));
+      bits = λ k d h. of_inputs_since c.args.chain _ _ _ inv.looks (inv.bits k d (omega (arith, c.leaf_count-leaf-end.ensures.value)));
     }

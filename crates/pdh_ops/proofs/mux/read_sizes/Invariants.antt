@@ -12,6 +12,6 @@ invariant-loop-leaf g l =
     record {
       looks : Looks old new;
       schedule : HasLength schedule_name l.schedule new;
-      all : length l.leaves ≡ 4;
+      all : length l.leaves ≡ 64;
       leaf : (k : ℕ) → k < l.leaf → HasLength (leaf_name k) (slice_index l.leaves k) new;
     }

@@ -1,12 +1,11 @@
-use Rattle.std.proofs.Common.{[]}
-use Rattle.pdh_clock.specs.Contents.{counts}
-use Rattle.pdh_clock.specs.Chain.{len_at}
-use Rattle.pdh_clock.proofs.Laws.{counts_most, arrived_most}
+use Rattle.std.proofs.Common.{◌*◌, ◌≤◌, subst}
+use Rattle.pdh_clock.specs.Chain.{len_at, steps_of}
+use Rattle.pdh_clock.specs.Contents.{Contents}
+use Rattle.pdh_clock.proofs.Served.{total_most}
 use Rattle.pdh_clock.proofs.schedule.Schedule.total.Goals as goal
 
 pub returns-clause-most : goal.returns-clause-most
 returns-clause-most c =
-    let schedule = c.args.self.now in
-    let most = arrived_most (counts schedule.rows [] c.args.trib) (len_at schedule.levels [])
-    (λ frame. counts_most schedule.levels schedule.rows [] c.args.trib frame c.table_of.ensures.sound) c.args.frames in
-    rw (c.table_of.ensures.top, c.total.ensures, c.from.ensures, c.table_of.ensures.rows) most
+    subst (λ (s : Contents). c.total.result ≤ c.args.frames * len_at s.levels (steps_of c.args.node.now)) c.self.view_is
+    (total_most c.self.inside.tree (steps_of c.args.node.now) c.table_of.result.now c.args.trib c.from.result c.args.frames c.total.result c.self.invariant
+    c.table_of.ensures.frames c.from.ensures c.total.ensures)

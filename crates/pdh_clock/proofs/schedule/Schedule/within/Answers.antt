@@ -1,7 +1,13 @@
-use Rattle.std.proofs.Common.{◌≡◌, ◌∙◌, [], ap, sym}
+use Rattle.std.proofs.Common.{◌≡◌, ◌∙◌, Option, length, ap, sym}
+use Rattle.std.specs.Option.{option_map_or}
+use Rattle.pdh_shape.specs.declared.place.Level.{Level}
+use Rattle.pdh_rows.specs.Rows.{node_counts, node_frame_count}
+use Rattle.pdh_rows.specs.Stored.{rows_of}
+use Rattle.pdh_rows.specs.Outside.{first_outside, run_in}
 use Rattle.pdh_clock.specs.Chain.{steps_of, low_at, level_at}
 use Rattle.pdh_clock.specs.Contents.{Contents, counts, frame_count}
-use Rattle.pdh_clock.specs.Outside.{first_outside, run_in}
+use Rattle.pdh_clock.specs.Stored.{rows_in}
+use Rattle.pdh_clock.proofs.Served.{same_counts}
 use Rattle.pdh_clock.proofs.RatesLaws.{ok_within, within_ok, within_rates-ok}
 use Rattle.pdh_clock.proofs.schedule.Schedule.within.Goals as goal
 
@@ -10,14 +16,15 @@ run : (c : goal.After-within_tolerance) → run_in c.within_tolerance.result
     ≡ first_outside (low_at c.args.self.now.levels (steps_of c.args.node.now)) (counts c.args.self.now.rows (steps_of c.args.node.now) c.args.trib)
     (frame_count c.args.self.now.rows (steps_of c.args.node.now))
 run c =
-    let low = c.self.inside.level.low in
-    let rows = c.args.self.now.rows in
-    let low_is : low ≡ low_at c.args.self.now.levels [] = ap (λ (s : Contents). low_at s.levels []) c.self.view_is in
+    let tree = c.self.inside.tree in
+    let path = steps_of c.args.node.now in
+    let rows = rows_of c.table_of.result.now in
+    let low : c.level_of-low.result.low ≡ low_at tree.levels.items path = ap (λ (o : Option Level). option_map_or (λ (level : Level). level.low) o 0) (sym c.level_of-low.ensures) in
     c.within_tolerance.ensures
-    ∙ ap (λ rs. first_outside low (counts rs [] c.from.result) (frame_count rs [])) c.table_of.ensures.rows
-    ∙ ap (λ trib. first_outside low (counts rows [] trib) (frame_count rows [])) c.from.ensures
-    ∙ ap (λ n. first_outside n (counts rows [] c.args.trib) (frame_count rows [])) low_is
-    ∙ ap (λ path. first_outside (low_at c.args.self.now.levels path) (counts rows path c.args.trib) (frame_count rows path)) (sym c.table_of.ensures.top)
+    ∙ ap (λ n. first_outside n (node_counts rows c.from.result) (node_frame_count rows)) low
+    ∙ ap (λ cs. first_outside (low_at tree.levels.items path) cs (node_frame_count rows)) (same_counts tree path c.table_of.result.now c.args.trib c.from.result c.table_of.ensures.frames c.from.ensures)
+    ∙ ap (λ frames. first_outside (low_at tree.levels.items path) (counts (rows_in tree) path c.args.trib) (length frames)) c.table_of.ensures.frames
+    ∙ ap (λ (s : Contents). first_outside (low_at s.levels path) (counts s.rows path c.args.trib) (frame_count s.rows path)) c.self.view_is
 
 pub returns-clause-inside : goal.returns-clause-inside
 returns-clause-inside c = λ shape same ok. ok_within shape _ _ _ c.within_tolerance.result (run c) same ok

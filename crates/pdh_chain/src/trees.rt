@@ -1,0 +1,119 @@
+ghost use Rattle.std.specs.Prelude.{◌≡◌, ◌+◌, ◌<◌, ◌≤◌, ◌^◌, ℕ, List, [], ◌∷◌, length, IfOk, OnOk};
+ghost use Rattle.pdh_shape.specs.Frame.{FrameShape};
+ghost use Rattle.pdh_nesting.specs.Chains.{width, AreFrames, AllStores};
+ghost use Rattle.pdh_tx.specs.Meaning.{IsFresh};
+ghost use Rattle.pdh_chain.specs.Trees.{child_path as path_of_child, sender_of, receiver_of};
+
+use pdh_rx::{Rx, RxNode, Tail};
+use pdh_shape::{Path, Shape};
+use pdh_tx::{Leaf, Node, Tx};
+use std::alloc::{AllocError, Global};
+
+// The path of a node's tributary, by its number from 0.
+fn child_path(path: Path, trib: u8) -> Path
+    requires { trib < 255 }
+    ensures { result ≡ path_of_child path trib }
+{
+    match path.depth {
+        0 => Path {
+            depth: 1,
+            first: trib + 1,
+            second: 0,
+        },
+        1 => Path {
+            depth: 2,
+            first: path.first,
+            second: trib + 1,
+        },
+        _ => path,
+    }
+}
+
+/// A sender that is a whole chain: a leaf, or a multiplexer of such senders.
+pub trait Sender: Tx {
+    /// The frames of its levels, from its own down.
+    ghost shapes: { List FrameShape };
+
+    /// Makes it, with no bit made, or finds no memory. `path` is its place, where it is a
+    /// multiplexer. Its leaves are numbered from `next` on, which then is the next number.
+    fn open(alloc: Global, path: Path, next: &mut u32) -> Result<Self, AllocError>
+        requires levels { path.depth + length shapes ≤ 3 }
+        requires stores { AllStores shapes }
+        requires few { next.old + width shapes < 2 ^ 32 }
+        ensures meaning { IfOk result (λ sender. Self.meaning sender ≡ sender_of shapes path next.old) }
+        ensures fresh { IfOk result (IsFresh Self.stands_at Self.stands_for Self.says Self.is_stopped) }
+        ensures next { OnOk result (next.new ≡ next.old + width shapes) };
+
+    /// Each of these is a frame.
+    ghost are_frames: { AreFrames shapes };
+}
+
+/// A receiver that is a whole chain: a leaf, or a demultiplexer of such receivers.
+pub trait Receiver: Rx {
+    /// The frames of its levels, from its own down.
+    ghost shapes: { List FrameShape };
+
+    /// Makes it, with no bit taken, or finds no memory. `path` is its place, where it is a
+    /// demultiplexer. Its leaves are numbered from `next` on, which then is the next number.
+    fn open(alloc: Global, path: Path, next: &mut u32) -> Result<Self, AllocError>
+        requires levels { path.depth + length shapes ≤ 3 }
+        requires few { next.old + width shapes < 2 ^ 32 }
+        ensures meaning { IfOk result (λ receiver. Self.meaning receiver ≡ receiver_of shapes path next.old) }
+        ensures stands { IfOk result (λ receiver. Self.stands receiver []) }
+        ensures next { OnOk result (next.new ≡ next.old + width shapes) };
+
+    /// Each of these is a frame.
+    ghost are_frames: { AreFrames shapes };
+}
+
+impl Sender for Leaf {
+    ghost shapes = { [] };
+
+    ghost are_frames = { tt };
+
+    fn open(_alloc: Global, _path: Path, next: &mut u32) -> Result<Self, AllocError> {
+        let leaf = Leaf::new(*next);
+        *next += 1;
+        Ok(leaf)
+    }
+}
+
+impl<S: Shape, C: Sender> Sender for Node<S, C> {
+    ghost shapes = { S.shape ∷ C.shapes };
+
+    ghost are_frames = { (S.is_frame, S.has_tributaries, C.are_frames) };
+
+    fn open(alloc: Global, path: Path, next: &mut u32) -> Result<Self, AllocError> {
+        let mut children = Vec::with_capacity(alloc, usize::from(S::TRIBS))?;
+        for trib in 0..S::TRIBS {
+            children.push(C::open(alloc, child_path(path, trib), next)?)?;
+        }
+        Node::open(alloc, path, children)
+    }
+}
+
+impl Receiver for Tail {
+    ghost shapes = { [] };
+
+    ghost are_frames = { tt };
+
+    fn open(_alloc: Global, _path: Path, next: &mut u32) -> Result<Self, AllocError> {
+        let tail = Tail::new(*next);
+        *next += 1;
+        Ok(tail)
+    }
+}
+
+impl<S: Shape, C: Receiver> Receiver for RxNode<S, C> {
+    ghost shapes = { S.shape ∷ C.shapes };
+
+    ghost are_frames = { (S.is_frame, S.has_tributaries, C.are_frames) };
+
+    fn open(alloc: Global, path: Path, next: &mut u32) -> Result<Self, AllocError> {
+        let mut children = Vec::with_capacity(alloc, usize::from(S::TRIBS))?;
+        for trib in 0..S::TRIBS {
+            children.push(C::open(alloc, child_path(path, trib), next)?)?;
+        }
+        RxNode::open(alloc, path, children)
+    }
+}

@@ -1,0 +1,64 @@
+-- What a tree answers about its nodes.
+use Rattle.std.proofs.Common.{◌≡◌, ℕ, ◌*◌, ◌<◌, ◌≤◌, List, [], ◌∷◌, length, get_or, All, ap, sym, ◌∙◌, subst, slice_index}
+use Rattle.std.specs.List.{flat_map, slice_index_or}
+use Rattle.std.proofs.lemmas.List.Elements.{All-nil, All-append, All-head, All-tail}
+use Rattle.pdh_shape.specs.declared.place.Level.{Level}
+use Rattle.pdh_line.specs.Sending.{arrived}
+use Rattle.pdh_rows.specs.Rows.{node_frames, node_counts}
+use Rattle.pdh_rows.specs.Stored.{rows_of}
+use Rattle.pdh_rows.specs.declared.table.Table.{Table}
+use Rattle.pdh_clock.specs.declared.tree.NodeRows.{NodeRows}
+use Rattle.pdh_clock.specs.declared.tree.Tree.{Tree}
+use Rattle.pdh_clock.specs.Chain.{len_at, nodes_of}
+use Rattle.pdh_clock.specs.Contents.{IsRowOf, frames_of, counts}
+use Rattle.pdh_clock.specs.Stored.{IsNode, IsTree, node_path, node_rows, rows_in}
+use Rattle.pdh_clock.proofs.Laws.{counts_most, arrived_most}
+use Rattle.pdh_clock.proofs.Trees.{length-nodes, path_of_node, frames_of_node}
+
+nodes_sound : (levels : List Level) (nodes : List NodeRows) → All (IsNode levels) nodes → All (IsRowOf levels) (flat_map node_rows nodes)
+nodes_sound levels [] h = All-nil (IsRowOf levels)
+nodes_sound levels (node ∷ nodes) h = All-append (IsRowOf levels) (node_rows node) (flat_map node_rows nodes)
+    (All-head (IsNode levels) node nodes h).rows (nodes_sound levels nodes (All-tail (IsNode levels) node nodes h))
+
+-- each row is one of a node of the levels
+pub tree_sound : (tree : Tree) → IsTree tree → All (IsRowOf tree.levels.items) (rows_in tree)
+tree_sound tree h = nodes_sound tree.levels.items tree.nodes.items h.each
+
+-- what a table says is what the rows at a path say
+pub same_counts : (tree : Tree) (path : List ℕ) (table : Table) (trib trib' : ℕ) → node_frames (rows_of table) ≡ frames_of (rows_in tree) path → trib' ≡ trib
+    → node_counts (rows_of table) trib' ≡ counts (rows_in tree) path trib
+same_counts tree path table trib trib' same e =
+    ap (λ frames n. slice_index (slice_index_or frames n []) trib') same ∙ ap (counts (rows_in tree) path) e
+
+pub count_most : (tree : Tree) (path : List ℕ) (table : Table) (trib trib' frame n : ℕ) → IsTree tree
+    → node_frames (rows_of table) ≡ frames_of (rows_in tree) path → trib' ≡ trib → n ≡ node_counts (rows_of table) trib' frame
+    → n ≤ len_at tree.levels.items path
+count_most tree path table trib trib' frame n h same e value =
+    subst (λ k. k ≤ len_at tree.levels.items path) (sym (value ∙ ap (λ f. f frame) (same_counts tree path table trib trib' same e)))
+    (counts_most tree.levels.items (rows_in tree) path trib frame (tree_sound tree h))
+
+pub total_most : (tree : Tree) (path : List ℕ) (table : Table) (trib trib' frames n : ℕ) → IsTree tree
+    → node_frames (rows_of table) ≡ frames_of (rows_in tree) path → trib' ≡ trib → n ≡ arrived (node_counts (rows_of table) trib') frames
+    → n ≤ frames * len_at tree.levels.items path
+total_most tree path table trib trib' frames n h same e value =
+    subst (λ k. k ≤ frames * len_at tree.levels.items path) (sym (value ∙ ap (λ f. arrived f frames) (same_counts tree path table trib trib' same e)))
+    (arrived_most (counts (rows_in tree) path trib) (len_at tree.levels.items path)
+    (λ frame. counts_most tree.levels.items (rows_in tree) path trib frame (tree_sound tree h)) frames)
+
+-- a node that was read at its place, once for its path and once for its rows
+pub record IsReadAt (tree : Tree) (k : ℕ) (node again : NodeRows) : Type 0 where
+  pub inside : k < length (nodes_of tree.levels.items)
+  pub at : get_or (nodes_of tree.levels.items) k [] ≡ node_path node
+  pub frames : node_frames (rows_of again.table) ≡ frames_of (rows_in tree) (node_path node)
+
+pub read_at : (tree : Tree) (k : ℕ) (node again : NodeRows) → IsTree tree → k < length tree.nodes.items
+    → node ≡ get_or tree.nodes.items k node → again ≡ get_or tree.nodes.items k again → IsReadAt tree k node again
+read_at tree k node again h inside read read' =
+    let path : node_path node ≡ get_or (nodes_of tree.levels.items) k [] = ap node_path read ∙ path_of_node tree k node [] h inside in
+    let path' : node_path again ≡ get_or (nodes_of tree.levels.items) k [] = ap node_path read' ∙ path_of_node tree k again [] h inside in
+    record {
+      inside = subst (λ n. k < n) (length-nodes tree h) inside;
+      at = sym path;
+      frames = ap (λ (node : NodeRows). node_frames (rows_of node.table)) read' ∙ sym (frames_of_node tree k again h inside)
+          ∙ ap (λ node. frames_of (rows_in tree) (node_path node)) (sym read') ∙ ap (frames_of (rows_in tree)) (path' ∙ sym path);
+    }

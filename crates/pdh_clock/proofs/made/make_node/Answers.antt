@@ -1,0 +1,84 @@
+use Rattle.std.proofs.Common.{◌≡◌, ◌∙◌, ◌-◌, [], length, get_or, refl, ap, sym, subst, arith}
+use Rattle.std.specs.Vec.{with_item}
+use Rattle.pdh_clock.specs.declared.tree.NodeRows.{NodeRows}
+use Rattle.pdh_clock.specs.declared.tree.Tree.{Tree}
+use Rattle.pdh_clock.specs.Chain.{steps_of, nodes_of}
+use Rattle.pdh_clock.specs.Begun.{NoneShort}
+use Rattle.pdh_clock.specs.Made.{offset_of}
+use Rattle.pdh_clock.specs.Making.{last_step}
+use Rattle.pdh_clock.specs.Stored.{contents_of, node_path, place_of}
+use Rattle.pdh_clock.proofs.Levels.{level_in, level_is}
+use Rattle.pdh_clock.proofs.Trees.{Changes, IsTree_changed, path_of_node, place_of_node}
+use Rattle.pdh_clock.proofs.MadeRows.{made_rows}
+use Rattle.pdh_clock.proofs.MadeTrees.{begun_is_made, made-few, none_short_made}
+use Rattle.pdh_clock.proofs.MadeNodes.{IsMadeNode, rated_is, changes_made, made_more}
+use Rattle.pdh_clock.proofs.made.make_node.Goals as goal
+
+pub begun-frames-requires-clause-enough : goal.begun-frames-requires-clause-enough
+begun-frames-requires-clause-enough c =
+    let tree = c.args.tree.now in
+    let place = ap (λ node. place_of tree.levels.items (node_path node)) c.index.ensures ∙ place_of_node tree c.args.place _ c.requires.tree c.requires.inside in
+    subst (NoneShort (contents_of tree) c.args.top_frames) (sym place) (none_short_made tree c.args.bias c.args.top_frames c.args.place c.requires.before)
+
+pub clocks_of-clocks-requires : goal.clocks_of-clocks-requires
+clocks_of-clocks-requires c =
+    let tree = c.args.tree.now in
+    let path = steps_of c.index.result.now.path in
+    omega (arith, (level_in tree.levels.items path c.level_of-level.result c.level_of-level.ensures).inside, c.len.ensures)
+
+pub made_table-requires-clause-level : goal.made_table-requires-clause-level
+made_table-requires-clause-level c =
+    level_is c.args.tree.now.levels.items (steps_of c.index.result.now.path) c.level_of-level.result c.requires.tree.levels_are.each c.level_of-level.ensures
+
+pub made_table-requires-clause-rated : goal.made_table-requires-clause-rated
+made_table-requires-clause-rated c = rated_is c.args.tree.now.levels.items (steps_of c.index.result.now.path) c.level_of-level.result c.requires.rated c.level_of-level.ensures
+
+pub made_table-requires-clause-few : goal.made_table-requires-clause-few
+made_table-requires-clause-few c =
+    let tree = c.args.tree.now in
+    let path = steps_of c.index.result.now.path in
+    let place : place_of tree.levels.items path ≡ c.args.place =
+    ap (λ node. place_of tree.levels.items (node_path node)) c.index.ensures ∙ place_of_node tree c.args.place _ c.requires.tree c.requires.inside in
+    let begun = begun_is_made tree c.args.bias c.args.top_frames c.args.place path c.level_of-level.result c.requires.before c.level_of-level.ensures (omega arith) in
+    let few = made-few tree.levels.items c.args.bias c.args.top_frames path c.level_of-level.result c.requires.tree.levels_are c.requires.rated c.requires.few c.level_of-level.ensures in
+    omega (arith, c.begun-frames.ensures, begun, few)
+
+-- the node with its rows
+abbrev node_after : goal.After-drop-index_mut-4 → NodeRows
+node_after c = record { path = c.index_mut.result.now.path; table = c.in_ok-tree.field-0 }
+
+abbrev tree_after : goal.After-drop-index_mut-4 → Tree
+tree_after c = record { levels = c.args.tree.now.levels; nodes = with_item c.args.tree.now.nodes c.args.place (node_after c) }
+
+makes : (c : goal.After-drop-index_mut-4) → IsMadeNode c.args.tree.now c.args.bias c.args.top_frames c.args.place (steps_of c.index.result.now.path) (node_after c)
+    c.level_of-level.result c.clocks_of-clocks.result.height c.clocks_of-clocks.result.line c.begun-frames.result
+makes c =
+    let tree = c.args.tree.now in
+    let path : steps_of c.index.result.now.path ≡ get_or (nodes_of tree.levels.items) c.args.place [] =
+    ap node_path c.index.ensures ∙ path_of_node tree c.args.place _ [] c.requires.tree c.requires.inside in
+    let path' : node_path (node_after c) ≡ get_or (nodes_of tree.levels.items) c.args.place [] =
+    ap node_path c.index_mut.ensures.value ∙ path_of_node tree c.args.place _ [] c.requires.tree c.requires.inside in
+    record {
+      inside = c.requires.inside;
+      path_is = sym path;
+      place_is = ap (λ node. place_of tree.levels.items (node_path node)) c.index.ensures ∙ place_of_node tree c.args.place _ c.requires.tree c.requires.inside;
+      known_is = c.level_of-level.ensures;
+      node_is = path' ∙ sym path;
+      height_is = omega (arith, c.clocks_of-clocks.ensures.height, c.len.ensures);
+      line_is = c.clocks_of-clocks.ensures.line ∙ ap (λ n. offset_of c.args.bias (n - length (steps_of c.index.result.now.path)) (last_step (steps_of c.index.result.now.path))) (omega (arith, c.len.ensures));
+      frames_are = c.begun-frames.ensures;
+      stored = c.in_ok-tree.ensures.table;
+      tribs = c.in_ok-tree.ensures.tribs;
+      rows = c.in_ok-tree.ensures.rows ∙ ap (λ bias. made_rows c.level_of-level.result bias c.clocks_of-clocks.result.height c.clocks_of-clocks.result.line c.begun-frames.result) c.clocks_of-clocks.ensures.bias;
+    }
+
+changes : (c : goal.After-drop-index_mut-4) → Changes c.args.tree.now (tree_after c) c.args.place (node_after c)
+changes c = changes_made c.args.tree.now (tree_after c) c.args.bias c.args.top_frames c.args.place (steps_of c.index.result.now.path) (node_after c)
+    c.level_of-level.result c.clocks_of-clocks.result.height c.clocks_of-clocks.result.line c.begun-frames.result c.requires.tree c.requires.rated (makes c) refl refl
+
+pub returns-clause-tree : goal.returns-clause-tree
+returns-clause-tree c = IsTree_changed c.args.tree.now (tree_after c) c.args.place (node_after c) c.requires.tree (changes c)
+
+pub returns-clause-made : goal.returns-clause-made
+returns-clause-made c = made_more c.args.tree.now (tree_after c) c.args.bias c.args.top_frames c.args.place (steps_of c.index.result.now.path) (node_after c)
+    c.level_of-level.result c.clocks_of-clocks.result.height c.clocks_of-clocks.result.line c.begun-frames.result c.requires.tree c.requires.before (makes c) (changes c)

@@ -1,0 +1,43 @@
+use Rattle.std.proofs.Common.{◌≡◌, ◌∙◌, ◌*◌, ◌-◌, ◌≤◌, [], ◌∷◌, ap, sym, subst}
+use Rattle.pdh_clock.specs.Chain.{steps_of}
+use Rattle.pdh_clock.specs.Contents.{counts, frame_count}
+use Rattle.pdh_clock.specs.Begun.{taken, begun_by, bits_made, top_len}
+use Rattle.pdh_clock.specs.Stored.{contents_of, place_of, rows_in}
+use Rattle.pdh_clock.proofs.Levels.{first_step}
+use Rattle.pdh_clock.proofs.Begins.{child, bits_child, enough_at, top_len_is, first_node, top_before, first_before, stores_child}
+use Rattle.pdh_clock.proofs.tree.Tree.bits.Goals as goal
+
+pub overflow_sub-node : goal.overflow_sub-node
+overflow_sub-node c = (first_step c.args.self.now.levels.items c.args.node.now c.requires.tree.levels_are.each c.if-node-eq0.false c.requires.node).0
+
+pub taken-first-requires-clause-in_range : goal.taken-first-requires-clause-in_range
+taken-first-requires-clause-in_range c =
+    let levels = c.args.self.now.levels.items in
+    stores_child levels [] c.args.node.now.first c.requires.tree.levels_are.each (child levels [] c.args.node.now.first (first_node levels c.args.node.now c.if-node-eq0.false c.requires.node))
+
+pub taken-first-requires-clause-enough : goal.taken-first-requires-clause-enough
+taken-first-requires-clause-enough c = λ level is.
+    let schedule = contents_of c.args.self.now in
+    let some = c.requires.tree.levels_are.some in
+    let len : c.from-2.result ≡ top_len schedule.levels = c.from-2.ensures
+    ∙ ap (λ l. l.len) c.index.ensures ∙ sym (top_len_is schedule.levels c.index.result.now some) in
+    let top : c.from.result * c.from-2.result ≡ bits_made schedule c.args.top_frames [] = ap (λ n. n * c.from-2.result) c.from.ensures ∙ ap (λ n. c.args.top_frames * n) len in
+    subst (λ x. begun_by level.len x ≤ frame_count (rows_in c.args.self.now) []) (sym top)
+    (enough_at schedule c.args.top_frames (place_of schedule.levels (steps_of c.args.node.now)) [] level c.requires.enough is
+    (top_before schedule.levels c.args.node.now c.if-node-eq0.false c.requires.node))
+
+pub taken-requires-clause-enough : goal.taken-requires-clause-enough
+taken-requires-clause-enough c = λ level is.
+    let schedule = contents_of c.args.self.now in
+    let some = c.requires.tree.levels_are.some in
+    let len : c.from-2.result ≡ top_len schedule.levels = c.from-2.ensures
+    ∙ ap (λ l. l.len) c.index.ensures ∙ sym (top_len_is schedule.levels c.index.result.now some) in
+    let top : c.from.result * c.from-2.result ≡ bits_made schedule c.args.top_frames [] = ap (λ n. n * c.from-2.result) c.from.ensures ∙ ap (λ n. c.args.top_frames * n) len in
+    let first = child schedule.levels [] c.args.node.now.first (first_node schedule.levels c.args.node.now c.if-node-eq0.false c.requires.node) in
+    let made : c.taken-first.result ≡ bits_made schedule c.args.top_frames (c.args.node.now.first ∷ []) =
+    c.taken-first.ensures.taken first.level first.is
+    ∙ ap (taken first.level (counts schedule.rows [] (c.args.node.now.first - 1))) top
+    ∙ sym (bits_child schedule c.args.top_frames [] c.args.node.now.first first.level first.is) in
+    subst (λ x. begun_by level.len x ≤ frame_count (rows_in c.args.self.now) (c.args.node.now.first ∷ [])) (sym made)
+    (enough_at schedule c.args.top_frames (place_of schedule.levels (steps_of c.args.node.now)) (c.args.node.now.first ∷ []) level c.requires.enough is
+    (first_before schedule.levels c.args.node.now c.if-node-eq0.false c.if-node-eq1.false c.requires.node))

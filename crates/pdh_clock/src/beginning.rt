@@ -1,0 +1,103 @@
+//! How many frames each node begins while the top makes a number of frames.
+
+ghost use Rattle.std.specs.Prelude.{◌≡◌, ◌≤◌, ◌<◌, ◌*◌, ◌+◌, ◌^◌, IsSome, Some, option_map};
+ghost use Rattle.pdh_shape.specs.declared.place.Level.{Level};
+ghost use Rattle.pdh_clock.specs.Chain.{level_at, stores_at, steps_of};
+ghost use Rattle.pdh_clock.specs.Contents.{counts, frame_count};
+ghost use Rattle.pdh_clock.specs.Begun.{taken as bits_taken, begun_by, bits_made, frames_begun, NoneShort, shortage, shortage_of};
+ghost use Rattle.pdh_clock.specs.Stored.{IsTree, contents_of, place_of, rows_in};
+
+use crate::tree::{TOP, Tree};
+use pdh_shape::Path;
+
+/// A node that has fewer frames than it is to begin.
+#[derive(Clone, Copy, Debug, PartialEq, Eq)]
+pub struct Short {
+    /// The node.
+    pub node: Path,
+    /// How many frames the schedule gives it.
+    pub have: u64,
+    /// How many frames it is to begin.
+    pub need: u64,
+}
+
+// How many bits of each tributary are taken before the first slot of the first frame.
+const LEAD: u128 = 24;
+
+impl Tree {
+    /// How many bits of a tributary, counted from 0, a node has taken when it made so many bits of its line.
+    fn taken(&self, node: &Path, trib: u8, bits: u128) -> u128
+        requires tree { IsTree self.now }
+        requires in_range { trib < stores_at self.now.levels.items (steps_of node.now) }
+        requires enough { (level : Level) → level_at self.now.levels.items (steps_of node.now) ≡ Some level
+            → begun_by level.len bits ≤ frame_count (rows_in self.now) (steps_of node.now) }
+        requires few { (level : Level) → level_at self.now.levels.items (steps_of node.now) ≡ Some level → bits ≤ 18446744073709551615 * level.len }
+        ensures taken { (level : Level) → level_at self.now.levels.items (steps_of node.now) ≡ Some level
+            → result ≡ bits_taken level (counts (rows_in self.now) (steps_of node.now) trib) bits }
+        ensures few { result ≤ 2 ^ 65 }
+    {
+        if bits == 0 {
+            return 0;
+        }
+        let len = u128::from(self.level_of(node).len);
+        let table = self.table_of(node);
+        let frames = (bits / len) as u64;
+        let begun = bits % len;
+        let before = LEAD + u128::from(table.total(frames, usize::from(trib)));
+        if begun == 0 {
+            return before;
+        }
+        before + begun * u128::from(table.count(frames, usize::from(trib))) / len
+    }
+
+    /// How many bits a node makes while the top makes so many frames.
+    fn bits(&self, node: &Path, top_frames: u64) -> u128
+        requires tree { IsTree self.now }
+        requires node { IsSome (level_at self.now.levels.items (steps_of node.now)) }
+        requires enough { NoneShort (contents_of self.now) top_frames (place_of self.now.levels.items (steps_of node.now)) }
+        ensures bits { result ≡ bits_made (contents_of self.now) top_frames (steps_of node.now) }
+        ensures few { (level : Level) → level_at self.now.levels.items (steps_of node.now) ≡ Some level → result ≤ 18446744073709551615 * level.len }
+    {
+        let top = u128::from(top_frames) * u128::from(self.levels[0].len);
+        if node.depth == 0 {
+            return top;
+        }
+        let first = self.taken(&TOP, node.first - 1, top);
+        if node.depth == 1 {
+            return first;
+        }
+        let parent = Path {
+            depth: 1,
+            first: node.first,
+            second: 0,
+        };
+        self.taken(&parent, node.second - 1, first)
+    }
+
+    /// How many frames a node begins while the top makes so many, where no node before it has too few.
+    pub fn begun(&self, node: &Path, top_frames: u64) -> u64
+        requires tree { IsTree self.now }
+        requires node { IsSome (level_at self.now.levels.items (steps_of node.now)) }
+        requires enough { NoneShort (contents_of self.now) top_frames (place_of self.now.levels.items (steps_of node.now)) }
+        ensures { result ≡ frames_begun (contents_of self.now) top_frames (steps_of node.now) }
+    {
+        let len = u128::from(self.level_of(node).len);
+        self.bits(node, top_frames).div_ceil(len) as u64
+    }
+
+    /// The first node that has fewer frames than it begins while the top makes so many.
+    pub fn short(&self, top_frames: u64) -> Option<Short>
+        requires { IsTree self.now }
+        ensures { option_map shortage_of result ≡ shortage (contents_of self.now) top_frames }
+    {
+        for place in 0..self.nodes.len() {
+            let node = self.nodes[place].path;
+            let have = self.nodes[place].table.frames();
+            let need = self.begun(&node, top_frames);
+            if have < need {
+                return Some(Short { node, have, need });
+            }
+        }
+        None
+    }
+}

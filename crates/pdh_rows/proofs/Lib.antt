@@ -1,0 +1,9 @@
+pub mod Joining
+pub mod Storing
+pub mod Tabled
+pub mod Located
+pub mod Adding
+pub mod OutsideLaws
+pub mod Rising
+pub mod FirstBreaks
+pub mod Parts

@@ -1,0 +1,93 @@
+-- The two bounds of the tolerance, each as two sums over frames, and the runs of frames that pass a bound.
+use Rattle.std.specs.Prelude.{◌≡◌, ℕ, suc, ◌+◌, ◌*◌, ◌<◌, ◌≤◌, nat_lt, nat_le, ◌==◌, ◌&&◌, ◌||◌, Bool, Option, Some, None, if◌then◌else◌}
+use Rattle.pdh_line.specs.Sending.{arrived}
+use Rattle.pdh_line.specs.Tolerance.{allowance}
+use Rattle.pdh_rows.specs.declared.table.TribRow.{TribRow}
+use Rattle.pdh_rows.specs.declared.tolerance.Bound.{Bound}
+use Rattle.pdh_rows.specs.declared.tolerance.Bound.TheVariants.{Most, Least}
+use Rattle.pdh_rows.specs.declared.tolerance.Part.{Part}
+use Rattle.pdh_rows.specs.declared.tolerance.Span.{Span}
+
+-- What brings a run of so many frames, in which so many bits arrive, nearer to the bound: the bits that arrive, or those
+-- that the frames carry at least.
+abbrev pub gains_of : Bound → ℕ → ℕ → ℕ → ℕ
+gains_of Most low frames bits = bits
+gains_of Least low frames bits = low * frames
+
+-- and what takes it away: the bits that the frames carry at most, or those that arrive
+abbrev pub losses_of : Bound → ℕ → ℕ → ℕ → ℕ
+losses_of Most low frames bits = suc low * frames
+losses_of Least low frames bits = bits
+
+-- both over the first n frames
+abbrev pub gains : Bound → ℕ → (ℕ → ℕ) → ℕ → ℕ
+gains bound low counts n = gains_of bound low n (arrived counts n)
+
+abbrev pub losses : Bound → ℕ → (ℕ → ℕ) → ℕ → ℕ
+losses bound low counts n = losses_of bound low n (arrived counts n)
+
+-- a run from one frame up to but without another passes the bound: it gains more than it loses, by more than the allowance
+abbrev pub Passes : (ℕ → ℕ) → (ℕ → ℕ) → ℕ → ℕ → Type 0
+Passes gains losses from to = gains from + losses to + allowance < gains to + losses from
+
+-- it doesn't
+abbrev pub Keeps : (ℕ → ℕ) → (ℕ → ℕ) → ℕ → ℕ → Type 0
+Keeps gains losses from to = gains to + losses from ≤ gains from + losses to + allowance
+
+-- no run inside so many frames passes the bound
+abbrev pub AllKeep : (ℕ → ℕ) → (ℕ → ℕ) → ℕ → Type 0
+AllKeep gains losses frames = (from to : ℕ) → from ≤ to → to ≤ frames → Keeps gains losses from to
+
+-- inside so many frames this is the least end of a run that passes the bound
+pub record IsFirstEnd (gains losses : ℕ → ℕ) (frames to : ℕ) : Type 0 where
+  pub inside : to ≤ frames
+  pub from : ℕ
+  pub before : from ≤ to
+  pub passes : Passes gains losses from to
+  pub least : (m n : ℕ) → m ≤ n → n < to → Keeps gains losses m n
+
+-- this is the run that passes the bound with the least end, and for it the least first frame
+pub record IsFirstBreak (gains losses : ℕ → ℕ) (frames : ℕ) (span : Span) : Type 0 where
+  pub inside : span.to ≤ frames
+  pub before : span.from ≤ span.to
+  pub passes : Passes gains losses span.from span.to
+  pub least_end : (m n : ℕ) → m ≤ n → n < span.to → Keeps gains losses m n
+  pub least_start : (m : ℕ) → m < span.from → Keeps gains losses m span.to
+
+-- this is the least first frame of a run that ends there and passes the bound
+pub record IsFirstStart (gains losses : ℕ → ℕ) (to from : ℕ) : Type 0 where
+  pub before : from ≤ to
+  pub passes : Passes gains losses from to
+  pub least : (m : ℕ) → m < from → Keeps gains losses m to
+
+-- a row begins behind so many frames; a tributary has the same count in each of its frames, and so many bits before it
+pub record IsTribRow (counts : ℕ → ℕ) (start next : ℕ) (row : TribRow) : Type 0 where
+  pub first : row.first ≡ start
+  pub ends : next ≡ start + row.frames
+  pub bits : (n : ℕ) → n ≤ row.frames → arrived counts (start + n) ≡ row.before + n * row.count
+
+-- the same of both sums of a bound
+pub record IsPart (gains losses : ℕ → ℕ) (start next : ℕ) (part : Part) : Type 0 where
+  pub first : part.first ≡ start
+  pub ends : next ≡ start + part.frames
+  pub gained : (n : ℕ) → n ≤ part.frames → gains (start + n) ≡ part.before.gains + n * part.each.gains
+  pub lost : (n : ℕ) → n ≤ part.frames → losses (start + n) ≡ part.before.losses + n * part.each.losses
+
+-- n is the least number of steps, of at most so many, after which one sum that grows evenly is above another
+pub record IsCrossing (lower lower_step upper upper_step most n : ℕ) : Type 0 where
+  pub inside : n ≤ most
+  pub above : lower + n * lower_step < upper + n * upper_step
+  pub least : (k : ℕ) → k < n → upper + k * upper_step ≤ lower + k * lower_step
+
+-- there's no such number
+abbrev pub NeverCrosses : ℕ → ℕ → ℕ → ℕ → ℕ → Type 0
+NeverCrosses lower lower_step upper upper_step most = (k : ℕ) → k ≤ most → upper + k * upper_step ≤ lower + k * lower_step
+
+-- one run ends before another, or where it ends and begins no later
+abbrev pub is_earlier : Span → Span → Bool
+is_earlier a b = nat_lt a.to b.to || (a.to == b.to && nat_le a.from b.from)
+
+abbrev pub earlier : Option Span → Option Span → Option Span
+earlier None other = other
+earlier (Some span) None = Some span
+earlier (Some span) (Some other) = if is_earlier span other then Some span else Some other

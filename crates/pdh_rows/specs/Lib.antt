@@ -1,0 +1,5 @@
+pub mod Rows
+pub mod Stored
+pub mod Outside
+pub mod Bounds
+pub mod Runs

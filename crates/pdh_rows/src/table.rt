@@ -1,0 +1,160 @@
+//! The rows of a node, each with what came before it.
+
+ghost use Rattle.std.specs.Prelude.{◌≡◌, ◌≤◌, ◌<◌, ◌*◌, ◌+◌, ◌-◌, ◌^◌, ℕ, [], ◌∷◌, ◌++◌, length, slice_index, slice_index_or, OnOk, IfOk};
+ghost use Rattle.std.specs.List.Sorted.{IsNonDecreasing};
+ghost use Rattle.pdh_rows.specs.Stored.{IsTable, node_row, rows_of, row_frames, row_bits, sum_with};
+ghost use Rattle.pdh_rows.specs.Rows.{node_frame_count, node_counts};
+ghost use Rattle.pdh_rows.specs.Bounds.{IsTribRow};
+ghost use Rattle.pdh_line.specs.Sending.{arrived};
+
+use std::alloc::{AllocError, Global};
+
+/// The rows of a node. Rows stay rows, however many frames they have, and the row of a frame is found by halves.
+#[derive(Drop)]
+pub struct Table {
+    /// How many counts a row has.
+    pub tribs: usize,
+    /// Of how many frames each row is.
+    pub repeats: Vec<u32>,
+    /// The number of each row's first frame, and then the number of all frames.
+    pub firsts: Vec<u64>,
+    /// The counts of each row, in bits.
+    pub counts: Vec<u32>,
+    /// For each row the bits of each tributary in the rows before it, and then those in all rows.
+    pub before: Vec<u64>,
+}
+
+/// A row as it is for one of its tributaries.
+#[derive(Clone, Copy)]
+pub struct TribRow {
+    /// The number of its first frame.
+    pub first: u64,
+    /// Of how many frames it is.
+    pub frames: u32,
+    /// The tributary's bits in the rows before it.
+    pub before: u64,
+    /// The tributary's bits in each of its frames.
+    pub count: u32,
+}
+
+/// Adds to the end, for each tributary, its bits in all rows before a row and in that row.
+fn push_sums(before: &mut Vec<u64>, repeat: u32, counts: &[u32]) -> Result<(), AllocError>
+    requires room { length counts.now ≤ length before.old.items }
+    requires fits { (trib : ℕ) → trib < length counts.now
+        → sum_with before.old.items repeat counts.now trib < 2 ^ 64 }
+    ensures len { OnOk result
+        (length before.new.items ≡ length before.old.items + length counts.now) }
+    ensures kept { OnOk result ((k : ℕ) → k < length before.old.items
+        → slice_index before.new.items k ≡ slice_index before.old.items k) }
+    ensures sums { OnOk result ((trib : ℕ) → trib < length counts.now
+        → slice_index before.new.items (length before.old.items + trib)
+        ≡ sum_with before.old.items repeat counts.now trib) }
+{
+    for count in counts {
+        let sum = before[before.len() - counts.len()];
+        before.push(sum + u64::from(repeat) * u64::from(*count))?;
+    }
+    Ok(())
+}
+
+/// The number of the row that a frame is of, by the number of each row's first frame.
+fn row_with(firsts: &[u64], frame: u64) -> usize
+    requires rising { IsNonDecreasing firsts.now }
+    requires begun { slice_index firsts.now 0 ≤ frame }
+    requires ended { frame < slice_index firsts.now (length firsts.now - 1) }
+    ensures row { result + 1 < length firsts.now }
+    ensures first { slice_index firsts.now result ≤ frame }
+    ensures next { frame < slice_index firsts.now (result + 1) }
+{
+    firsts.partition_point(|first| *first <= frame) - 1
+}
+
+impl Table {
+    /// A table with no row.
+    pub fn new(alloc: Global, tribs: usize) -> Result<Table, AllocError>
+        requires { 0 < tribs }
+        ensures table { IfOk result (λ table. IsTable table) }
+        ensures tribs { IfOk result (λ table. table.tribs ≡ tribs) }
+        ensures rows { IfOk result (λ table. rows_of table ≡ []) }
+    {
+        Ok(Table {
+            tribs,
+            repeats: Vec::new(alloc),
+            firsts: vec![in alloc; 0; 1]?,
+            counts: Vec::new(alloc),
+            before: vec![in alloc; 0; tribs]?,
+        })
+    }
+
+    /// Adds a row at the end.
+    pub fn add(&mut self, repeat: u32, counts: &[u32]) -> Result<(), AllocError>
+        requires table { IsTable self.old }
+        requires tribs { length counts.now ≡ self.old.tribs }
+        requires frames_fit { row_frames (rows_of self.old) + repeat < 2 ^ 64 }
+        requires bits_fit { (trib : ℕ) → trib < self.old.tribs
+            → row_bits (rows_of self.old) trib + repeat * slice_index counts.now trib < 2 ^ 64 }
+        ensures table { OnOk result (IsTable self.new) }
+        ensures tribs { OnOk result (self.new.tribs ≡ self.old.tribs) }
+        ensures rows { OnOk result
+            (rows_of self.new ≡ rows_of self.old ++ node_row repeat counts.now ∷ []) }
+    {
+        let frames = self.frames();
+        push_sums(&mut self.before, repeat, counts)?;
+        self.counts.extend_from_slice(counts)?;
+        self.firsts.push(frames + u64::from(repeat))?;
+        self.repeats.push(repeat)?;
+        Ok(())
+    }
+
+    /// How many frames the node has.
+    pub fn frames(&self) -> u64
+        requires { IsTable self.now }
+        ensures { result ≡ node_frame_count (rows_of self.now) }
+    {
+        self.firsts[self.repeats.len()]
+    }
+
+    /// The count of a tributary in a frame, in bits.
+    pub fn count(&self, frame: u64, trib: usize) -> u32
+        requires table { IsTable self.now }
+        requires scheduled { frame < node_frame_count (rows_of self.now) }
+        requires in_range { trib < self.now.tribs }
+        ensures { result ≡ node_counts (rows_of self.now) trib frame }
+    {
+        self.counts[row_with(&self.firsts, frame) * self.tribs + trib]
+    }
+
+    /// How many bits of a tributary arrive in the first frames.
+    pub fn total(&self, frames: u64, trib: usize) -> u64
+        requires table { IsTable self.now }
+        requires scheduled { frames ≤ node_frame_count (rows_of self.now) }
+        requires in_range { trib < self.now.tribs }
+        ensures { result ≡ arrived (node_counts (rows_of self.now) trib) frames }
+    {
+        if frames == 0 {
+            return 0;
+        }
+        let row = row_with(&self.firsts, frames - 1);
+        let place = row * self.tribs + trib;
+        let before = self.before.as_slice();
+        before[place] + (frames - self.firsts[row]) * u64::from(self.counts[place])
+    }
+
+    /// The row of that number, for a tributary.
+    pub fn trib_row(&self, row: usize, trib: usize) -> TribRow
+        requires table { IsTable self.now }
+        requires row { row < length self.now.repeats.items }
+        requires in_range { trib < self.now.tribs }
+        ensures row { IsTribRow (node_counts (rows_of self.now) trib) (slice_index self.now.firsts.items row) (slice_index self.now.firsts.items (row + 1)) result }
+        ensures fits { result.first + result.frames < 2 ^ 64 }
+    {
+        let place = row * self.tribs + trib;
+        let firsts = self.firsts.as_slice();
+        TribRow {
+            first: firsts[row],
+            frames: self.repeats[row],
+            before: self.before[place],
+            count: self.counts[place],
+        }
+    }
+}
