@@ -2,9 +2,9 @@
 use Rattle.std.proofs.Common.{◌≡◌, ℕ, [], ◌*◌, ◌<◌, refl, lit<, lit≤}
 use Rattle.pdh_shape.specs.Frame.{IsFrame}
 use Rattle.pdh_shape.specs.Tributary.{HasTributaries, ReadsEvenly}
-use Rattle.pdh_shape.specs.E2Laws.{e2_is_frame, e2_has_tributaries, e2_reads_evenly}
-use Rattle.pdh_shape.specs.E3Laws.{e3_is_frame, e3_has_tributaries, e3_reads_evenly}
-use Rattle.pdh_shape.specs.E4Laws.{e4_is_frame, e4_has_tributaries, e4_reads_evenly}
+use Rattle.pdh_shape.specs.laws.E2Laws.{e2_is_frame, e2_has_tributaries, e2_reads_evenly}
+use Rattle.pdh_shape.specs.laws.E3Laws.{e3_is_frame, e3_has_tributaries, e3_reads_evenly}
+use Rattle.pdh_shape.specs.laws.E4Laws.{e4_is_frame, e4_has_tributaries, e4_reads_evenly}
 use Rattle.pdh_line.proofs.SendingLaws.{HasStores}
 use Rattle.pdh_clock.specs.Chain.{IsLevel, stores_at, len_at, low_at}
 use Rattle.pdh_clock.specs.Made.{IsRated}

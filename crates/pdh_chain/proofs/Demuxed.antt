@@ -83,7 +83,7 @@ part shapes m bits inputs inputs_now outputs outputs_now same are receives =
 pub stops : (shapes : List FrameShape) (m : Meaning) (bits : ℕ) (inputs inputs_now : Inputs) (outputs outputs_now : Outputs) (first reads now start writes writes_now : ℕ) (stop : DemuxStop) → m ≡ chain_receiver shapes → AreFrames shapes → first ≤ reads → start ≤ writes
     → IsReceiveStop m bits inputs inputs_now outputs outputs_now reads now writes writes_now stop → IsDemuxStop shapes bits inputs inputs_now outputs outputs_now first now start writes_now stop
 stops shapes m bits inputs inputs_now outputs outputs_now first reads now start writes writes_now Memory same are h h' why = absurd why
-stops shapes m bits inputs inputs_now outputs outputs_now first reads now start writes writes_now Ended same are h h' why = (why.0, fewer shapes m bits inputs inputs_now outputs outputs_now same are why.1)
+stops shapes m bits inputs inputs_now outputs outputs_now first reads now start writes writes_now Ended same are h h' why = (why.0, why.1, fewer shapes m bits inputs inputs_now outputs outputs_now same are why.2)
 stops shapes m bits inputs inputs_now outputs outputs_now first reads now start writes writes_now ReadFailed same are h h' why = (omega (arith, why.0, h), fewer shapes m bits inputs inputs_now outputs outputs_now same are why.1)
 stops shapes m bits inputs inputs_now outputs outputs_now first reads now start writes writes_now WriteFailed same are h h' why = (omega (arith, why.0, h'), part shapes m bits inputs inputs_now outputs outputs_now same are why.1)
 

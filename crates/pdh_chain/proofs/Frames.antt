@@ -132,6 +132,7 @@ stops_at m plan a stop x y faults now s = record {
   no_fewer = λ k leaf. omega arith;
   no_more = s.no_more;
   free = λ size fits i l h. absurd (omega arith);
+  used_up = s.used_up;
   met = s.met;
 }
 
@@ -143,6 +144,7 @@ stops_at_then m plan a b made g h stop x y z faults later now p free le s = reco
   no_fewer = λ k leaf. omega (arith, p.exact k leaf, s.no_fewer k leaf, length-append (g k) (h k));
   no_more = λ k leaf. omega (arith, p.exact k leaf, s.no_more k leaf, length-append (g k) (h k));
   free = free_then m plan a b made g x y p free s.free;
+  used_up = s.used_up;
   met = record {
     rose = λ e. rose_since faults later now le (s.met.rose e);
     is_first = λ e size fits. s.met.is_first e size (fits_then m plan a b g x y size p fits);

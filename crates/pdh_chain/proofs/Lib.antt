@@ -10,3 +10,5 @@ pub mod Receivers
 pub mod Senders
 pub mod Stops
 pub mod SenderStops
+pub mod ShortLists
+pub mod Tolerated

@@ -23,16 +23,15 @@ use Rattle.pdh_nesting.proofs.EventParts.{events_below-none}
 use Rattle.pdh_tx.specs.declared.tx.TxStop.{TxStop}
 use Rattle.pdh_tx.specs.declared.tx.TxStop.TheVariants.{Overflow, Underflow, NoFrame, Failed, Ended}
 use Rattle.pdh_tx.specs.Meaning.{Plan, Supply, Meaning, IsNodeOf, HoldsAll, Fits, is_failed}
-use Rattle.pdh_tx.proofs.FirstEvents.{stop_of_kind}
 use Rattle.pdh_chain.specs.declared.stop.MuxStop.{MuxStop}
 use Rattle.pdh_chain.specs.declared.stop.MuxStop.TheVariants.{Memory as MuxMemory, Event as MuxEvent, NoFrame as MuxNoFrame, Ended as MuxEnded, ReadFailed as MuxReadFailed, WriteFailed as MuxWriteFailed}
 use Rattle.pdh_chain.specs.Trees.{top, sender_of, AreLevelsOf}
 use Rattle.pdh_chain.specs.Muxing.{as_line, Stood, IsFree, Sends, StopsSending, FailsToSend}
-use Rattle.pdh_chain.specs.Muxes.{bits_of, frames_of_line, BeginWith, PutsFrames, PutsFewer, PutsPrefix, Muxes, StopsAtEvent, LacksFrames, LacksBelow, IsMuxStop, is_overflow, place_of, mux_stop}
+use Rattle.pdh_chain.specs.Muxes.{plan_with, bits_of, frames_of_line, BeginWith, PutsFrames, PutsFewer, PutsPrefix, Muxes, StopsFirst, StopsAtEvent, LacksFrames, LacksBelow, IsMuxStop, is_overflow, place_of, stop_at, mux_stop}
 use Rattle.pdh_chain.proofs.Numbered.{IsAt}
 use Rattle.pdh_chain.proofs.TreeLeaves.{leaf_known, leaf_in, leaf_out}
-use Rattle.pdh_chain.proofs.Senders.{senders, plan_with, line_is, given_is, nodes_in}
-use Rattle.pdh_chain.proofs.Stops.{IsFirst, Tells, first_get}
+use Rattle.pdh_chain.proofs.Senders.{senders, line_is, given_is, nodes_in}
+use Rattle.pdh_chain.proofs.Stops.{stop_of_kind, IsFirst, Tells, first_get}
 use Rattle.pdh_chain.proofs.SenderStops.{Other, chain_tells, given_below-grows, lacks-grows}
 
 -- the sender of a whole chain
@@ -163,7 +162,7 @@ module _ (shapes : List FrameShape) (counts : Counts) (scheduled : List ℕ → 
   -- ---- all frames
 
   sends_muxes : (placed : ℕ → Type 0) (old new : Supply → ℕ → Type 0) (frames : ℕ) (inputs inputs_now : Inputs) (outputs outputs_now : Outputs) → ((supply : Supply) → old supply 0)
-      → Sends m placed old new plan (frames * top_len shapes) inputs inputs_now outputs outputs_now → Muxes shapes counts frames inputs inputs_now outputs outputs_now
+      → Sends m placed old new plan (frames * top_len shapes) inputs inputs_now outputs outputs_now → Muxes shapes counts scheduled frames inputs inputs_now outputs outputs_now
   sends_muxes placed old new frames inputs inputs_now outputs outputs_now fresh sends = record {
     line = record {
       given = sends.given;
@@ -173,6 +172,7 @@ module _ (shapes : List FrameShape) (counts : Counts) (scheduled : List ℕ → 
     };
     given_is = λ k known. omega (arith, sends.gives.takes.counts k, sends.gives.exact k (is_leaf shapes k known), given-none k known, given-is (frames * top_len shapes) k known);
     no_event = ap (λ es. slice_get es 0) (events_below-none shapes counts (frames * top_len shapes) (λ y h. quiet inputs (frames * top_len shapes) y sends.free h));
+    clear = λ x h. sends.free inputs.left (fits inputs) x (omega arith) h;
   }
 
   -- ---- a stop
@@ -180,7 +180,7 @@ module _ (shapes : List FrameShape) (counts : Counts) (scheduled : List ℕ → 
   module _ (old : Supply → ℕ → Type 0) (frames : ℕ) (stop : TxStop) (inputs inputs_now : Inputs) (outputs outputs_now : Outputs) (faults now : ℕ) (fresh : (supply : Supply) → old supply 0)
       (stops : StopsSending m old plan (top_len shapes) frames stop inputs inputs_now outputs outputs_now faults now) where
     -- the frames before it
-    whole_frames : PutsFrames shapes counts stops.whole inputs inputs_now outputs outputs_now
+    abbrev whole_frames : PutsFrames shapes counts stops.whole inputs inputs_now outputs outputs_now
     whole_frames = record {
       given = stops.given;
       takes = stops.at.takes;
@@ -191,10 +191,36 @@ module _ (shapes : List FrameShape) (counts : Counts) (scheduled : List ℕ → 
     made_inside : stops.made < frames * top_len shapes
     made_inside = omega (arith, mul-le-mul_right (top_len shapes) stops.fewer, stops.within)
 
+    -- it stands in the way before all frames are sent, and no leaf gave more than these frames and the next take
+    abbrev fewer_frames : PutsFewer shapes counts frames inputs inputs_now outputs outputs_now
+    fewer_frames = record {
+      whole = stops.whole;
+      fewer = stops.fewer;
+      line = whole_frames;
+      gives = record {
+        no_fewer = λ k known. omega (arith, stops.at.no_fewer k (is_leaf shapes k known), given-none k known, given-is stops.made k known, given_below-grows shapes counts [] (stops.whole * top_len shapes) stops.made k are stops.begun);
+        no_more = λ k known. omega (arith, stops.at.no_more k (is_leaf shapes k known), given-none k known, given-is (suc stops.made) k known, given_below-grows shapes counts [] (suc stops.made) (suc stops.whole * top_len shapes) k are stops.within);
+      };
+    }
+
+    -- it stands first in the way
+    stops_first : is_failed stop ≡ false → StopsFirst shapes counts scheduled frames stop inputs inputs_now outputs outputs_now
+    stops_first none = record {
+      obstacle = record {
+        made = stops.made;
+        within = made_inside;
+        clear = λ x h. stops.at.free inputs.left (fits inputs) x (omega arith) h;
+        met = stops.at.met.is_first none inputs.left (fits inputs);
+      };
+      put = fewer_frames;
+      begun = stops.begun;
+      within = stops.within;
+    }
+
     -- an event that the sender met is the first
-    at_event : (over : Bool) (place : Place) (first : IsFirst (events_in shapes counts [] stops.made) stop) → (over ≡ is_overflow first.event.kind) × (place ≡ place_of first.event)
-        → StopsAtEvent shapes counts frames over place inputs inputs_now outputs outputs_now
-    at_event over place first is = record {
+    at_event : (over : Bool) (place : Place) (first : IsFirst (events_in shapes counts [] stops.made) stop) → stop ≡ stop_at over place → is_failed stop ≡ false → (over ≡ is_overflow first.event.kind) × (place ≡ place_of first.event)
+        → StopsAtEvent shapes counts scheduled frames over place inputs inputs_now outputs outputs_now
+    at_event over place first same none is = record {
       event = first.event;
       first = first_event-at shapes counts frames stops.made first.event made_inside (λ y h. quiet inputs stops.made y stops.at.free h) first.first;
       kind = is.0;
@@ -206,33 +232,30 @@ module _ (shapes : List FrameShape) (counts : Counts) (scheduled : List ℕ → 
       begun = stops.begun;
       within = stops.within;
       line = whole_frames;
+      stops = subst (λ stop. StopsFirst shapes counts scheduled frames stop inputs inputs_now outputs outputs_now) same (stops_first none);
     }
 
     -- what stood in its way
     met : is_failed stop ≡ false → IsFirst (events_in shapes counts [] stops.made) stop ⊎ Other shapes counts scheduled inputs.left [] 0 (suc stops.made) stop
     met none = tells inputs.left stops.made (Some stop) (stops.at.met.is_first none inputs.left (fits inputs))
 
-    -- it stands in the way before all frames are sent
-    fewer_frames : PutsFewer shapes counts frames inputs inputs_now outputs outputs_now
-    fewer_frames = record { whole = stops.whole; fewer = stops.fewer; line = whole_frames }
-
   pub stops_muxes : (old : Supply → ℕ → Type 0) (frames : ℕ) (stop : TxStop) (inputs inputs_now : Inputs) (outputs outputs_now : Outputs) (faults now writes writes_now : ℕ) → frames ≤ scheduled [] → ((supply : Supply) → old supply 0)
       → StopsSending m old plan (top_len shapes) frames stop inputs inputs_now outputs outputs_now faults now
       → IsMuxStop shapes counts scheduled frames inputs inputs_now outputs outputs_now faults now writes writes_now (mux_stop stop)
   stops_muxes old frames Failed inputs inputs_now outputs outputs_now faults now writes writes_now has fresh stops = (stops.at.met.rose refl, fewer_frames old frames Failed inputs inputs_now outputs outputs_now faults now fresh stops)
   stops_muxes old frames (Overflow place) inputs inputs_now outputs outputs_now faults now writes writes_now has fresh stops = elim (met old frames (Overflow place) inputs inputs_now outputs outputs_now faults now fresh stops refl) [
-    | inl first ↦ at_event old frames (Overflow place) inputs inputs_now outputs outputs_now faults now fresh stops true place first (over_is first.event.kind place (place_of first.event) first.is)
+    | inl first ↦ at_event old frames (Overflow place) inputs inputs_now outputs outputs_now faults now fresh stops true place first refl refl (over_is first.event.kind place (place_of first.event) first.is)
     | inr none ↦ absurd none
   ]
   stops_muxes old frames (Underflow place) inputs inputs_now outputs outputs_now faults now writes writes_now has fresh stops = elim (met old frames (Underflow place) inputs inputs_now outputs outputs_now faults now fresh stops refl) [
-    | inl first ↦ at_event old frames (Underflow place) inputs inputs_now outputs outputs_now faults now fresh stops false place first (under_is first.event.kind place (place_of first.event) first.is)
+    | inl first ↦ at_event old frames (Underflow place) inputs inputs_now outputs outputs_now faults now fresh stops false place first refl refl (under_is first.event.kind place (place_of first.event) first.is)
     | inr none ↦ absurd none
   ]
   stops_muxes old frames (NoFrame node) inputs inputs_now outputs outputs_now faults now writes writes_now has fresh stops = elim (met old frames (NoFrame node) inputs inputs_now outputs outputs_now faults now fresh stops refl) [
     | inl first ↦ absurd (no_event_missing first.event.kind node (place_of first.event) first.is)
     | inr lacks ↦ (
       record { steps = lacks.0; node_is = lacks.1; lacks = lacks_below shapes counts scheduled frames stops.whole stops.made lacks.0 are has stops.fewer stops.begun stops.within lacks.2 },
-      fewer_frames old frames (NoFrame node) inputs inputs_now outputs outputs_now faults now fresh stops,
+      stops_first old frames (NoFrame node) inputs inputs_now outputs outputs_now faults now fresh stops refl,
     )
   ]
   stops_muxes old frames (Ended leaf) inputs inputs_now outputs outputs_now faults now writes writes_now has fresh stops = elim (met old frames (Ended leaf) inputs inputs_now outputs outputs_now faults now fresh stops refl) [
@@ -242,9 +265,8 @@ module _ (shapes : List FrameShape) (counts : Counts) (scheduled : List ℕ → 
         let most : ℕ = frames * top_len shapes in
         let upto : suc stops.made ≤ most = made_inside old frames (Ended leaf) inputs inputs_now outputs outputs_now faults now fresh stops in
         let less : inputs.left leaf < given_below shapes counts [] most short.0 = omega (arith, short.3, given_below-grows shapes counts [] (suc stops.made) most short.0 are upto) in (
-          omega (arith, short.2, same),
-          subst (λ k. inputs.left leaf < given_below shapes counts [] most k) same less,
-          fewer_frames old frames (Ended leaf) inputs inputs_now outputs outputs_now faults now fresh stops,
+          record { known = omega (arith, short.2, same); short = subst (λ k. inputs.left leaf < given_below shapes counts [] most k) same less; used_up = stops.at.used_up },
+          stops_first old frames (Ended leaf) inputs inputs_now outputs outputs_now faults now fresh stops refl,
         )
   ]
 
@@ -260,6 +282,7 @@ module _ (shapes : List FrameShape) (counts : Counts) (scheduled : List ℕ → 
       given = fails.given;
       takes = fails.gives.takes;
       others = λ k other. fails.gives.others k (leaf_out senders shapes top k other);
+      exact = λ k known. omega (arith, fails.gives.exact k (is_leaf shapes k known), given-none k known, given-is (suc fails.whole * top_len shapes) k known);
       puts = λ lists begin.
           subst (λ line. PutsPart (as_line line) outputs outputs_now) (line-same lists (suc fails.whole)) (fails.puts (supply_with plan lists) (stood old fails.given lists fresh begin));
     },
@@ -269,7 +292,7 @@ module _ (shapes : List FrameShape) (counts : Counts) (scheduled : List ℕ → 
 
 module _ (shapes : List FrameShape) (counts : Counts) (scheduled : List ℕ → ℕ) (are : AreFrames shapes) (at : IsAt shapes top []) (m : Meaning) (len : ℕ) (same : m ≡ chain_sender shapes) (whole : top_len shapes ≡ len) where
   pub sent : (placed : ℕ → Type 0) (old new : Supply → ℕ → Type 0) (frames : ℕ) (inputs inputs_now : Inputs) (outputs outputs_now : Outputs) → ((supply : Supply) → old supply 0)
-      → Sends m placed old new (plan_with scheduled counts) (frames * len) inputs inputs_now outputs outputs_now → Muxes shapes counts frames inputs inputs_now outputs outputs_now
+      → Sends m placed old new (plan_with scheduled counts) (frames * len) inputs inputs_now outputs outputs_now → Muxes shapes counts scheduled frames inputs inputs_now outputs outputs_now
   sent placed old new frames inputs inputs_now outputs outputs_now fresh sends =
       let plan : Plan = plan_with scheduled counts in
       sends_muxes shapes counts scheduled are at placed old new frames inputs inputs_now outputs outputs_now fresh
@@ -310,6 +333,7 @@ nothing_put shapes counts frames inputs inputs_now outputs outputs_now same same
     bits = λ k. nothing_before (inputs.told k) ∙ ap (λ (i : Inputs). before [] (i.told k)) (sym same);
   };
   others = λ k other. refl;
+  exact = λ k known. (let none : 0 * top_len shapes ≡ 0 = omega arith in sym (ap (λ x. given_below shapes counts [] x k) none ∙ none_before_first shapes counts [] k));
   puts = λ lists begin k.
       subst (λ told. PrefixOf (as_line (frames_of_line shapes counts lists 0) k) (outputs.told k) told) (ap (λ (o : Outputs). o.told k) (sym same')) (prefix_same (as_line (frames_of_line shapes counts lists 0) k) (outputs.told k));
 }

@@ -57,6 +57,7 @@ pub feed_stops : (m : Meaning) (stands : List Bool → Type 0) (n bits : ℕ) (x
 feed_stops m stands n bits x y z o p p' first reads now writes writes_now Failed less outputs before takes later failed ended = (omega (arith, later, failed refl), fewer m stands n bits x y z o p p' less outputs before takes)
 feed_stops m stands n bits x y z o p p' first reads now writes writes_now Ended less outputs before takes later failed ended = (
   omega (arith, before.takes.counts 0, before.count, ended refl, less),
+  omega (arith, takes.counts 0, ended refl),
   fewer m stands n bits x y z o p p' less outputs before takes,
 )
 

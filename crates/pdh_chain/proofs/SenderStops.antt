@@ -23,9 +23,9 @@ use Rattle.pdh_tx.specs.Meaning.{Plan, Meaning}
 use Rattle.pdh_tx.specs.Held.{first_some, some_if}
 use Rattle.pdh_tx.specs.Node.{obstacle_of, place_at, lead_at, leads, beginning, arrival_at, arrivals, reads}
 use Rattle.pdh_chain.specs.Trees.{path_of, child_path, sender_of}
-use Rattle.pdh_chain.specs.Muxes.{LacksFrames}
+use Rattle.pdh_chain.specs.Muxes.{LacksFrames, plan_with}
 use Rattle.pdh_chain.proofs.Numbered.{stands_at, below_node, IsAt, child_at}
-use Rattle.pdh_chain.proofs.Senders.{senders, senders_below, plan_with}
+use Rattle.pdh_chain.proofs.Senders.{senders, senders_below}
 use Rattle.pdh_chain.proofs.TreeLeaves.{tributary}
 use Rattle.pdh_chain.proofs.Stops.{Tells, tells-weaker, tells-append, tells-flat, tells-map, tells-event, tells-arrival, tells-beginning}
 

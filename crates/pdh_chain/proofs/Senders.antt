@@ -19,6 +19,7 @@ use Rattle.pdh_tx.specs.Leaf.{leaf_meaning}
 use Rattle.pdh_tx.specs.Node.{any_leaf, given_by, line_of, source_of, node_frame, node_meaning}
 use Rattle.pdh_tx.specs.NodeState.{ArePlaced}
 use Rattle.pdh_chain.specs.Trees.{child_path, sender_of, AreLevelsOf}
+use Rattle.pdh_chain.specs.Muxes.{plan_with}
 use Rattle.pdh_chain.proofs.TreeLeaves.{Meanings, tributary, told_below}
 use Rattle.pdh_chain.proofs.Numbered.{found_at, stands_at, child_steps, leaf_number, IsAt, child_at}
 
@@ -58,12 +59,6 @@ placed below path first n few j m node at is = go below (found_at (tributary sen
         let there : Some (node_frame s (child_path path (0 + j))) ≡ Some node = sym (ap (λ (m : Meaning). slice_get m.nodes 0) same) ∙ is in
         let here : node_frame s (child_path path (0 + j)) ≡ node = cc in
         ap (λ (n : NodeFrame). steps_of n.path) (sym here) ∙ ap (λ i. steps_of (child_path path i)) (omega arith) ∙ child_steps path j (omega (arith, few))
-
--- ---- a schedule
-
--- so many frames of each node, and so many bits of each of its tributaries that arrive in each of them
-abbrev pub plan_with : (List ℕ → ℕ) → Counts → Plan
-plan_with scheduled counts = record { frames = λ path. scheduled (steps_of path); counts = λ path. counts (steps_of path) }
 
 -- ---- the line
 

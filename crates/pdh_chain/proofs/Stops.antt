@@ -2,11 +2,18 @@
 use Rattle.std.proofs.Common.{◌≡◌, ℕ, zero, suc, ◌+◌, ◌<◌, ◌≤◌, ◌⊎◌, inl, inr, Bool, true, false, ◌&&◌, cond, List, [], ◌∷◌, ◌++◌, map, refl, sym, subst, arith, Option, None, Some, slice_get}
 use Rattle.std.specs.Prelude.{flat_map}
 use Rattle.std.specs.List.{range_with_len}
-use Rattle.pdh_line.specs.Events.{Event}
+use Rattle.pdh_shape.specs.declared.place.Place.{Place}
+use Rattle.pdh_line.specs.Events.{Event, Kind}
+use Rattle.pdh_line.specs.Events.Kind.{Overflow as OverflowKind, Underflow as UnderflowKind}
 use Rattle.pdh_tx.specs.declared.tx.TxStop.{TxStop}
+use Rattle.pdh_tx.specs.declared.tx.TxStop.TheVariants.{Overflow, Underflow}
 use Rattle.pdh_tx.specs.Held.{first_some, some_if}
-use Rattle.pdh_tx.proofs.FirstEvents.{stop_of_kind}
 use Rattle.pdh_chain.specs.Muxes.{place_of}
+
+-- how an event at a place stops a sender
+abbrev pub stop_of_kind : Kind → Place → TxStop
+stop_of_kind OverflowKind place = Overflow place
+stop_of_kind UnderflowKind place = Underflow place
 
 -- the first of these events is this stop
 pub record IsFirst (events : List Event) (stop : TxStop) : Type 0 where

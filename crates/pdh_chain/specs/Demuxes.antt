@@ -44,13 +44,13 @@ pub record DemuxesPart (shapes : List FrameShape) (bits : ℕ) (inputs inputs_no
   pub takes : Takes (as_line given) inputs inputs_now
   pub puts : PutsPart (received_of shapes given) outputs outputs_now
 
--- Why `demux` stops: memory was wanting, and nothing was taken or put; the line is shorter than so many bits; a call for a
--- bit failed; a call that puts a bit failed.
+-- Why `demux` stops: memory was wanting, and nothing was taken or put; the line is shorter than so many bits, and used
+-- up; a call for a bit failed; a call that puts a bit failed.
 abbrev pub IsDemuxStop : List FrameShape → ℕ → Inputs → Inputs → Outputs → Outputs → ℕ → ℕ → ℕ → ℕ → DemuxStop → Type 0
 IsDemuxStop shapes bits inputs inputs_now outputs outputs_now reads reads_now writes writes_now Memory =
     (inputs_now ≡ inputs) × (outputs_now ≡ outputs)
 IsDemuxStop shapes bits inputs inputs_now outputs outputs_now reads reads_now writes writes_now Ended =
-    (inputs.left 0 < bits) × DemuxesFewer shapes bits inputs inputs_now outputs outputs_now
+    (inputs.left 0 < bits) × (inputs_now.left 0 ≡ 0) × DemuxesFewer shapes bits inputs inputs_now outputs outputs_now
 IsDemuxStop shapes bits inputs inputs_now outputs outputs_now reads reads_now writes writes_now ReadFailed =
     Rose reads reads_now × DemuxesFewer shapes bits inputs inputs_now outputs outputs_now
 IsDemuxStop shapes bits inputs inputs_now outputs outputs_now reads reads_now writes writes_now WriteFailed =

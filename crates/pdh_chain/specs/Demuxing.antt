@@ -31,11 +31,11 @@ pub record ReceivesPart (m : Meaning) (bits : ℕ) (inputs inputs_now : Inputs) 
   pub takes : Takes (as_line given) inputs inputs_now
   pub gains : GainsPart (m.got []) (m.got given) outputs outputs_now
 
--- why the receiver doesn't get all bits: the line is shorter; a call for a bit failed; a call that puts a bit failed
+-- why the receiver doesn't get all bits: the line is shorter, and used up; a call for a bit failed; a call that puts a bit failed
 abbrev pub IsReceiveStop : Meaning → ℕ → Inputs → Inputs → Outputs → Outputs → ℕ → ℕ → ℕ → ℕ → DemuxStop → Type 0
 IsReceiveStop m bits inputs inputs_now outputs outputs_now reads reads_now writes writes_now Memory = ⊥
 IsReceiveStop m bits inputs inputs_now outputs outputs_now reads reads_now writes writes_now Ended =
-    (inputs.left 0 < bits) × ReceivesFewer m bits inputs inputs_now outputs outputs_now
+    (inputs.left 0 < bits) × (inputs_now.left 0 ≡ 0) × ReceivesFewer m bits inputs inputs_now outputs outputs_now
 IsReceiveStop m bits inputs inputs_now outputs outputs_now reads reads_now writes writes_now ReadFailed =
     Rose reads reads_now × ReceivesFewer m bits inputs inputs_now outputs outputs_now
 IsReceiveStop m bits inputs inputs_now outputs outputs_now reads reads_now writes writes_now WriteFailed =

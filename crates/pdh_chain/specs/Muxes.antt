@@ -1,6 +1,6 @@
 -- What `mux` puts to its port and takes of it. `counts` tells how many bits of each tributary of the node at a path arrive in
 -- each of its frames, and `scheduled` how many frames the node has.
-use Rattle.std.specs.Prelude.{◌≡◌, ⊤, ℕ, suc, ◌+◌, ◌*◌, ◌<◌, ◌≤◌, ◌⊎◌, Bool, true, false, List, [], ◌∷◌, length, Some, None, Ok, Err, Result, slice_get}
+use Rattle.std.specs.Prelude.{◌≡◌, ⊤, ℕ, suc, ◌+◌, ◌*◌, ◌<◌, ◌≤◌, ◌⊎◌, Bool, true, false, List, [], ◌∷◌, length, Some, None, Option, Ok, Err, Result, slice_get}
 use Rattle.std.specs.List.{slice_index_or}
 use Rattle.pdh_edge.specs.Files.{Rose}
 use Rattle.pdh_edge.specs.Ports.{Inputs, Outputs, Takes, Puts, PutsPart}
@@ -10,13 +10,15 @@ use Rattle.pdh_shape.specs.declared.place.Path.{Path}
 use Rattle.pdh_line.specs.Sending.{front, begun, taken}
 use Rattle.pdh_line.specs.Events.{Event, Kind}
 use Rattle.pdh_line.specs.Events.Kind.{Overflow, Underflow}
-use Rattle.pdh_nesting.specs.Chains.{width, child, top_len}
-use Rattle.pdh_nesting.specs.Sending.{Counts, chain_line, given_below}
+use Rattle.pdh_nesting.specs.Chains.{width, child, top_len, AreFrames, HaveStores}
+use Rattle.pdh_nesting.specs.Sending.{Counts, chain_line, given_below, AllWithin}
 use Rattle.pdh_nesting.specs.Events.{events_in, first_event}
+use Rattle.pdh_clock.specs.Chain.{steps_of}
+use Rattle.pdh_tx.specs.Meaning.{Plan}
 use Rattle.pdh_tx.specs.declared.tx.TxStop.{TxStop}
 use Rattle.pdh_tx.specs.declared.tx.TxStop.TheVariants.{Overflow as TxOverflow, Underflow as TxUnderflow, NoFrame as TxNoFrame, Failed as TxFailed, Ended as TxEnded}
 use Rattle.pdh_chain.specs.Muxing.{as_line}
-use Rattle.pdh_chain.specs.Trees.{path_of}
+use Rattle.pdh_chain.specs.Trees.{top, path_of, sender_of}
 use Rattle.pdh_chain.specs.declared.stop.MuxStop.{MuxStop}
 use Rattle.pdh_chain.specs.declared.stop.MuxStop.TheVariants.{Memory, Event as MeetsEvent, NoFrame, Ended, ReadFailed, WriteFailed}
 
@@ -41,11 +43,58 @@ pub record PutsFrames (shapes : List FrameShape) (counts : Counts) (frames : ℕ
   pub others : (k : ℕ) → width shapes ≤ k → given k ≡ []
   pub puts : (lists : ℕ → List Bool) → BeginWith (width shapes) given lists → Puts (as_line (frames_of_line shapes counts lists frames)) outputs outputs_now
 
--- all frames were put, in which no store met an event, and each leaf gave exactly the bits that these frames take of it
-pub record Muxes (shapes : List FrameShape) (counts : Counts) (frames : ℕ) (inputs inputs_now : Inputs) (outputs outputs_now : Outputs) : Type 0 where
+-- the leaves gave no fewer bits than so many frames take of them, and no more than one frame more takes
+pub record GivesFrames (shapes : List FrameShape) (counts : Counts) (frames : ℕ) (given : ℕ → List Bool) : Type 0 where
+  pub no_fewer : (k : ℕ) → k < width shapes → given_below shapes counts [] (frames * top_len shapes) k ≤ length (given k)
+  pub no_more : (k : ℕ) → k < width shapes → length (given k) ≤ given_below shapes counts [] (suc frames * top_len shapes) k
+
+-- ---- what stands in the way
+
+-- so many frames of each node, and so many bits of each of its tributaries that arrive in each of them
+abbrev pub plan_with : (List ℕ → ℕ) → Counts → Plan
+plan_with scheduled counts = record { frames = λ path. scheduled (steps_of path); counts = λ path. counts (steps_of path) }
+
+-- what stands first in the way of bit x of a chain's line, where the leaves' lists hold so many bits in all
+abbrev pub obstacle_at : List FrameShape → Counts → (List ℕ → ℕ) → (ℕ → ℕ) → ℕ → Option TxStop
+obstacle_at shapes counts scheduled size x = (sender_of shapes top 0).obstacle (plan_with scheduled counts) size x
+
+-- nothing stands in the way of the first bits, so many
+abbrev pub IsClear : List FrameShape → Counts → (List ℕ → ℕ) → (ℕ → ℕ) → ℕ → Type 0
+IsClear shapes counts scheduled size bits = (x : ℕ) → x < bits → obstacle_at shapes counts scheduled size x ≡ None
+
+-- this stands first in the way of a bit of so many frames, and nothing in the way of an earlier bit
+pub record IsFirstObstacle (shapes : List FrameShape) (counts : Counts) (scheduled : List ℕ → ℕ) (size : ℕ → ℕ) (frames : ℕ) (stop : TxStop) : Type 0 where
+  pub made : ℕ
+  pub within : made < frames * top_len shapes
+  pub clear : IsClear shapes counts scheduled size made
+  pub met : obstacle_at shapes counts scheduled size made ≡ Some stop
+
+-- ---- within the tolerance
+
+-- what stands in the way, if anything does, is neither an overflow nor an underflow of a store
+abbrev pub IsNoEvent : Option TxStop → Type 0
+IsNoEvent None = Unit {0}
+IsNoEvent (Some (TxOverflow place)) = ⊥
+IsNoEvent (Some (TxUnderflow place)) = ⊥
+IsNoEvent (Some stop) = Unit {0}
+
+-- A chain of at most three levels, of which all nodes have stores, is within the tolerance over the frames that so many bits of
+-- its line begin.
+pub record IsTolerated (shapes : List FrameShape) (counts : Counts) (bits : ℕ) : Type 0 where
+  pub levels : length shapes ≤ 3
+  pub frames : AreFrames shapes
+  pub stores : HaveStores shapes
+  pub within : AllWithin shapes counts [] bits
+
+-- ---- all frames
+
+-- all frames were put, in whose way nothing stood: no store met an event, and each leaf gave exactly the bits that these frames
+-- take of it
+pub record Muxes (shapes : List FrameShape) (counts : Counts) (scheduled : List ℕ → ℕ) (frames : ℕ) (inputs inputs_now : Inputs) (outputs outputs_now : Outputs) : Type 0 where
   pub line : PutsFrames shapes counts frames inputs inputs_now outputs outputs_now
   pub given_is : (k : ℕ) → k < width shapes → inputs.left k ≡ given_below shapes counts [] (frames * top_len shapes) k + inputs_now.left k
   pub no_event : first_event shapes counts frames ≡ None
+  pub clear : IsClear shapes counts scheduled inputs.left (frames * top_len shapes)
 
 -- ---- why it stops
 
@@ -57,9 +106,28 @@ is_overflow Underflow = false
 abbrev pub place_of : Event → Place
 place_of event = record { path = path_of event.path; trib = event.trib + 1; frame = event.frame; slot = event.slot }
 
+-- some whole frames were put, fewer than so many
+pub record PutsFewer (shapes : List FrameShape) (counts : Counts) (frames : ℕ) (inputs inputs_now : Inputs) (outputs outputs_now : Outputs) : Type 0 where
+  pub whole : ℕ
+  pub fewer : whole < frames
+  pub line : PutsFrames shapes counts whole inputs inputs_now outputs outputs_now
+  pub gives : GivesFrames shapes counts whole line.given
+
+-- this stands first in the way of a bit of so many frames, and all whole frames before that bit were put
+pub record StopsFirst (shapes : List FrameShape) (counts : Counts) (scheduled : List ℕ → ℕ) (frames : ℕ) (stop : TxStop) (inputs inputs_now : Inputs) (outputs outputs_now : Outputs) : Type 0 where
+  pub obstacle : IsFirstObstacle shapes counts scheduled inputs.left frames stop
+  pub put : PutsFewer shapes counts frames inputs inputs_now outputs outputs_now
+  pub begun : put.whole * top_len shapes ≤ obstacle.made
+  pub within : obstacle.made < suc put.whole * top_len shapes
+
+-- an overflow or an underflow of a store, at a place
+abbrev pub stop_at : Bool → Place → TxStop
+stop_at true place = TxOverflow place
+stop_at false place = TxUnderflow place
+
 -- The first event stands here. It is met in making this bit of the line, before which none is met, and the whole frames
 -- before that bit were put.
-pub record StopsAtEvent (shapes : List FrameShape) (counts : Counts) (frames : ℕ) (over : Bool) (place : Place) (inputs inputs_now : Inputs) (outputs outputs_now : Outputs) : Type 0 where
+pub record StopsAtEvent (shapes : List FrameShape) (counts : Counts) (scheduled : List ℕ → ℕ) (frames : ℕ) (over : Bool) (place : Place) (inputs inputs_now : Inputs) (outputs outputs_now : Outputs) : Type 0 where
   pub event : Event
   pub first : first_event shapes counts frames ≡ Some event
   pub kind : over ≡ is_overflow event.kind
@@ -71,12 +139,7 @@ pub record StopsAtEvent (shapes : List FrameShape) (counts : Counts) (frames : �
   pub begun : whole * top_len shapes ≤ made
   pub within : made < suc whole * top_len shapes
   pub line : PutsFrames shapes counts whole inputs inputs_now outputs outputs_now
-
--- some whole frames were put, fewer than so many
-pub record PutsFewer (shapes : List FrameShape) (counts : Counts) (frames : ℕ) (inputs inputs_now : Inputs) (outputs outputs_now : Outputs) : Type 0 where
-  pub whole : ℕ
-  pub fewer : whole < frames
-  pub line : PutsFrames shapes counts whole inputs inputs_now outputs outputs_now
+  pub stops : StopsFirst shapes counts scheduled frames (stop_at over place) inputs inputs_now outputs outputs_now
 
 -- some frames were made, and what was put is a prefix of them
 pub record PutsPrefix (shapes : List FrameShape) (counts : Counts) (frames : ℕ) (inputs inputs_now : Inputs) (outputs outputs_now : Outputs) : Type 0 where
@@ -85,6 +148,7 @@ pub record PutsPrefix (shapes : List FrameShape) (counts : Counts) (frames : ℕ
   pub given : ℕ → List Bool
   pub takes : Takes given inputs inputs_now
   pub others : (k : ℕ) → width shapes ≤ k → given k ≡ []
+  pub exact : (k : ℕ) → k < width shapes → length (given k) ≡ given_below shapes counts [] (made * top_len shapes) k
   pub puts : (lists : ℕ → List Bool) → BeginWith (width shapes) given lists → PutsPart (as_line (frames_of_line shapes counts lists made)) outputs outputs_now
 
 -- this node is the one at a path, which makes so many bits of its line, or one below it, and it begins more frames than are
@@ -105,6 +169,12 @@ pub record StopsForFrame (shapes : List FrameShape) (counts : Counts) (scheduled
   pub node_is : node ≡ path_of steps
   pub lacks : LacksBelow shapes counts scheduled (frames * top_len shapes) steps
 
+-- a leaf's list, which has fewer bits than these frames take of it, is used up
+pub record StopsAtEnd (shapes : List FrameShape) (counts : Counts) (frames : ℕ) (leaf : ℕ) (inputs inputs_now : Inputs) : Type 0 where
+  pub known : leaf < width shapes
+  pub short : inputs.left leaf < given_below shapes counts [] (frames * top_len shapes) leaf
+  pub used_up : inputs_now.left leaf ≡ 0
+
 -- Why `mux` stops: memory was wanting, and nothing was taken or put; the first event of a store; the schedule has too few
 -- frames of a node below the top; a list is shorter than what the frames take of it; a call for bits failed; a call that puts
 -- bits failed.
@@ -112,11 +182,11 @@ abbrev pub IsMuxStop : List FrameShape → Counts → (List ℕ → ℕ) → ℕ
 IsMuxStop shapes counts scheduled frames inputs inputs_now outputs outputs_now reads reads_now writes writes_now Memory =
     (inputs_now ≡ inputs) × (outputs_now ≡ outputs)
 IsMuxStop shapes counts scheduled frames inputs inputs_now outputs outputs_now reads reads_now writes writes_now (MeetsEvent over place) =
-    StopsAtEvent shapes counts frames over place inputs inputs_now outputs outputs_now
+    StopsAtEvent shapes counts scheduled frames over place inputs inputs_now outputs outputs_now
 IsMuxStop shapes counts scheduled frames inputs inputs_now outputs outputs_now reads reads_now writes writes_now (NoFrame node) =
-    StopsForFrame shapes counts scheduled frames node × PutsFewer shapes counts frames inputs inputs_now outputs outputs_now
+    StopsForFrame shapes counts scheduled frames node × StopsFirst shapes counts scheduled frames (TxNoFrame node) inputs inputs_now outputs outputs_now
 IsMuxStop shapes counts scheduled frames inputs inputs_now outputs outputs_now reads reads_now writes writes_now (Ended leaf) =
-    (leaf < width shapes) × (inputs.left leaf < given_below shapes counts [] (frames * top_len shapes) leaf) × PutsFewer shapes counts frames inputs inputs_now outputs outputs_now
+    StopsAtEnd shapes counts frames leaf inputs inputs_now × StopsFirst shapes counts scheduled frames (TxEnded leaf) inputs inputs_now outputs outputs_now
 IsMuxStop shapes counts scheduled frames inputs inputs_now outputs outputs_now reads reads_now writes writes_now ReadFailed =
     Rose reads reads_now × PutsFewer shapes counts frames inputs inputs_now outputs outputs_now
 IsMuxStop shapes counts scheduled frames inputs inputs_now outputs outputs_now reads reads_now writes writes_now WriteFailed =

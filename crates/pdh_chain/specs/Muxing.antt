@@ -5,7 +5,7 @@ use Rattle.pdh_edge.specs.Ports.{Inputs, Outputs, Takes, Puts, PutsPart}
 use Rattle.pdh_shape.specs.Frame.{idle}
 use Rattle.pdh_line.specs.Sending.{front}
 use Rattle.pdh_tx.specs.declared.tx.TxStop.{TxStop}
-use Rattle.pdh_tx.specs.Meaning.{Plan, Supply, Meaning, Fits, Agrees, Met}
+use Rattle.pdh_tx.specs.Meaning.{Plan, Supply, Meaning, Fits, Agrees, Met, IsUsedUp}
 use Rattle.pdh_tx.specs.Held.{IsPart}
 use Rattle.pdh_chain.specs.declared.sending.SendStop.{SendStop}
 use Rattle.pdh_chain.specs.declared.sending.SendStop.TheVariants.{Sender, WriteFailed}
@@ -56,6 +56,8 @@ pub record StopsAt (m : Meaning) (plan : Plan) (from made : ℕ) (given : ℕ �
   pub no_more : (k : ℕ) → m.leaves k ≡ true → m.given plan from k + length (given k) ≤ m.given plan (suc made) k
   -- nothing stood in the way before
   pub free : IsFree m plan from made before
+  -- where a leaf ended, its list is used up
+  pub used_up : IsUsedUp stop after
   -- Failed only where the count of faults rose, else what stands in the way of the next bit
   pub met : Met (Fits m plan from before) (λ size. m.obstacle plan size made) stop faults now
 

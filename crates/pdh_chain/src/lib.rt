@@ -2,6 +2,7 @@
 #![tactic(auto)]
 
 mod chain;
+mod laws;
 mod making;
 mod receiving;
 mod sending;
@@ -11,6 +12,10 @@ mod tests;
 mod trees;
 
 pub use chain::{Chain, delay, frame_bytes, leaves, levels};
+pub use laws::{
+    demux_puts_no_more_than_the_shares, leaf_receives_no_more_than_its_share,
+    mux_puts_no_more_than_its_frames, no_event_within_tolerance,
+};
 pub use making::mux;
 pub use receiving::demux;
 pub use stop::{DemuxStop, MuxStop};

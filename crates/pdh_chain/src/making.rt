@@ -8,7 +8,7 @@ ghost use Rattle.pdh_chain.specs.Muxes.{Muxes, IsMuxStop, IsLeftReady, mux_stop}
 use crate::chain::{Chain, TOP};
 use crate::sending::{SendStop, send_frames};
 use crate::stop::MuxStop;
-use crate::trees::Sender;
+use crate::trees::ChainTx;
 use pdh_clock::Schedule;
 use pdh_edge::{Failed, Port};
 use pdh_shape::{E2, E3, E4, Shape};
@@ -36,7 +36,7 @@ fn stop_of(stop: TxStop) -> MuxStop
 
 // The same as `mux`, for a chain whose top has this frame and whose top's tributaries are such
 // senders.
-fn mux_with<S: Shape, C: Sender, P: Port>(
+fn mux_with<S: Shape, C: ChainTx, P: Port>(
     alloc: Global,
     clock: &Schedule,
     frames: u64,
@@ -52,11 +52,11 @@ fn mux_with<S: Shape, C: Sender, P: Port>(
     requires line { IsTrue ((P.outputs port.old).holds 0) }
     ensures kept { P.kept port.old port.new }
     ensures ready { IsLeftReady (P.fresh port.new) (P.ready port.new) result }
-    ensures ok { OnOk result (Muxes (S.shape ∷ C.shapes) (counts clock.now.rows) frames (P.inputs port.old) (P.inputs port.new) (P.outputs port.old) (P.outputs port.new)) }
+    ensures ok { OnOk result (Muxes (S.shape ∷ C.shapes) (counts clock.now.rows) (frame_count clock.now.rows) frames (P.inputs port.old) (P.inputs port.new) (P.outputs port.old) (P.outputs port.new)) }
     ensures err { IfErr result (IsMuxStop (S.shape ∷ C.shapes) (counts clock.now.rows) (frame_count clock.now.rows) frames (P.inputs port.old) (P.inputs port.new) (P.outputs port.old) (P.outputs port.new) (P.feed_faults port.old) (P.feed_faults port.new) (P.drain_faults port.old) (P.drain_faults port.new)) }
 {
     let mut next_leaf = 0;
-    let mut node = <Node<S, C> as Sender>::open(alloc, TOP, &mut next_leaf)?;
+    let mut node = <Node<S, C> as ChainTx>::open(alloc, TOP, &mut next_leaf)?;
     let mut frame = Vec::with_capacity(alloc, S::LEN as usize)?;
     if let Err(Failed) = port.start() {
         return Err(MuxStop::WriteFailed);
@@ -84,7 +84,7 @@ pub fn mux<P: Port>(
     requires line { IsTrue ((P.outputs port.old).holds 0) }
     ensures kept { P.kept port.old port.new }
     ensures ready { IsLeftReady (P.fresh port.new) (P.ready port.new) result }
-    ensures ok { OnOk result (Muxes (shapes_of chain) (counts clock.now.rows) frames (P.inputs port.old) (P.inputs port.new) (P.outputs port.old) (P.outputs port.new)) }
+    ensures ok { OnOk result (Muxes (shapes_of chain) (counts clock.now.rows) (frame_count clock.now.rows) frames (P.inputs port.old) (P.inputs port.new) (P.outputs port.old) (P.outputs port.new)) }
     ensures err { IfErr result (IsMuxStop (shapes_of chain) (counts clock.now.rows) (frame_count clock.now.rows) frames (P.inputs port.old) (P.inputs port.new) (P.outputs port.old) (P.outputs port.new) (P.feed_faults port.old) (P.feed_faults port.new) (P.drain_faults port.old) (P.drain_faults port.new)) }
 {
     match chain {

@@ -7,7 +7,7 @@ ghost use Rattle.pdh_chain.specs.Demuxes.{Demuxes, IsDemuxStop, IsDemuxLeft};
 
 use crate::chain::{Chain, TOP};
 use crate::stop::DemuxStop;
-use crate::trees::Receiver;
+use crate::trees::ChainRx;
 use pdh_edge::Port;
 use pdh_rx::{Rx, RxNode, Tail};
 use pdh_shape::{E2, E3, E4, Shape};
@@ -50,7 +50,7 @@ fn receive<R: Rx, P: Port, W: Watch>(
 
 // The same as `demux`, for a chain whose top has this frame and whose top's tributaries are such
 // receivers.
-fn demux_with<S: Shape, C: Receiver, P: Port, W: Watch>(
+fn demux_with<S: Shape, C: ChainRx, P: Port, W: Watch>(
     alloc: Global,
     bits: u64,
     port: &mut P,
@@ -73,7 +73,7 @@ fn demux_with<S: Shape, C: Receiver, P: Port, W: Watch>(
     ensures seen { W.saw watch.old [] watch.new }
 {
     let mut next_leaf = 0;
-    let mut node = <RxNode<S, C> as Receiver>::open(alloc, TOP, &mut next_leaf)?;
+    let mut node = <RxNode<S, C> as ChainRx>::open(alloc, TOP, &mut next_leaf)?;
     port.start()?;
     receive(&mut node, bits, port, watch)?;
     Ok(node.frames())

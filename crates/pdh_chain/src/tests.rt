@@ -39,6 +39,7 @@ fn run(
     let levels = levels(alloc, chain)?;
     let clock = Schedule::read(alloc, &levels, schedule)?;
     let mut port = MemPort::open(alloc, zeros(alloc, lengths)?, 1)?;
+    port.room(0, 4_096)?;
     let end = mux(alloc, chain, &clock, clock.frames(&TOP), &mut port);
     Ok((end, port.output(0).len()))
 }
@@ -121,6 +122,9 @@ fn run_demux(
     lists.push(vec![in alloc; false; zeros]?)?;
     let count = leaves(chain);
     let mut port = MemPort::open(alloc, lists, count)?;
+    for leaf in 0..count {
+        port.room(leaf, zeros / count as usize + 1)?;
+    }
     let end = demux(alloc, chain, u64::from(bits), &mut port, &mut Quiet);
     Ok((end, port.output(count - 1).len()))
 }

@@ -30,7 +30,7 @@ fn child_path(path: Path, trib: u8) -> Path
 }
 
 /// A sender that is a whole chain: a leaf, or a multiplexer of such senders.
-pub trait Sender: Tx {
+pub trait ChainTx: Tx {
     /// The frames of its levels, from its own down.
     ghost shapes: { List FrameShape };
 
@@ -49,7 +49,7 @@ pub trait Sender: Tx {
 }
 
 /// A receiver that is a whole chain: a leaf, or a demultiplexer of such receivers.
-pub trait Receiver: Rx {
+pub trait ChainRx: Rx {
     /// The frames of its levels, from its own down.
     ghost shapes: { List FrameShape };
 
@@ -66,7 +66,7 @@ pub trait Receiver: Rx {
     ghost are_frames: { AreFrames shapes };
 }
 
-impl Sender for Leaf {
+impl ChainTx for Leaf {
     ghost shapes = { [] };
 
     ghost are_frames = { tt };
@@ -78,7 +78,7 @@ impl Sender for Leaf {
     }
 }
 
-impl<S: Shape, C: Sender> Sender for Node<S, C> {
+impl<S: Shape, C: ChainTx> ChainTx for Node<S, C> {
     ghost shapes = { S.shape ∷ C.shapes };
 
     ghost are_frames = { (S.is_frame, S.has_tributaries, C.are_frames) };
@@ -92,7 +92,7 @@ impl<S: Shape, C: Sender> Sender for Node<S, C> {
     }
 }
 
-impl Receiver for Tail {
+impl ChainRx for Tail {
     ghost shapes = { [] };
 
     ghost are_frames = { tt };
@@ -104,7 +104,7 @@ impl Receiver for Tail {
     }
 }
 
-impl<S: Shape, C: Receiver> Receiver for RxNode<S, C> {
+impl<S: Shape, C: ChainRx> ChainRx for RxNode<S, C> {
     ghost shapes = { S.shape ∷ C.shapes };
 
     ghost are_frames = { (S.is_frame, S.has_tributaries, C.are_frames) };

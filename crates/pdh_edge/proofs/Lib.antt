@@ -1,3 +1,4 @@
 mod ListSteps
 pub mod Rooms
 pub mod Holding
+pub mod InRoom

@@ -1,10 +1,15 @@
 -- One bit of one list.
-use Rattle.std.proofs.Common.{◌≡◌, inl, inr, ℕ, zero, suc, ◌+◌, ◌<◌, Bool, List, [], ◌∷◌, ◌++◌, length, map, cond, refl, sym, ◌∙◌, ap, subst, arith, Option, Some, None, slice_get, slice_set}
+use Rattle.std.specs.Global.{Vec}
+use Rattle.std.proofs.Common.{◌≡◌, inl, inr, ℕ, zero, suc, ◌+◌, ◌<◌, Bool, List, [], ◌∷◌, ◌++◌, length, map, get_or, ◌≤◌, cond, refl, sym, ◌∙◌, ap, subst, arith, Option, Some, None, slice_get, slice_set}
 use Rattle.std.specs.Prelude.{IsTrue, nat_lt}
-use Rattle.std.proofs.lemmas.Bool.{cases_eq, ne_eqb, eq-eqb, ltb-true}
-use Rattle.std.proofs.lemmas.List.{append-nil, length-map}
+use Rattle.std.proofs.lemmas.Bool.{cases_eq, ne_eqb, eq-eqb, ltb-true, lt-ltb}
+use Rattle.std.proofs.lemmas.List.{append-nil, length-append, length-map, length-set, map-set, get_or-map, get_or-set_same, get_or-set_other}
+use Rattle.std.proofs.lemmas.Option.{slice_get-map}
+use Rattle.std.specs.Option.{option_map}
 use Rattle.pdh_edge.specs.Ports.{Takes, Puts, PutsPart, PrefixOf, only, before, after}
-use Rattle.pdh_edge.specs.MemLists.{length_of, inputs_of, outputs_of}
+use Rattle.pdh_edge.specs.MemLists.{length_of, inputs_of, outputs_of, mem_outputs, items_of, capacity_of, bits_held, room_in, IsFull, PutInRoom, IsRefused, StaysInRoom}
+use Rattle.pdh_edge.specs.Counts.{one_more}
+use Rattle.pdh_edge.proofs.Rooms.{map_set_same}
 
 get_set_same : {C : Type 0} (xs : List C) (i : ℕ) (y : C) → i < length xs → slice_get (slice_set xs i y) i ≡ Some y
 get_set_same [] i y h = absurd (omega arith)
@@ -17,6 +22,18 @@ get_set_other (x ∷ xs) zero zero y h = absurd (h refl)
 get_set_other (x ∷ xs) zero (suc j) y h = refl
 get_set_other (x ∷ xs) (suc i) zero y h = refl
 get_set_other (x ∷ xs) (suc i) (suc j) y h = get_set_other xs i j y (λ e. h (ap suc e))
+
+-- the element at a place
+get_or_found : {X : Type 0} (xs : List X) (i : ℕ) (x : X) → slice_get xs i ≡ Some x → get_or xs i x ≡ x
+get_or_found [] i x h = absurd (cc)
+get_or_found (y ∷ ys) zero x h = let same : y ≡ x = cc in same
+get_or_found (y ∷ ys) (suc i) x h = get_or_found ys i x h
+
+-- a list that is set to itself
+set_found : {X : Type 0} (xs : List X) (i : ℕ) (x : X) → slice_get xs i ≡ Some x → slice_set xs i x ≡ xs
+set_found [] i x h = absurd (cc)
+set_found (y ∷ ys) zero x h = let same : y ≡ x = cc in ap (λ z. z ∷ ys) (sym same)
+set_found (y ∷ ys) (suc i) x h = ap (λ zs. y ∷ zs) (set_found ys i x h)
 
 only_same : (t : ℕ) (b : Bool) → only t b t ≡ b ∷ []
 only_same t b = ap (λ v. cond v (b ∷ []) []) (eq-eqb t t refl)
@@ -91,3 +108,92 @@ within_lists f xs k h =
     let long = length-map xs f in
     let within : k < length (map f xs) = ltb-true _ _ h in
     omega (arith, long, within)
+
+-- ---- the room of a list
+
+-- the room of a list that is held
+pub room_at : (lists : List (Vec Bool)) (i : ℕ) (d : Vec Bool) → i < length lists → room_in lists i ≡ capacity_of (get_or lists i d)
+room_at lists i d h = get_or-map capacity_of lists i d 0 h
+
+pub room_now : (lists : List (Vec Bool)) (i : ℕ) (y : Vec Bool) → i < length lists → room_in (slice_set lists i y) i ≡ capacity_of y
+room_now lists i y h =
+    room_at (slice_set lists i y) i y (omega (arith, length-set lists i y, h)) ∙ ap capacity_of (get_or-set_same lists i y y h)
+
+-- a list is changed, and its room stays
+pub room_same : (lists : List (Vec Bool)) (i : ℕ) (y d : Vec Bool) → i < length lists → capacity_of y ≡ capacity_of (get_or lists i d) → (k : ℕ) → room_in (slice_set lists i y) k ≡ room_in lists k
+room_same lists i y d h same k = ap (λ rooms. get_or rooms k 0) (map_set_same capacity_of lists i y d h same)
+
+-- its room grows
+pub room_grows : (lists : List (Vec Bool)) (i : ℕ) (y d : Vec Bool) → i < length lists → capacity_of (get_or lists i d) ≤ capacity_of y → (k : ℕ) → room_in lists k ≤ room_in (slice_set lists i y) k
+room_grows lists i y d h more k =
+    let rooms : List ℕ = map capacity_of lists in
+    let long : length rooms ≡ length lists = length-map lists capacity_of in
+    let new : room_in (slice_set lists i y) k ≡ get_or (slice_set rooms i (capacity_of y)) k 0 = ap (λ l. get_or l k 0) (map-set capacity_of lists i y) in
+    elim (cases_eq k i) [
+      | inl same ↦
+          let old : room_in lists k ≡ capacity_of (get_or lists i d) = ap (room_in lists) same ∙ room_at lists i d h in
+          let now : get_or (slice_set rooms i (capacity_of y)) k 0 ≡ capacity_of y = ap (λ k. get_or (slice_set rooms i (capacity_of y)) k 0) same ∙ get_or-set_same rooms i (capacity_of y) 0 (omega arith) in
+          omega arith
+      | inr other ↦ (let kept : get_or (slice_set rooms i (capacity_of y)) k 0 ≡ room_in lists k = get_or-set_other rooms i k (capacity_of y) 0 other in omega arith)
+    ]
+
+-- how many bits it holds
+pub held_at : (lists : List (Vec Bool)) (i : ℕ) (y : Vec Bool) → slice_get lists i ≡ Some y → bits_held (mem_outputs lists) i ≡ length (items_of y)
+held_at lists i y here = ap length_of (slice_get-map items_of lists i ∙ ap (option_map items_of) here)
+
+pub held_now : (lists : List (Vec Bool)) (i : ℕ) (y : Vec Bool) → i < length lists → bits_held (mem_outputs (slice_set lists i y)) i ≡ length (items_of y)
+held_now lists i y h = held_at (slice_set lists i y) i y (get_set_same lists i y h)
+
+-- no list holds fewer bits
+pub held_grows : (lists : List (Vec Bool)) (i : ℕ) (y d : Vec Bool) → i < length lists → slice_get lists i ≡ Some d → length (items_of d) ≤ length (items_of y) → (k : ℕ) → bits_held (mem_outputs lists) k ≤ bits_held (mem_outputs (slice_set lists i y)) k
+held_grows lists i y d h here more k = elim (cases_eq k i) [
+  | inl same ↦
+      let old : bits_held (mem_outputs lists) k ≡ length (items_of d) = ap (bits_held (mem_outputs lists)) same ∙ held_at lists i d here in
+      let now : bits_held (mem_outputs (slice_set lists i y)) k ≡ length (items_of y) = ap (bits_held (mem_outputs (slice_set lists i y))) same ∙ held_now lists i y h in
+      omega arith
+  | inr other ↦
+      let kept : bits_held (mem_outputs (slice_set lists i y)) k ≡ bits_held (mem_outputs lists) k =
+      ap length_of (slice_get-map items_of (slice_set lists i y) k ∙ ap (option_map items_of) (get_set_other lists i k y other) ∙ sym (slice_get-map items_of lists k)) in
+      omega arith
+]
+
+-- ---- a put
+
+-- the leaves stay the same
+pub same_holds : (lists : List (Vec Bool)) (i : ℕ) (y : Vec Bool) → (mem_outputs (slice_set lists i y)).holds ≡ (mem_outputs lists).holds
+same_holds lists i y = ap (λ n k. nat_lt k n) (length-map (slice_set lists i y) items_of ∙ length-set lists i y ∙ sym (length-map lists items_of))
+
+module _ (lists : List (Vec Bool)) (i : ℕ) (old : Vec Bool) (within : i < length lists) (here : slice_get lists i ≡ Some old) where
+  old_at : get_or lists i old ≡ old
+  old_at = get_or_found lists i old here
+
+  -- the list has room for a bit more
+  pub had_room : (faults : ℕ) → length (items_of old) < capacity_of old → PutInRoom i lists faults faults
+  had_room faults room = record {
+    room = omega (arith, held_at lists i old here, room_at lists i old within, ap capacity_of old_at);
+    uncounted = refl;
+  }
+
+  pub put_stays : (new : Vec Bool) (bit : Bool) (faults : ℕ) → items_of new ≡ items_of old ++ bit ∷ [] → capacity_of new ≡ capacity_of old → StaysInRoom lists (slice_set lists i new) faults faults
+  put_stays new bit faults more same = record {
+    rooms = room_same lists i new old within (same ∙ sym (ap capacity_of old_at));
+    grows = held_grows lists i new old within here (omega (arith, ap length more, length-append (items_of old) (bit ∷ [])));
+    counted = inl refl;
+  }
+
+  -- it is full
+  is_full : capacity_of old ≤ length (items_of old) → IsFull lists i
+  is_full full = omega (arith, held_at lists i old here, room_at lists i old within, ap capacity_of old_at)
+
+  refused_same : slice_set lists i old ≡ lists
+  refused_same = set_found lists i old here
+
+  pub was_refused : (faults now : ℕ) → capacity_of old ≤ length (items_of old) → now ≡ one_more faults → IsRefused i lists (slice_set lists i old) faults now
+  was_refused faults now full counted = record { full = is_full full; same = ap mem_outputs refused_same; counted = counted }
+
+  pub refused_stays : (faults now : ℕ) → capacity_of old ≤ length (items_of old) → StaysInRoom lists (slice_set lists i old) faults now
+  refused_stays faults now full = subst (λ l. StaysInRoom lists l faults now) (sym refused_same) (record {
+    rooms = λ k. refl;
+    grows = λ k. omega arith;
+    counted = inr (i, lt-ltb i (length (map items_of lists)) (omega (arith, length-map lists items_of, within)), is_full full);
+  })

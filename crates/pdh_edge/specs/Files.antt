@@ -1,6 +1,9 @@
 -- What a shelf of files and a sink of bytes tell and count, and what their calls do to it.
-use Rattle.std.specs.Prelude.{◌≡◌, ◌⊎◌, ℕ, ◌+◌, ◌^◌, ◌-◌, ◌≤◌, min, List, [], ◌++◌, length, take, drop, Bool, true, false, Option, Some, None, IfNone}
+use Rattle.std.specs.Prelude.{◌≡◌, ◌⊎◌, ℕ, ◌+◌, ◌^◌, ◌-◌, ◌≤◌, min, List, [], ◌++◌, length, take, drop, Bool, true, false, if◌then◌else◌, Option, Some, None, is_none}
 use Rattle.std.specs.Option.{option_map}
+use Rattle.pdh_edge.specs.declared.shelf.Call.{Call}
+use Rattle.pdh_edge.specs.declared.shelf.Call.TheVariants.{Size, Read, Start, Append}
+use Rattle.pdh_edge.specs.Counts.{one_more}
 
 -- what is told of a file: nothing; or that it isn't held (None), or its bytes
 pub data Told : Type 0 where
@@ -25,25 +28,44 @@ Rose before now = min (before + 1) (2 ^ 64 - 1) ≤ now
 
 -- ---- a shelf
 
+-- how many calls of a shelf failed to read, how many failed to write, and how often a file wasn't there
+pub record Counts : Type 0 where
+  pub read_faults : ℕ
+  pub write_faults : ℕ
+  pub misses : ℕ
+
+-- with one more of each kind
+abbrev pub with_read_fault : Counts → Counts
+with_read_fault counts = record counts { read_faults = one_more counts.read_faults }
+
+abbrev pub with_write_fault : Counts → Counts
+with_write_fault counts = record counts { write_faults = one_more counts.write_faults }
+
+abbrev pub with_miss : Counts → Counts
+with_miss counts = record counts { misses = one_more counts.misses }
+
+-- a call that failed: its kind, and the name that it was called with
+pub record FailedCall : Type 0 where
+  pub call : Call
+  pub name : List ℕ
+
 -- what a shelf tells and counts
 pub record ShelfState : Type 0 where
   -- what is told of the file of each name
   pub told : List ℕ → Told
   -- the ranges that may be read: the file's name, the place and the length
   pub readable : List ℕ → ℕ → ℕ → Bool
-  -- how many calls failed to read, how many failed to write, and how often a file wasn't there
-  pub read_faults : ℕ
-  pub write_faults : ℕ
-  pub misses : ℕ
-  -- the name of the last call that failed, where it is told
-  pub last_failed : Option (List ℕ)
-  -- the names that are told where a call with them fails
+  -- its faults and misses
+  pub counts : Counts
+  -- the last call that failed, where it is told
+  pub last_failed : Option FailedCall
+  -- the names of calls that are told where they fail
   pub tells_name : List ℕ → Bool
 
--- the name of a call that failed is told if the shelf tells such a name; else that name or none is told
-abbrev pub TellsFailed : Bool → List ℕ → Option (List ℕ) → Type 0
-TellsFailed true name told = told ≡ Some name
-TellsFailed false name told = (failed : List ℕ) → told ≡ Some failed → failed ≡ name
+-- a call that failed is told if the shelf tells such a name; else it or none is told
+abbrev pub TellsFailed : Bool → FailedCall → Option FailedCall → Type 0
+TellsFailed true failed told = told ≡ Some failed
+TellsFailed false failed told = (other : FailedCall) → told ≡ Some other → other ≡ failed
 
 -- each such range that could be read can be read still
 abbrev pub KeepsReadable : (List ℕ → Type 0) → ShelfState → ShelfState → Type 0
@@ -53,39 +75,38 @@ KeepsReadable names old new = (name : List ℕ) (at len : ℕ) → names name �
 pub record Looks (old new : ShelfState) : Type 0 where
   pub told : new.told ≡ old.told
   pub readable : KeepsReadable (λ name. Unit {0}) old new
-  pub read_faults : old.read_faults ≤ new.read_faults
-  pub write_faults : new.write_faults ≡ old.write_faults
-  pub misses : old.misses ≤ new.misses
   pub tells_name : new.tells_name ≡ old.tells_name
 
 -- at most files with such names were written
 pub record TouchesOnly (may : List ℕ → Type 0) (old new : ShelfState) : Type 0 where
   pub told : (name : List ℕ) → ¬ may name → new.told name ≡ old.told name
   pub readable : KeepsReadable (λ name. ¬ may name) old new
-  pub read_faults : new.read_faults ≡ old.read_faults
-  pub write_faults : old.write_faults ≤ new.write_faults
-  pub misses : new.misses ≡ old.misses
   pub tells_name : new.tells_name ≡ old.tells_name
 
 -- at most the file of this name was written
 abbrev pub Touches : List ℕ → ShelfState → ShelfState → Type 0
 Touches name old new = TouchesOnly (λ other. other ≡ name) old new
 
--- a call with this name failed to read
-pub record FailsToRead (name : List ℕ) (old new : ShelfState) : Type 0 where
-  pub rose : Rose old.read_faults new.read_faults
-  pub last : TellsFailed (new.tells_name name) name new.last_failed
+-- no fault and no miss was counted, and no failed call is told anew
+pub record Succeeds (old new : ShelfState) : Type 0 where
+  pub counts : new.counts ≡ old.counts
+  pub last : new.last_failed ≡ old.last_failed
 
--- a call with this name failed to write
-pub record FailsToWrite (name : List ℕ) (old new : ShelfState) : Type 0 where
-  pub rose : Rose old.write_faults new.write_faults
-  pub last : TellsFailed (new.tells_name name) name new.last_failed
+-- a call of this kind with this name failed to read, which is counted once
+pub record FailsToRead (call : Call) (name : List ℕ) (old new : ShelfState) : Type 0 where
+  pub counts : new.counts ≡ with_read_fault old.counts
+  pub last : TellsFailed (new.tells_name name) (record { call = call; name = name }) new.last_failed
 
--- the size of a file, whose ranges may then be read, or None where it isn't held
+-- a call of this kind with this name failed to write, which is counted once
+pub record FailsToWrite (call : Call) (name : List ℕ) (old new : ShelfState) : Type 0 where
+  pub counts : new.counts ≡ with_write_fault old.counts
+  pub last : TellsFailed (new.tells_name name) (record { call = call; name = name }) new.last_failed
+
+-- the size of a file, whose ranges may then be read, or None where it isn't held, which is counted once
 pub record HasSize (name : List ℕ) (old new : ShelfState) (size : Option ℕ) : Type 0 where
   pub told : WhereTold (old.told name) (λ held. size ≡ option_map length held)
   pub readable : (bytes at len : ℕ) → size ≡ Some bytes → at + len ≤ bytes → new.readable name at len ≡ true
-  pub missed : IfNone size (Rose old.misses new.misses)
+  pub counts : new.counts ≡ (if is_none size then with_miss old.counts else old.counts)
   pub last : new.last_failed ≡ old.last_failed
 
 -- the buffer has the bytes of a file from a place on
@@ -95,17 +116,17 @@ IsRangeOf (Some bytes) at buffer = (at + length buffer ≤ length bytes) × (buf
 
 pub record HasRange (name : List ℕ) (at : ℕ) (buffer : List ℕ) (old new : ShelfState) : Type 0 where
   pub told : WhereTold (old.told name) (λ held. IsRangeOf held at buffer)
-  pub last : new.last_failed ≡ old.last_failed
+  pub succeeds : Succeeds old new
 
 -- the file was made empty
 pub record Starts (name : List ℕ) (old new : ShelfState) : Type 0 where
   pub told : Holds (new.told name) []
-  pub last : new.last_failed ≡ old.last_failed
+  pub succeeds : Succeeds old new
 
 -- it wasn't, and is as before or empty
 pub record FailsToStart (name : List ℕ) (old new : ShelfState) : Type 0 where
   pub told : (new.told name ≡ old.told name) ⊎ (new.told name ≡ Known (Some []))
-  pub fails : FailsToWrite name old new
+  pub fails : FailsToWrite Start name old new
 
 -- what is told of a file after these bytes were added to it, which can't be where it isn't held
 abbrev pub Grows : Told → List ℕ → Told → Type 0
@@ -121,12 +142,12 @@ GrowsInPart told bytes new = new ≡ told
 -- all these bytes were added
 pub record Appends (name bytes : List ℕ) (old new : ShelfState) : Type 0 where
   pub told : Grows (old.told name) bytes (new.told name)
-  pub last : new.last_failed ≡ old.last_failed
+  pub succeeds : Succeeds old new
 
 -- a prefix of them was added
 pub record FailsToAppend (name bytes : List ℕ) (old new : ShelfState) : Type 0 where
   pub told : GrowsInPart (old.told name) bytes (new.told name)
-  pub fails : FailsToWrite name old new
+  pub fails : FailsToWrite Append name old new
 
 -- ---- a sink
 
@@ -137,11 +158,16 @@ pub record SinkState : Type 0 where
   -- how many calls failed
   pub faults : ℕ
 
--- these bytes were written
-abbrev pub Sends : List ℕ → SinkState → SinkState → Type 0
-Sends bytes old new = new.written ≡ option_map (λ before. before ++ bytes) old.written
+-- what is told was extended by these bytes
+abbrev pub Extends : List ℕ → SinkState → SinkState → Type 0
+Extends bytes old new = new.written ≡ option_map (λ before. before ++ bytes) old.written
 
--- a prefix of these bytes was written, and the call failed
+-- these bytes were written
+pub record Sends (bytes : List ℕ) (old new : SinkState) : Type 0 where
+  pub told : Extends bytes old new
+  pub faults : new.faults ≡ old.faults
+
+-- a prefix of these bytes was written, and the call failed, which is counted once
 pub record FailsToSend (bytes : List ℕ) (old new : SinkState) : Type 0 where
-  pub told : (n : ℕ) × Sends (take n bytes) old new
-  pub rose : Rose old.faults new.faults
+  pub told : (n : ℕ) × Extends (take n bytes) old new
+  pub faults : new.faults ≡ one_more old.faults

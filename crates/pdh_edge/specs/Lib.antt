@@ -1,6 +1,8 @@
 pub mod Buffer
 pub mod Counts
 pub mod Files
+pub mod laws
+pub mod Leaves
 pub mod MemFiles
 pub mod MemLists
 pub mod MemOutput

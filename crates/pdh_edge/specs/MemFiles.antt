@@ -6,12 +6,12 @@ use Rattle.std.specs.declared.alloc.Global.{Global}
 use Rattle.std.specs.declared.string.String.{String}
 use Rattle.pdh_edge.specs.declared.mem_shelf.Slot.{Slot}
 use Rattle.pdh_edge.specs.declared.mem_shelf.MemShelf.{MemShelf}
-use Rattle.pdh_edge.specs.declared.mem_shelf.Call.{Call}
-use Rattle.pdh_edge.specs.declared.mem_shelf.Call.TheVariants.{Size, Read, Start, Append}
-use Rattle.pdh_edge.specs.Files.{ShelfState}
+use Rattle.pdh_edge.specs.declared.mem_shelf.LastFailed.{LastFailed}
+use Rattle.pdh_edge.specs.declared.shelf.Call.{Call}
+use Rattle.pdh_edge.specs.declared.shelf.Call.TheVariants.{Size, Read, Start, Append}
+use Rattle.pdh_edge.specs.Files.{ShelfState, Counts, FailedCall, with_read_fault, with_write_fault, with_miss}
 use Rattle.pdh_edge.specs.Files.Told.{Known}
 use Rattle.pdh_edge.specs.Plan.{PlanState, no_plan, is_due, plan_after_call, plan_after_fail}
-use Rattle.pdh_edge.specs.Counts.{one_more}
 
 -- a file of a shelf in memory
 pub record MemFile : Type 0 where
@@ -35,12 +35,10 @@ pub record MemState : Type 0 where
   pub reads : PlanState
   pub starts : PlanState
   pub appends : PlanState
-  -- how many calls failed to read, how many failed to write, and how often a file wasn't there
-  pub read_faults : ℕ
-  pub write_faults : ℕ
-  pub misses : ℕ
-  -- the name of the last call that failed, where it is told
-  pub last_failed : Option (List ℕ)
+  -- its faults and misses
+  pub counts : Counts
+  -- the last call that failed, where it is told
+  pub last_failed : Option FailedCall
 
 -- what one slot shows
 abbrev pub file_of : Slot → MemFile
@@ -54,6 +52,10 @@ file_of slot = record {
 abbrev pub file_in : BTreeMap (String Global) Slot → List ℕ → MemFile
 file_in slots name = option_map_or file_of (get_by_text slots name) no_file
 
+-- what it keeps of the last call that failed
+abbrev pub failed_of : LastFailed → FailedCall
+failed_of last = record { call = last.call; name = last.name.bytes }
+
 -- what a shelf in memory shows
 abbrev pub mem_state : MemShelf → MemState
 mem_state shelf = record {
@@ -62,13 +64,11 @@ mem_state shelf = record {
   reads = shelf.reads;
   starts = shelf.starts;
   appends = shelf.appends;
-  read_faults = shelf.read_faults;
-  write_faults = shelf.write_faults;
-  misses = shelf.misses;
-  last_failed = option_map (λ name. name.bytes) shelf.last;
+  counts = record { read_faults = shelf.read_faults; write_faults = shelf.write_faults; misses = shelf.misses };
+  last_failed = option_map failed_of shelf.last;
 }
 
--- the names that are told where a call with them fails
+-- the names of calls that are told where they fail
 abbrev pub is_short : List ℕ → Bool
 is_short name = nat_le (length name) 32
 
@@ -77,9 +77,7 @@ abbrev pub told_by : MemState → ShelfState
 told_by state = record {
   told = λ name. Known (state.files name).held;
   readable = λ name at len. true;
-  read_faults = state.read_faults;
-  write_faults = state.write_faults;
-  misses = state.misses;
+  counts = state.counts;
   last_failed = state.last_failed;
   tells_name = is_short;
 }
@@ -98,9 +96,7 @@ pub record IsNew (state : MemState) : Type 0 where
     reads = no_plan;
     starts = no_plan;
     appends = no_plan;
-    read_faults = 0;
-    write_faults = 0;
-    misses = 0;
+    counts = record { read_faults = 0; write_faults = 0; misses = 0 };
     last_failed = None;
   }
 
@@ -140,28 +136,28 @@ with_start_call state = record state { starts = plan_after_call state.starts }
 abbrev pub with_append_call : MemState → MemState
 with_append_call state = record state { appends = plan_after_call state.appends }
 
--- the name that is told after a call with this one failed
-abbrev pub name_told_after : List ℕ → Option (List ℕ)
-name_told_after name = if is_short name then Some name else None
+-- what is told after a call of this kind with this name failed
+abbrev pub failed_told_after : Call → List ℕ → Option FailedCall
+failed_told_after call name = if is_short name then Some (record { call = call; name = name }) else None
 
--- with one more call, with this name, that failed to read
-abbrev pub with_read_fault : List ℕ → MemState → MemState
-with_read_fault name state = record state { read_faults = one_more state.read_faults; last_failed = name_told_after name }
+-- after a call of this kind, with this name, that failed to read
+abbrev pub after_read_fault : Call → List ℕ → MemState → MemState
+after_read_fault call name state = record state { counts = with_read_fault state.counts; last_failed = failed_told_after call name }
 
--- with one more call, with this name, that failed to write
-abbrev pub with_write_fault : List ℕ → MemState → MemState
-with_write_fault name state = record state { write_faults = one_more state.write_faults; last_failed = name_told_after name }
+-- after a call of this kind, with this name, that failed to write
+abbrev pub after_write_fault : Call → List ℕ → MemState → MemState
+after_write_fault call name state = record state { counts = with_write_fault state.counts; last_failed = failed_told_after call name }
 
 -- with one more miss, where this is the answer for a file that isn't held
 abbrev pub with_size_answer : Option ℕ → MemState → MemState
-with_size_answer size state = record state { misses = if is_none size then one_more state.misses else state.misses }
+with_size_answer size state = record state { counts = if is_none size then with_miss state.counts else state.counts }
 
 -- `size` fails exactly where that is planned, and counts a file that isn't held
 pub record SizesInMemory {E : Type 0} (name : List ℕ) (old new : MemState) (result : Result (Option ℕ) E) : Type 0 where
   pub fails : IsErr result ↔ IsTrue (is_due old.sizes)
   pub size : IfOk result (λ size. size ≡ option_map length (old.files name).held)
   pub ok : IfOk result (λ size. new ≡ with_size_answer size (with_size_call old))
-  pub err : OnErr result (new ≡ with_read_fault name (with_size_call old))
+  pub err : OnErr result (new ≡ after_read_fault Size name (with_size_call old))
 
 -- whether a file is held and has so many bytes from a place on
 abbrev pub has_range : MemFile → ℕ → ℕ → Bool
@@ -175,7 +171,7 @@ can_read state name at len = not (is_due state.reads) && has_range (state.files 
 pub record ReadsInMemory {E : Type 0} (name : List ℕ) (at : ℕ) (before after : List ℕ) (old new : MemState) (result : Result (Unit {0}) E) : Type 0 where
   pub succeeds : IsOk result ↔ IsTrue (can_read old name at (length before))
   pub ok : OnOk result (new ≡ with_read_call old)
-  pub err : OnErr result (new ≡ with_read_fault name (with_read_call old))
+  pub err : OnErr result (new ≡ after_read_fault Read name (with_read_call old))
   pub buffer : OnErr result (after ≡ before)
 
 -- whether the next `start` succeeds
@@ -190,7 +186,7 @@ file_after_start file = record file { held = Some []; started = true }
 pub record StartsInMemory {E : Type 0} (name : List ℕ) (old new : MemState) (result : Result (Unit {0}) E) : Type 0 where
   pub succeeds : IsOk result ↔ IsTrue (can_start old name)
   pub ok : OnOk result (ChangesFile name file_after_start (with_start_call old) new)
-  pub err : OnErr result (new ≡ with_write_fault name (with_start_call old))
+  pub err : OnErr result (new ≡ after_write_fault Start name (with_start_call old))
 
 -- whether a file is held, was started, and has room for so many bytes after those that it has
 abbrev pub can_grow : MemFile → ℕ → Bool
@@ -208,4 +204,4 @@ file_after_append bytes file = record file { held = option_map (λ before. befor
 pub record AppendsInMemory {E : Type 0} (name bytes : List ℕ) (old new : MemState) (result : Result (Unit {0}) E) : Type 0 where
   pub succeeds : IsOk result ↔ IsTrue (can_append old name (length bytes))
   pub ok : OnOk result (ChangesFile name (file_after_append bytes) (with_append_call old) new)
-  pub err : OnErr result (new ≡ with_write_fault name (with_append_call old))
+  pub err : OnErr result (new ≡ after_write_fault Append name (with_append_call old))

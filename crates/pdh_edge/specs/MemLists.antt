@@ -1,7 +1,10 @@
 -- The lists of a port in memory.
-use Rattle.std.specs.Prelude.{◌≡◌, ℕ, ◌≤◌, Bool, true, nat_lt, List, length, drop, map, Option, Some, None, slice_get}
+use Rattle.std.specs.Prelude.{◌≡◌, ◌⊎◌, ℕ, ◌<◌, ◌≤◌, Bool, true, IsTrue, nat_lt, List, length, drop, map, Option, Some, None, slice_get, vec_capacity}
+use Rattle.std.specs.List.{slice_index_or}
 use Rattle.std.specs.Global.{Vec}
 use Rattle.pdh_edge.specs.declared.mem_port.InputList.{InputList}
+use Rattle.pdh_edge.specs.declared.mem_port.MemPort.{MemPort}
+use Rattle.pdh_edge.specs.Counts.{one_more}
 use Rattle.pdh_edge.specs.Ports.{Inputs, Outputs}
 
 -- ---- lists of bits as they are given and taken
@@ -33,7 +36,47 @@ mem_inputs lists = inputs_of (map rest_of lists)
 abbrev pub mem_outputs : List (Vec Bool) → Outputs
 mem_outputs lists = outputs_of (map items_of lists)
 
+-- ---- the room of its lists
+
+-- how many bits a list holds
+abbrev pub bits_held : Outputs → ℕ → ℕ
+bits_held outputs k = length_of (outputs.told k)
+
+-- for how many bits in all one list has room
+abbrev pub capacity_of : Vec Bool → ℕ
+capacity_of list = vec_capacity list
+
+-- for how many bits in all list k of these has room
+abbrev pub room_in : List (Vec Bool) → ℕ → ℕ
+room_in lists k = slice_index_or (map capacity_of lists) k 0
+
+-- for how many bits in all a port has room in list k
+abbrev pub room_of : MemPort → ℕ → ℕ
+room_of port k = room_in port.outputs.items k
+
+-- list k has no room for a bit more
+abbrev pub IsFull : List (Vec Bool) → ℕ → Type 0
+IsFull lists k = room_in lists k ≤ bits_held (mem_outputs lists) k
+
+-- a bit was put: the list had room, and no fault was counted
+pub record PutInRoom (leaf : ℕ) (old : List (Vec Bool)) (faults now : ℕ) : Type 0 where
+  pub room : bits_held (mem_outputs old) leaf < room_in old leaf
+  pub uncounted : now ≡ faults
+
+-- a bit was refused: the list had no room, all lists are as they were, and one fault was counted
+pub record IsRefused (leaf : ℕ) (old new : List (Vec Bool)) (faults now : ℕ) : Type 0 where
+  pub full : IsFull old leaf
+  pub same : mem_outputs new ≡ mem_outputs old
+  pub counted : now ≡ one_more faults
+
 -- ---- what calls may change
+
+-- The lists took bits at most: their rooms stay, none lost a bit, and the count of faults is as before, unless a list that is
+-- held is full now.
+pub record StaysInRoom (old new : List (Vec Bool)) (faults now : ℕ) : Type 0 where
+  pub rooms : (k : ℕ) → room_in new k ≡ room_in old k
+  pub grows : (k : ℕ) → bits_held (mem_outputs old) k ≤ bits_held (mem_outputs new) k
+  pub counted : (now ≡ faults) ⊎ ((k : ℕ) × IsTrue ((mem_outputs new).holds k) × IsFull new k)
 
 -- a count of faults didn't fall, and what was ready is so still
 pub record KeepsReady (old_faults new_faults : ℕ) (old_ready new_ready : Bool) : Type 0 where

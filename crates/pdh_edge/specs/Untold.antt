@@ -2,7 +2,7 @@
 use Rattle.std.specs.Prelude.{◌≡◌, ℕ, true, false, if◌then◌else◌, Option, None, is_none, Result, IfOk, OnOk, OnErr}
 use Rattle.pdh_edge.specs.declared.real.Folder.{Folder}
 use Rattle.pdh_edge.specs.declared.real.Out.{Out}
-use Rattle.pdh_edge.specs.Files.{ShelfState, SinkState}
+use Rattle.pdh_edge.specs.Files.{ShelfState, SinkState, with_read_fault, with_write_fault, with_miss}
 use Rattle.pdh_edge.specs.Files.Told.{Untold}
 use Rattle.pdh_edge.specs.Counts.{one_more}
 
@@ -13,9 +13,7 @@ abbrev pub untold_files : ℕ → ℕ → ℕ → ShelfState
 untold_files read_faults write_faults misses = record {
   told = λ name. Untold;
   readable = λ name at len. true;
-  read_faults = read_faults;
-  write_faults = write_faults;
-  misses = misses;
+  counts = record { read_faults = read_faults; write_faults = write_faults; misses = misses };
   last_failed = None;
   tells_name = λ name. false;
 }
@@ -26,18 +24,18 @@ folder_state folder = untold_files folder.read_faults folder.write_faults folder
 
 -- `size` counts a failure, and a file that isn't there, once
 pub record CountsSize {E : Type 0} (old new : ShelfState) (result : Result (Option ℕ) E) : Type 0 where
-  pub ok : IfOk result (λ size. new ≡ record old { misses = if is_none size then one_more old.misses else old.misses })
-  pub err : OnErr result (new ≡ record old { read_faults = one_more old.read_faults })
+  pub ok : IfOk result (λ size. new ≡ record old { counts = if is_none size then with_miss old.counts else old.counts })
+  pub err : OnErr result (new ≡ record old { counts = with_read_fault old.counts })
 
 -- `read_at` counts a failure once
 pub record CountsRead {E : Type 0} (old new : ShelfState) (result : Result (Unit {0}) E) : Type 0 where
   pub ok : OnOk result (new ≡ old)
-  pub err : OnErr result (new ≡ record old { read_faults = one_more old.read_faults })
+  pub err : OnErr result (new ≡ record old { counts = with_read_fault old.counts })
 
 -- `start` and `append` count a failure once
 pub record CountsWrite {E : Type 0} (old new : ShelfState) (result : Result (Unit {0}) E) : Type 0 where
   pub ok : OnOk result (new ≡ old)
-  pub err : OnErr result (new ≡ record old { write_faults = one_more old.write_faults })
+  pub err : OnErr result (new ≡ record old { counts = with_write_fault old.counts })
 
 -- ---- an output
 

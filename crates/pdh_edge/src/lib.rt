@@ -2,6 +2,7 @@
 #![tactic(auto)]
 
 mod buffer;
+mod laws;
 mod mem_port;
 mod mem_shelf;
 mod mem_sink;
@@ -15,10 +16,11 @@ mod sink;
 #[cfg(test)]
 mod tests;
 
+pub use laws::no_put_into_room_fails;
 pub use mem_port::MemPort;
-pub use mem_shelf::{Call, MemShelf};
+pub use mem_shelf::MemShelf;
 pub use mem_sink::MemSink;
 pub use port::{Drain, Feed, FeedStop, Port};
 pub use real::{Folder, Out};
-pub use shelf::{Failed, Shelf};
+pub use shelf::{Call, Failed, Shelf};
 pub use sink::Sink;

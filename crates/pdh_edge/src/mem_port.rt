@@ -1,6 +1,8 @@
-ghost use Rattle.std.specs.Prelude.{◌≡◌, ◌≤◌, ◌+◌, ℕ, Bool, true, IsTrue, List, [], length, map, replicate, slice_get, Some, IfOk};
+ghost use Rattle.std.specs.Prelude.{◌≡◌, ◌≤◌, ◌+◌, ℕ, Bool, true, IsTrue, List, [], length, map, replicate, slice_get, Some, IfOk, OnOk, OnErr};
 ghost use Rattle.std.proofs.Common.{refl, ◌∙◌, arith, ap};
-ghost use Rattle.pdh_edge.specs.MemLists.{inputs_of, outputs_of, mem_inputs, mem_outputs, items_of, KeepsReady};
+ghost use Rattle.pdh_edge.specs.Ports.{Puts, PutsPart, HasCause, only};
+ghost use Rattle.pdh_edge.specs.MemLists.{inputs_of, outputs_of, mem_inputs, mem_outputs, items_of, length_of, bits_held, room_of, PutInRoom, IsRefused, KeepsReady, StaysInRoom};
+ghost use Rattle.pdh_edge.specs.laws.InRoom.{stays_same, stays_join, stays_alike};
 
 use crate::{Drain, Failed, Feed, FeedStop, Port};
 use std::alloc::{AllocError, Global};
@@ -12,8 +14,8 @@ struct InputList {
     given: usize,
 }
 
-/// A port in memory, which tells its lists. Taking bits never fails; putting one fails only for want
-/// of memory, and then puts nothing.
+/// A port in memory, which tells its lists. Taking bits never fails; putting one fails exactly where
+/// its list has no room, and then puts nothing. No call but `room` takes memory.
 #[derive(Drop)]
 pub struct MemPort {
     inputs: Vec<InputList>,
@@ -67,13 +69,18 @@ impl MemPort {
         })
     }
 
-    /// Makes room for so many bits in an output list, so that putting them takes no memory; or the
-    /// refusal of memory for it.
+    /// Makes room for so many bits more in an output list; or the refusal of memory for it.
     pub fn room(&mut self, leaf: u32, bits: usize) -> Result<(), AllocError>
         requires held { IsTrue ((⟦<MemPort as Drain>⟧.outputs self.old).holds leaf) }
         ensures inputs { ⟦<MemPort as Feed>⟧.inputs self.new ≡ ⟦<MemPort as Feed>⟧.inputs self.old }
         ensures outputs { ⟦<MemPort as Drain>⟧.outputs self.new ≡ ⟦<MemPort as Drain>⟧.outputs self.old }
         ensures fresh { ⟦<MemPort as Port>⟧.fresh self.old → ⟦<MemPort as Port>⟧.fresh self.new }
+        ensures ready { ⟦<MemPort as Port>⟧.ready self.old → ⟦<MemPort as Port>⟧.ready self.new }
+        ensures drain_faults { ⟦<MemPort as Drain>⟧.drain_faults self.new
+            ≡ ⟦<MemPort as Drain>⟧.drain_faults self.old }
+        ensures room { OnOk result (bits_held (⟦<MemPort as Drain>⟧.outputs self.new) leaf + bits
+            ≤ room_of self.new leaf) }
+        ensures rooms { (k : ℕ) → room_of self.old k ≤ room_of self.new k }
     {
         self.outputs[leaf as usize].reserve(bits)
     }
@@ -104,6 +111,8 @@ impl Feed for MemPort {
 
     ghost fed_counts = { λ a b p. Prim.omega arith };
 
+    ghost left_told = { λ a k bits h. ap length_of h };
+
     fn feed_faults(&self) -> u64 {
         0
     }
@@ -126,12 +135,17 @@ impl Drain for MemPort {
 
     ghost drained = { λ a b. (b.inputs ≡ a.inputs) × (a.faults ≤ b.faults)
         × ((mem_outputs b.outputs.items).holds ≡ (mem_outputs a.outputs.items).holds)
-        × (b.ready ≡ a.ready) };
+        × (b.ready ≡ a.ready) × StaysInRoom a.outputs.items b.outputs.items a.faults b.faults };
 
-    ghost drained_same = { λ a. (refl, Prim.omega arith, refl, refl) };
+    ghost drained_same = { λ a. (refl, Prim.omega arith, refl, refl, stays_same a.outputs.items a.faults) };
 
-    ghost drained_join = { λ a b c p q.
-        (q.0 ∙ p.0, Prim.omega (arith, p.1, q.1), q.2 ∙ p.2, q.3 ∙ p.3) };
+    ghost drained_join = { λ a b c p q. (
+      q.0 ∙ p.0,
+      Prim.omega (arith, p.1, q.1),
+      q.2 ∙ p.2,
+      q.3 ∙ p.3,
+      stays_join a.outputs.items b.outputs.items c.outputs.items a.faults b.faults c.faults q.2 p.4 q.4,
+    ) };
 
     ghost drained_holds = { λ a b p. p.2 };
 
@@ -141,10 +155,23 @@ impl Drain for MemPort {
         self.faults
     }
 
-    fn put(&mut self, leaf: u32, bit: bool) -> Result<(), Failed> {
-        let is_put = self.outputs[leaf as usize].push(bit).is_ok();
+    fn put(&mut self, leaf: u32, bit: bool) -> Result<(), Failed>
+        requires { IsTrue ((mem_outputs self.old.outputs.items).holds leaf) }
+        ensures ok { OnOk result (Puts (only leaf bit) (mem_outputs self.old.outputs.items)
+            (mem_outputs self.new.outputs.items)) }
+        ensures err { OnErr result (PutsPart (only leaf bit) (mem_outputs self.old.outputs.items)
+            (mem_outputs self.new.outputs.items)) }
+        ensures cause { HasCause self.old.faults self.new.faults result }
+        ensures drained { ⟦<MemPort as Drain>⟧.drained self.old self.new }
+        ensures put { OnOk result
+            (PutInRoom leaf self.old.outputs.items self.old.faults self.new.faults) }
+        ensures refused { OnErr result (IsRefused leaf self.old.outputs.items
+            self.new.outputs.items self.old.faults self.new.faults) }
+    {
         self.fresh = false;
-        if is_put {
+        let list = &mut self.outputs[leaf as usize];
+        if list.len() < list.capacity() {
+            list.push_reserved(bit);
             return Ok(());
         }
         self.faults = self.faults.saturating_add(1);
@@ -159,12 +186,17 @@ impl Port for MemPort {
 
     ghost kept = { λ a b. KeepsReady a.faults b.faults a.ready b.ready
         × ((mem_inputs b.inputs.items).holds ≡ (mem_inputs a.inputs.items).holds)
-        × ((mem_outputs b.outputs.items).holds ≡ (mem_outputs a.outputs.items).holds) };
+        × ((mem_outputs b.outputs.items).holds ≡ (mem_outputs a.outputs.items).holds)
+        × StaysInRoom a.outputs.items b.outputs.items a.faults b.faults };
 
-    ghost kept_same = { λ a. (record { later = Prim.omega arith; ready = λ r. r }, refl, refl) };
+    ghost kept_same = { λ a. (record { later = Prim.omega arith; ready = λ r. r }, refl, refl, stays_same a.outputs.items a.faults) };
 
-    ghost kept_join = { λ a b c p q.
-        (record { later = Prim.omega (arith, p.0.later, q.0.later); ready = λ r. q.0.ready (p.0.ready r) }, q.1 ∙ p.1, q.2 ∙ p.2) };
+    ghost kept_join = { λ a b c p q. (
+      record { later = Prim.omega (arith, p.0.later, q.0.later); ready = λ r. q.0.ready (p.0.ready r) },
+      q.1 ∙ p.1,
+      q.2 ∙ p.2,
+      stays_join a.outputs.items b.outputs.items c.outputs.items a.faults b.faults c.faults q.2 p.3 q.3,
+    ) };
 
     ghost kept_ready = { λ a b p. p.0.ready };
 
@@ -172,11 +204,15 @@ impl Port for MemPort {
 
     ghost kept_holds = { λ a b p. (p.1, p.2) };
 
-    ghost fed_is_kept = { λ a b p.
-        (record { later = Prim.omega (arith, p.1); ready = λ r. p.3 ∙ r }, p.2, ap (λ v. (mem_outputs v.items).holds) p.0) };
+    ghost fed_is_kept = { λ a b p. (
+      record { later = Prim.omega (arith, p.1); ready = λ r. p.3 ∙ r },
+      p.2,
+      ap (λ v. (mem_outputs v.items).holds) p.0,
+      stays_alike a.outputs.items b.outputs.items a.faults b.faults (ap (λ v. v.items) p.0) p.1,
+    ) };
 
     ghost drained_is_kept = { λ a b p.
-        (record { later = p.1; ready = λ r. p.3 ∙ r }, ap (λ v. (mem_inputs v.items).holds) p.0, p.2) };
+        (record { later = p.1; ready = λ r. p.3 ∙ r }, ap (λ v. (mem_inputs v.items).holds) p.0, p.2, p.4) };
 
     ghost fed_fresh = { λ a b p r. p.4 ∙ r };
 

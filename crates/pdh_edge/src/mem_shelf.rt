@@ -1,27 +1,15 @@
 ghost use Rattle.std.specs.Prelude.{◌≡◌, ◌≢◌, ◌↔◌, List, ℕ, true, length, option_map, is_some, IsTrue, IfOk, OnOk, OnErr};
 ghost use Rattle.std.specs.Option.{option_copied};
+ghost use Rattle.pdh_edge.specs.declared.shelf.Call.TheVariants.{Size, Read};
 ghost use Rattle.pdh_edge.specs.Files.{Looks, FailsToRead, FailsToWrite, HasSize, HasRange, Touches, Starts, FailsToStart, Appends, FailsToAppend};
-ghost use Rattle.pdh_edge.specs.MemFiles.{mem_state, shelf_state, file_in, file_of, IsNew, ChangesFile, file_after_hold, file_after_room, with_planned, SizesInMemory, ReadsInMemory, StartsInMemory, AppendsInMemory, with_read_fault, with_write_fault, name_told_after, file_after_start, file_after_append, can_grow};
+ghost use Rattle.pdh_edge.specs.MemFiles.{mem_state, shelf_state, file_in, file_of, IsNew, ChangesFile, file_after_hold, file_after_room, with_planned, SizesInMemory, ReadsInMemory, StartsInMemory, AppendsInMemory, after_read_fault, after_write_fault, failed_of, failed_told_after, file_after_start, file_after_append, can_grow};
 
 use crate::buffer::Buffer;
 use crate::plan::Plan;
-use crate::{Failed, Shelf};
+use crate::{Call, Failed, Shelf};
 use arrayvec::ArrayString;
 use std::alloc::{AllocError, Global};
 use std::collections::BTreeMap;
-
-/// A kind of call of a shelf.
-#[derive(Clone, Copy, Debug, PartialEq, Eq)]
-pub enum Call {
-    /// `size`.
-    Size,
-    /// `read_at`.
-    Read,
-    /// `start`.
-    Start,
-    /// `append`.
-    Append,
-}
 
 #[derive(Drop)]
 struct Slot {
@@ -32,8 +20,8 @@ struct Slot {
 }
 
 /// Files in memory, which tells what they hold. The calls of `Shelf` take no memory: one fails
-/// exactly where that was planned or the files don't allow it, and then takes nothing. The name of
-/// the last call that failed is told where it has at most 32 bytes.
+/// exactly where that was planned or the files don't allow it, and then takes nothing. The last call
+/// that failed is told where its name has at most 32 bytes.
 ///
 /// The other calls want memory. After an `AllocError` nothing has changed.
 #[derive(Drop)]
@@ -47,7 +35,14 @@ pub struct MemShelf {
     read_faults: u64,
     write_faults: u64,
     misses: u64,
-    last: Option<ArrayString<32>>,
+    last: Option<LastFailed>,
+}
+
+// The last call that failed.
+#[derive(Clone, Copy)]
+struct LastFailed {
+    call: Call,
+    name: ArrayString<32>,
 }
 
 impl MemShelf {
@@ -194,34 +189,37 @@ impl MemShelf {
         }
     }
 
-    // The name to tell after a call with that name failed.
-    fn told(name: &str) -> Option<ArrayString<32>>
-        ensures { option_map (λ told. told.bytes) result ≡ name_told_after name.now }
+    // What to tell after a call with that name failed.
+    fn told(call: Call, name: &str) -> Option<LastFailed>
+        ensures { option_map failed_of result ≡ failed_told_after call name.now }
     {
-        ArrayString::from(name).ok()
+        match ArrayString::from(name) {
+            Ok(name) => Some(LastFailed { call, name }),
+            Err(_) => None,
+        }
     }
 
     // Counts a call with that name that failed to read.
-    fn read_failed(&mut self, name: &str) -> Failed
-        ensures memory { mem_state self.new ≡ with_read_fault name.now (mem_state self.old) }
+    fn read_failed(&mut self, call: Call, name: &str) -> Failed
+        ensures memory { mem_state self.new ≡ after_read_fault call name.now (mem_state self.old) }
         ensures slots { self.new.slots ≡ self.old.slots }
         ensures kept { Looks (shelf_state self.old) (shelf_state self.new) }
-        ensures fails { FailsToRead name.now (shelf_state self.old) (shelf_state self.new) }
+        ensures fails { FailsToRead call name.now (shelf_state self.old) (shelf_state self.new) }
     {
         self.read_faults = self.read_faults.saturating_add(1);
-        self.last = MemShelf::told(name);
+        self.last = MemShelf::told(call, name);
         Failed
     }
 
     // Counts a call with that name that failed to write.
-    fn write_failed(&mut self, name: &str) -> Failed
-        ensures memory { mem_state self.new ≡ with_write_fault name.now (mem_state self.old) }
+    fn write_failed(&mut self, call: Call, name: &str) -> Failed
+        ensures memory { mem_state self.new ≡ after_write_fault call name.now (mem_state self.old) }
         ensures slots { self.new.slots ≡ self.old.slots }
         ensures kept { Touches name.now (shelf_state self.old) (shelf_state self.new) }
-        ensures fails { FailsToWrite name.now (shelf_state self.old) (shelf_state self.new) }
+        ensures fails { FailsToWrite call name.now (shelf_state self.old) (shelf_state self.new) }
     {
         self.write_faults = self.write_faults.saturating_add(1);
-        self.last = MemShelf::told(name);
+        self.last = MemShelf::told(call, name);
         Failed
     }
 }
@@ -244,12 +242,12 @@ impl Shelf for MemShelf {
     fn size(&mut self, name: &str) -> Result<Option<u64>, Failed>
         ensures kept { Looks (shelf_state self.old) (shelf_state self.new) }
         ensures ok { IfOk result (HasSize name.now (shelf_state self.old) (shelf_state self.new)) }
-        ensures err { OnErr result (FailsToRead name.now
+        ensures err { OnErr result (FailsToRead Size name.now
             (shelf_state self.old) (shelf_state self.new)) }
         ensures memory { SizesInMemory name.now (mem_state self.old) (mem_state self.new) result }
     {
         if self.sizes.count() {
-            return Err(self.read_failed(name));
+            return Err(self.read_failed(Call::Size, name));
         }
         let size = self.file(name).map(|bytes| bytes.len() as u64);
         if size.is_none() {
@@ -260,16 +258,15 @@ impl Shelf for MemShelf {
 
     fn read_at(&mut self, name: &str, at: u64, into: &mut [u8]) -> Result<(), Failed>
         ensures kept { Looks (shelf_state self.old) (shelf_state self.new) }
-        ensures misses { (shelf_state self.new).misses ≡ (shelf_state self.old).misses }
         ensures ok { OnOk result (HasRange name.now at into.new
             (shelf_state self.old) (shelf_state self.new)) }
-        ensures err { OnErr result (FailsToRead name.now
+        ensures err { OnErr result (FailsToRead Read name.now
             (shelf_state self.old) (shelf_state self.new)) }
         ensures memory { ReadsInMemory name.now at into.old into.new
             (mem_state self.old) (mem_state self.new) result }
     {
         if self.reads.count() {
-            return Err(self.read_failed(name));
+            return Err(self.read_failed(Call::Read, name));
         }
         let at = at as usize;
         match self.file(name) {
@@ -277,7 +274,7 @@ impl Shelf for MemShelf {
                 into.copy_from_slice(&bytes[at..at + into.len()]);
                 Ok(())
             }
-            _ => Err(self.read_failed(name)),
+            _ => Err(self.read_failed(Call::Read, name)),
         }
     }
 
@@ -289,7 +286,7 @@ impl Shelf for MemShelf {
         ensures memory { StartsInMemory name.now (mem_state self.old) (mem_state self.new) result }
     {
         if self.starts.count() || self.room_of(name).is_none() {
-            return Err(self.write_failed(name));
+            return Err(self.write_failed(Call::Start, name));
         }
         MemShelf::make_empty(&mut self.slots, name);
         Ok(())
@@ -305,7 +302,7 @@ impl Shelf for MemShelf {
             (mem_state self.old) (mem_state self.new) result }
     {
         if self.appends.count() || !self.can_append(name, bytes.len()) {
-            return Err(self.write_failed(name));
+            return Err(self.write_failed(Call::Append, name));
         }
         MemShelf::add(&mut self.slots, name, bytes);
         Ok(())

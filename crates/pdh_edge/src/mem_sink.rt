@@ -1,4 +1,4 @@
-ghost use Rattle.std.specs.Prelude.{◌≡◌, ◌≤◌, IfOk, OnOk, OnErr};
+ghost use Rattle.std.specs.Prelude.{◌≡◌, IfOk, OnOk, OnErr};
 ghost use Rattle.pdh_edge.specs.Files.{Sends, FailsToSend};
 ghost use Rattle.pdh_edge.specs.MemOutput.{mem_sink_state, sink_state, new_sink, with_planned, WritesInMemory};
 
@@ -54,7 +54,6 @@ impl Sink for MemSink {
     }
 
     fn write(&mut self, bytes: &[u8]) -> Result<(), Failed>
-        ensures kept { (sink_state self.old).faults ≤ (sink_state self.new).faults }
         ensures ok { OnOk result (Sends bytes.now (sink_state self.old) (sink_state self.new)) }
         ensures err { OnErr result (FailsToSend bytes.now
             (sink_state self.old) (sink_state self.new)) }

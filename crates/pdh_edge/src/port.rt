@@ -1,4 +1,4 @@
-ghost use Rattle.std.specs.Prelude.{◌≡◌, ◌≤◌, ℕ, IsTrue, IfOk, OnOk, OnErr, IsErrOf};
+ghost use Rattle.std.specs.Prelude.{◌≡◌, ◌≤◌, ℕ, Bool, List, length, Some, IsTrue, IfOk, OnOk, OnErr, IsErrOf};
 ghost use Rattle.pdh_edge.specs.declared.port.FeedStop.TheVariants.{Ended};
 ghost use Rattle.pdh_edge.specs.Ports.{Inputs, Outputs, Takes, Puts, PutsPart, HasCause, HasFeedCause, only, nothing};
 
@@ -49,6 +49,10 @@ pub trait Feed: Drop {
 
     /// The count never falls.
     ghost fed_counts: { (a b : Self) → fed a b → feed_faults a ≤ feed_faults b };
+
+    /// A list that is told has as many bits as are left.
+    ghost left_told: { (a : Self) (k : ℕ) (bits : List Bool)
+        → (inputs a).told k ≡ Some bits → (inputs a).left k ≡ length bits };
 }
 
 /// Takes bits: appends them to a list for each of its leaves. The bits are told where an

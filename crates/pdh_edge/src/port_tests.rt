@@ -1,4 +1,4 @@
-use crate::{Drain, Feed, FeedStop, MemPort, Port};
+use crate::{Drain, Failed, Feed, FeedStop, MemPort, Port};
 use std::test::Fail;
 
 #[test]
@@ -7,14 +7,16 @@ fn port_in_memory(rt: HostRuntime) -> Result<(), Fail> {
     let mut lists = Vec::new(alloc);
     lists.push(vec![in alloc; true, false]?)?;
     let mut port = MemPort::open(alloc, lists, 2)?;
+    port.room(1, 2)?;
     assert_eq!(rt; port.start(), Ok(()));
     assert_eq!(rt; port.bit(0), Ok(true));
     assert_eq!(rt; port.put(1, true), Ok(()));
     assert_eq!(rt; port.bit(0), Ok(false));
     assert_eq!(rt; port.put(1, false), Ok(()));
     assert_eq!(rt; port.bit(0), Err(FeedStop::Ended));
+    assert_eq!(rt; port.put(0, true), Err(Failed));
     assert_eq!(rt; port.output(0).len(), 0);
     assert_eq!(rt; *port.output(1), *[true, false].as_slice());
-    assert_eq!(rt; (port.feed_faults(), port.drain_faults()), (0, 0));
+    assert_eq!(rt; (port.feed_faults(), port.drain_faults()), (0, 1));
     Ok(())
 }

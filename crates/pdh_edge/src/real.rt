@@ -1,4 +1,5 @@
-ghost use Rattle.std.specs.Prelude.{◌≡◌, ◌≤◌, IfOk, OnOk, OnErr};
+ghost use Rattle.std.specs.Prelude.{◌≡◌, IfOk, OnOk, OnErr};
+ghost use Rattle.pdh_edge.specs.declared.shelf.Call.TheVariants.{Size, Read};
 ghost use Rattle.pdh_edge.specs.Files.{Looks, FailsToRead, HasSize, HasRange, Touches, Starts, FailsToStart, Appends, FailsToAppend, Sends, FailsToSend};
 ghost use Rattle.pdh_edge.specs.Untold.{untold_files, folder_state, CountsSize, CountsRead, CountsWrite, untold_output, out_state, CountsSend};
 
@@ -61,7 +62,7 @@ impl<R: Files + Drop> Shelf for Folder<R> {
         ensures kept { Looks (folder_state self.old) (folder_state self.new) }
         ensures ok { IfOk result (HasSize name.now
             (folder_state self.old) (folder_state self.new)) }
-        ensures err { OnErr result (FailsToRead name.now
+        ensures err { OnErr result (FailsToRead Size name.now
             (folder_state self.old) (folder_state self.new)) }
         ensures counts { CountsSize (folder_state self.old) (folder_state self.new) result }
     {
@@ -80,10 +81,9 @@ impl<R: Files + Drop> Shelf for Folder<R> {
 
     fn read_at(&mut self, name: &str, at: u64, into: &mut [u8]) -> Result<(), Failed>
         ensures kept { Looks (folder_state self.old) (folder_state self.new) }
-        ensures misses { (folder_state self.new).misses ≡ (folder_state self.old).misses }
         ensures ok { OnOk result (HasRange name.now at into.new
             (folder_state self.old) (folder_state self.new)) }
-        ensures err { OnErr result (FailsToRead name.now
+        ensures err { OnErr result (FailsToRead Read name.now
             (folder_state self.old) (folder_state self.new)) }
         ensures counts { CountsRead (folder_state self.old) (folder_state self.new) result }
     {
@@ -148,7 +148,6 @@ impl<R: Print + Drop> Sink for Out<R> {
     }
 
     fn write(&mut self, bytes: &[u8]) -> Result<(), Failed>
-        ensures kept { (out_state self.old).faults ≤ (out_state self.new).faults }
         ensures ok { OnOk result (Sends bytes.now (out_state self.old) (out_state self.new)) }
         ensures err { OnErr result (FailsToSend bytes.now
             (out_state self.old) (out_state self.new)) }

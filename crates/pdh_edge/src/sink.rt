@@ -1,9 +1,10 @@
-ghost use Rattle.std.specs.Prelude.{◌≡◌, ◌≤◌, OnOk, OnErr};
+ghost use Rattle.std.specs.Prelude.{◌≡◌, OnOk, OnErr};
 ghost use Rattle.pdh_edge.specs.Files.{SinkState, Sends, FailsToSend};
 
 use crate::Failed;
 
-/// An output of bytes. The count of its faults never falls, and stands at `u64::MAX` once there.
+/// An output of bytes. A call that failed is counted once, a call that succeeded isn't; the count of
+/// its faults stands at `u64::MAX` once there.
 pub trait Sink: Drop {
     /// What the sink tells and counts.
     ghost state: { Self → SinkState };
@@ -14,7 +15,6 @@ pub trait Sink: Drop {
 
     /// Writes all the bytes. After a failure a prefix of them was written.
     fn write(&mut self, bytes: &[u8]) -> Result<(), Failed>
-        ensures kept { (state self.old).faults ≤ (state self.new).faults }
         ensures ok { OnOk result (Sends bytes.now (state self.old) (state self.new)) }
         ensures err { OnErr result (FailsToSend bytes.now (state self.old) (state self.new)) };
 }

@@ -90,13 +90,15 @@ fn folder(rt: HostRuntime) -> io::Result<()> {
     }
     assert_eq!(rt; folder.append(name, b" end"), Ok(()));
     assert_eq!(rt; folder.size(name), Ok(Some(9)));
+    // A name below a file isn't a file that is missing.
+    assert_eq!(rt; folder.size("pdh_edge_test_file/below"), Err(Failed));
     let mut buffer = [b'-'; 5];
     assert_eq!(rt; folder.read_at(name, 3, &mut buffer), Ok(()));
     assert_eq!(rt; &buffer[..], &b"ht en"[..]);
     assert_eq!(rt; folder.read_at(name, 5, &mut buffer), Err(Failed));
     assert_eq!(rt;
         (folder.read_faults(), folder.write_faults(), folder.misses()),
-        (1, 1, 1)
+        (2, 1, 1)
     );
     fs::remove_file(&rt, name)
 }

@@ -9,7 +9,7 @@ use Rattle.pdh_shape.specs.declared.role.Role.{Role}
 use Rattle.pdh_shape.specs.declared.role.Role.TheVariants.{Align, Service, Control, Just, Info}
 use Rattle.pdh_shape.specs.Frame.{FrameShape, IsFrame, slots}
 use Rattle.pdh_shape.specs.Tributary.{reads_from, is_just, HasTributaries, reads_below, ReadsEvenly}
-use Rattle.pdh_shape.specs.Ranges.{count-range_grows}
+use Rattle.pdh_shape.specs.laws.Ranges.{count-range_grows}
 use Rattle.pdh_line.specs.Sending.{lead, threshold, arrived, carried, sent, sends_more, came_before, read_before, fill_before, fill_arrived}
 use Rattle.pdh_line.specs.Tolerance.{arrived_over, IsWithin}
 use Rattle.pdh_line.proofs.Ranges.{range_append}

@@ -10,3 +10,5 @@ pub mod SameLines
 pub mod EventLaws
 pub mod FillBounds
 pub mod WithinTolerance
+pub mod Worked
+pub mod WorkedLines

@@ -7,7 +7,7 @@ use Rattle.std.proofs.lemmas.List.Elements.{filter-append}
 use Rattle.std.proofs.lemmas.List.Folds.{list_any-append}
 use Rattle.std.proofs.lemmas.List.Sums.{sum_by-cons}
 use Rattle.std.proofs.lemmas.Bool.{cases_Bool}
-pub use Rattle.pdh_shape.specs.Ranges.{and_true, list_all-at, count_push}
+pub use Rattle.pdh_shape.specs.laws.Ranges.{and_true, list_all-at, count_push}
 
 pub range_push : (a n : ℕ) → range_with_len a (suc n) ≡ range_with_len a n ++ (a + n) ∷ []
 range_push a zero = ap (λ x. x ∷ []) (omega arith)

@@ -1,56 +1,76 @@
 -- What decides a line, and what a longer line adds to a shorter one.
-use Rattle.std.proofs.Common.{◌≡◌, ℕ, zero, suc, ◌+◌, ◌-◌, ◌*◌, ◌/◌, ◌%◌, ◌<◌, ◌≤◌, true, not, cond, eqb, refl, ap, ◌∙◌, subst, inl, inr, arith}
-use Rattle.std.proofs.lemmas.Bool.{cases_lt}
-use Rattle.std.proofs.lemmas.Nat.{div-mul-add, div-add-mod', le-div}
+use Rattle.std.proofs.Common.{◌≡◌, ℕ, zero, suc, ◌+◌, ◌-◌, ◌*◌, ◌/◌, ◌%◌, ◌<◌, ◌≤◌, Bool, true, ◌&&◌, cond, eqb, refl, sym, ap, ◌∙◌, subst, inl, inr, arith, eq-eqb}
+use Rattle.std.proofs.lemmas.Bool.{cases_lt, cases_Bool}
+use Rattle.std.proofs.lemmas.Nat.{div-mul-add, div-add-mod', mod_below, le-div}
 use Rattle.std.proofs.Math.Nat.{mul-le-mul_right, div-mul-le_self}
 use Rattle.std.proofs.Math.Dec.{eqb-suc-zero}
 use Rattle.pdh_shape.specs.declared.role.Role.{Role}
 use Rattle.pdh_shape.specs.declared.role.Role.TheVariants.{Align, Service, Control, Just, Info}
+use Rattle.pdh_shape.specs.declared.role.Service.{Service as Say}
 use Rattle.pdh_shape.specs.Frame.{FrameShape, IsFrame}
-use Rattle.pdh_shape.specs.Tributary.{turned, HasTributaries}
-use Rattle.pdh_line.specs.Sending.{arrived_in, sends_more, came_before, read_before, Source, input_bit, payload_bit, odd_before, slot_bit, line_bit, front, taken}
-use Rattle.pdh_line.proofs.Ranges.{map-range_same_on, count-range_same}
+use Rattle.pdh_shape.specs.Tributary.{reads_from, turned, HasTributaries}
+use Rattle.pdh_line.specs.Sending.{arrived_in, sends_more, came_before, read_before, Source, input_bit, payload_bit, odd_before, slot_bit, line_bit, taken}
+use Rattle.pdh_line.proofs.Ranges.{count-range_same}
 use Rattle.pdh_line.proofs.SendingLaws.{arrived-grows, came_before-start, came_before-next}
 pub use Rattle.pdh_line.proofs.SendingLaws.{taken-frames}
 
--- ---- two sources with the same counts and service bits, and the same bits of each tributary that the shape has
+-- ---- two sources with the same counts that agree on what the first x bits of a line read and say
 
-module _ (s : FrameShape) (a b : Source) (has : HasTributaries s) (counts : a.counts ≡ b.counts) (says : a.says ≡ b.says) (inputs : (j i : ℕ) → j < s.tribs → a.inputs j i ≡ b.inputs j i) where
-  input_bit-same : (n t j : ℕ) → j < s.tribs → input_bit s a n t j ≡ input_bit s b n t j
-  input_bit-same n t j known = ap (turned (s.inverted j)) (ap (λ c. a.inputs j (read_before s j (c j) n t)) counts ∙ inputs j (read_before s j (b.counts j) n t) known)
+module _ (s : FrameShape) (counts : ℕ → ℕ → ℕ) (p q : ℕ → ℕ → Bool) (f g : ℕ → Say) (x : ℕ) (frame : IsFrame s) (has : HasTributaries s)
+    (inputs : (n t j : ℕ) → j < s.tribs → t < s.len → n * s.len + t < x → reads_from j (sends_more s (counts j) n) (s.role t) ≡ true
+    → p j (read_before s j (counts j) n t) ≡ q j (read_before s j (counts j) n t))
+    (says : (n : ℕ) → n * s.len < x → f n ≡ g n) where
+  abbrev one : Source
+  one = record { counts = counts; inputs = p; says = f }
 
-  payload_bit-same : (n t : ℕ) (r : Role) → t < s.len → s.role t ≡ r → payload_bit s a n t r ≡ payload_bit s b n t r
-  payload_bit-same n t (Info j) h e = input_bit-same n t j (has.info_known t j h e)
-  payload_bit-same n t (Just j) h e =
-      ap (λ c. cond (sends_more s (c j) n) (input_bit s a n t j) true) counts ∙ ap (λ bit. cond (sends_more s (b.counts j) n) bit true) (input_bit-same n t j (has.just_known t j h e))
-  payload_bit-same n t (Align signal) h e = refl
-  payload_bit-same n t (Service number) h e = refl
-  payload_bit-same n t (Control j copy) h e = refl
+  abbrev other : Source
+  other = record { counts = counts; inputs = q; says = g }
 
-  odd_before-same : (n : ℕ) → odd_before s a n ≡ odd_before s b n
+  input_bit-same : (n t j : ℕ) → j < s.tribs → t < s.len → n * s.len + t < x → reads_from j (sends_more s (counts j) n) (s.role t) ≡ true → input_bit s one n t j ≡ input_bit s other n t j
+  input_bit-same n t j known inside made reads = ap (turned (s.inverted j)) (inputs n t j known inside made reads)
+
+  payload_bit-same : (n t : ℕ) (r : Role) → t < s.len → n * s.len + t < x → s.role t ≡ r → payload_bit s one n t r ≡ payload_bit s other n t r
+  payload_bit-same n t (Info j) inside made e =
+      input_bit-same n t j (has.info_known t j inside e) inside made (ap (reads_from j (sends_more s (counts j) n)) e ∙ eq-eqb j j refl)
+  payload_bit-same n t (Just j) inside made e =
+      elim (cases_Bool (sends_more s (counts j) n)) [
+        | inl more ↦
+            let reads : reads_from j (sends_more s (counts j) n) (s.role t) ≡ true =
+            ap (reads_from j (sends_more s (counts j) n)) e ∙ ap (λ b. eqb j j && b) more ∙ ap (λ b. b && true) (eq-eqb j j refl) in
+            ap (λ bit. cond (sends_more s (counts j) n) bit true) (input_bit-same n t j (has.just_known t j inside e) inside made reads)
+        | inr none ↦ ap (λ more. cond more (input_bit s one n t j) true) none ∙ sym (ap (λ more. cond more (input_bit s other n t j) true) none)
+      ]
+  payload_bit-same n t (Align signal) inside made e = refl
+  payload_bit-same n t (Service number) inside made e = refl
+  payload_bit-same n t (Control j copy) inside made e = refl
+
+  odd_before-same : (n : ℕ) → n * s.len < x → odd_before s one n ≡ odd_before s other n
   unfolding odd_before
-  odd_before-same zero = refl
-  odd_before-same (suc n) = ap (λ ones. eqb (ones % 2) 1) (count-range_same _ _ 0 s.len (λ t l h. payload_bit-same n t (s.role t) (omega arith) refl))
+  odd_before-same zero made = refl
+  odd_before-same (suc n) made = ap (λ ones. eqb (ones % 2) 1) (count-range_same _ _ 0 s.len (λ t l h. payload_bit-same n t (s.role t) (omega arith) (omega arith) refl))
 
-  slot_bit-same : (n t : ℕ) (r : Role) → t < s.len → s.role t ≡ r → slot_bit s a n t r ≡ slot_bit s b n t r
-  slot_bit-same n t (Align signal) h e = refl
-  slot_bit-same n t (Service number) h e = ap (λ f. s.service number (f n) (odd_before s a n)) says ∙ ap (s.service number (b.says n)) (odd_before-same n)
-  slot_bit-same n t (Control j copy) h e = ap (λ c. not (sends_more s (c j) n)) counts
-  slot_bit-same n t (Just j) h e = payload_bit-same n t (Just j) h e
-  slot_bit-same n t (Info j) h e = payload_bit-same n t (Info j) h e
+  slot_bit-same : (n t : ℕ) (r : Role) → t < s.len → n * s.len + t < x → s.role t ≡ r → slot_bit s one n t r ≡ slot_bit s other n t r
+  slot_bit-same n t (Align signal) inside made e = refl
+  slot_bit-same n t (Service number) inside made e =
+      ap (λ say. s.service number say (odd_before s one n)) (says n (omega arith)) ∙ ap (s.service number (g n)) (odd_before-same n (omega arith))
+  slot_bit-same n t (Control j copy) inside made e = refl
+  slot_bit-same n t (Just j) inside made e = payload_bit-same n t (Just j) inside made e
+  slot_bit-same n t (Info j) inside made e = payload_bit-same n t (Info j) inside made e
 
--- such sources decide the same line,
+  -- they decide the same first x bits
+  pub line_bit-same_upto : (y : ℕ) → y < x → line_bit s one y ≡ line_bit s other y
+  unfolding line_bit
+  line_bit-same_upto y made =
+      let whole : y / s.len * s.len + y % s.len ≡ y = div-add-mod' y s.len in
+      slot_bit-same (y / s.len) (y % s.len) (s.role (y % s.len)) (mod_below y s.len frame.some_slots) (omega arith) refl
+
+-- sources that agree on all bits of each tributary that the shape has decide the same line
 pub line_bit-same : (s : FrameShape) (a b : Source) (x : ℕ) → IsFrame s → HasTributaries s → a.counts ≡ b.counts → a.says ≡ b.says
     → ((j i : ℕ) → j < s.tribs → a.inputs j i ≡ b.inputs j i) → line_bit s a x ≡ line_bit s b x
-unfolding line_bit
 line_bit-same s a b x frame has counts says inputs =
-    let inside : x % s.len < s.len = omega (arith, frame.some_slots) in
-    slot_bit-same s a b has counts says inputs (x / s.len) (x % s.len) (s.role (x % s.len)) inside refl
-
--- and so the same front of it
-pub front-same : (s : FrameShape) (a b : Source) (n : ℕ) → IsFrame s → HasTributaries s → a.counts ≡ b.counts → a.says ≡ b.says
-    → ((j i : ℕ) → j < s.tribs → a.inputs j i ≡ b.inputs j i) → front (line_bit s a) n ≡ front (line_bit s b) n
-front-same s a b n frame has counts says inputs = map-range_same_on (line_bit s a) (line_bit s b) 0 n (λ x l h. line_bit-same s a b x frame has counts says inputs)
+    ap (λ c. line_bit s (record { counts = c; inputs = a.inputs; says = a.says }) x) counts
+    ∙ line_bit-same_upto s b.counts a.inputs b.inputs a.says b.says (suc x) frame has
+    (λ n t j known inside made reads. inputs j (read_before s j (b.counts j) n t) known) (λ n made. ap (λ f. f n) says) x (omega arith)
 
 -- ---- a longer line
 

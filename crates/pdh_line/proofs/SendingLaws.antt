@@ -11,10 +11,7 @@ use Rattle.pdh_shape.specs.Frame.{FrameShape, IsFrame}
 use Rattle.pdh_shape.specs.Tributary.{reads_from, HasTributaries, reads_below}
 use Rattle.pdh_line.specs.Sending.{lead, threshold, arrived, arrived_in, arrives_at, carried, sent, sends_more, came_before, read_before, taken, entered}
 use Rattle.pdh_line.proofs.Ranges.{range_push, count-range_push}
-
--- a shape whose nodes have stores
-abbrev pub HasStores : FrameShape → Type 0
-HasStores s = eqb s.copies 0 ≡ false
+pub use Rattle.pdh_line.specs.Sending.{HasStores}
 
 pub has_stores : (n : ℕ) → 0 < n → eqb n 0 ≡ false
 has_stores zero h = absurd (omega arith)

@@ -1,7 +1,5 @@
--- Overflows and underflows of a node's elastic stores, in the order in which the node meets them. The order of the
--- steps in making a line bit is this project's own.
-use Rattle.std.specs.Prelude.{ℕ, suc, ◌+◌, ◌*◌, ◌/◌, ◌%◌, Bool, nat_le, ◌==◌, ◌&&◌, if◌then◌else◌, List, [], ◌∷◌, ◌++◌, flat_map, Option, slice_get}
-use Rattle.std.specs.List.{range_with_len}
+-- Overflows and underflows of a node's elastic stores.
+use Rattle.std.specs.Prelude.{◌≡◌, ◌<◌, ℕ, suc, ◌+◌, ◌*◌, Bool, false, nat_le, ◌&&◌, if◌then◌else◌, List, [], ◌∷◌}
 use Rattle.pdh_shape.specs.Frame.{FrameShape}
 use Rattle.pdh_shape.specs.Tributary.{reads_from}
 use Rattle.pdh_line.specs.Sending.{store_size, arrives_at, sends_more, came_before, read_before}
@@ -27,6 +25,11 @@ abbrev pub underflows : FrameShape → ℕ → (ℕ → ℕ) → ℕ → ℕ →
 underflows s j counts n t =
     reads_from j (sends_more s counts n) (s.role t) && nat_le (came_before s counts n (suc t)) (read_before s j counts n t)
 
+-- the store of tributary j meets no event before slot t of frame n
+pub record IsQuiet (s : FrameShape) (j : ℕ) (counts : ℕ → ℕ) (n t : ℕ) : Type 0 where
+  pub fits : (m u : ℕ) → u < s.len → m * s.len + u < n * s.len + t → overflows s j counts m u ≡ false
+  pub lasts : (m u : ℕ) → u < s.len → m * s.len + u < n * s.len + t → underflows s j counts m u ≡ false
+
 -- the value where the test holds, or nothing
 abbrev pub one_if : {X : Type 0} → Bool → X → List X
 one_if test x = (if test then x ∷ [] else [])
@@ -38,23 +41,3 @@ overflow_at s path j counts n t = one_if (overflows s j counts n t) (record { ki
 -- the underflow of tributary j of the node at a path in slot t of frame n, if there is one
 abbrev pub underflow_at : FrameShape → List ℕ → ℕ → (ℕ → ℕ) → ℕ → ℕ → List Event
 underflow_at s path j counts n t = one_if (underflows s j counts n t) (record { kind = Underflow; path = path; trib = j; frame = n; slot = t })
-
--- all events of slot t of frame n, in the order of the steps: the overflows of the arrivals, by tributary, then the
--- underflow of the read; a node without stores has none
-unfoldable pub events_at : FrameShape → (ℕ → ℕ → ℕ) → ℕ → ℕ → List Event
-events_at s counts n t =
-    (if s.copies == 0 then []
-    else flat_map (λ j. overflow_at s [] j (counts j) n t) (range_with_len 0 s.tribs)
-    ++ flat_map (λ j. underflow_at s [] j (counts j) n t) (range_with_len 0 s.tribs))
-
--- all events in making bit x of a node's line
-abbrev pub events_in : FrameShape → (ℕ → ℕ → ℕ) → ℕ → List Event
-events_in s counts x = events_at s counts (x / s.len) (x % s.len)
-
--- all events in making the first x bits of a node's line, in order
-unfoldable pub events_below : FrameShape → (ℕ → ℕ → ℕ) → ℕ → List Event
-events_below s counts x = flat_map (events_in s counts) (range_with_len 0 x)
-
--- the first event in so many frames, if there is one
-abbrev pub first_event : FrameShape → (ℕ → ℕ → ℕ) → ℕ → Option Event
-first_event s counts frames = slice_get (events_below s counts (frames * s.len)) 0

@@ -1,8 +1,7 @@
 pub mod Least
 pub mod Tracking
 pub mod Receiving
-pub mod Worked
 pub mod Sending
 pub mod Events
-pub mod WorkedLines
 pub mod Tolerance
+pub mod Paths

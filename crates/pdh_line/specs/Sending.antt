@@ -1,8 +1,8 @@
 -- What a multiplexer with elastic stores sends: arrivals, positive justification, and every bit of its line.
 -- Positive justification is that of ITU-T G.742, 5; the lead, the size of a store and the even spread of a frame's
 -- arrivals are this project's own.
-use Rattle.std.specs.Prelude.{ℕ, zero, suc, ◌+◌, ◌-◌, ◌*◌, ◌/◌, ◌%◌, Bool, true, false, not, nat_lt, ◌==◌, ◌||◌, if◌then◌else◌, List, [], map, sum_by, count_by}
-use Rattle.std.specs.List.{range_with_len, slice_index_or}
+use Rattle.std.specs.Prelude.{◌≡◌, ℕ, zero, suc, ◌+◌, ◌-◌, ◌*◌, ◌/◌, ◌%◌, Bool, true, false, not, nat_lt, ◌==◌, ◌||◌, if◌then◌else◌, List, [], map, sum_by, count_by}
+use Rattle.std.specs.List.{range_with_len}
 use Rattle.pdh_shape.specs.declared.role.Role.{Role}
 use Rattle.pdh_shape.specs.declared.role.Role.TheVariants.{Align, Service, Control, Just, Info}
 use Rattle.pdh_shape.specs.declared.role.Service.{Service as Say}
@@ -20,6 +20,10 @@ threshold = lead
 -- how many bits a store holds at most
 abbrev pub store_size : ℕ
 store_size = 48
+
+-- the nodes of a shape have stores, except where it has no control bits
+abbrev pub HasStores : FrameShape → Type 0
+HasStores s = (s.copies == 0) ≡ false
 
 -- ---- one tributary, by how many of its bits arrive in each frame
 
@@ -137,14 +141,3 @@ frames_found frames = (if nat_lt frames 3 then 0 else frames)
 -- how many bits of a tributary a receiver gets from the first so many frames of its node's line
 abbrev pub given_back : FrameShape → (ℕ → ℕ) → ℕ → ℕ
 given_back s counts frames = sent s counts (frames_found frames)
-
--- ---- a node whose tributaries are lists of bits
-
--- the bits of tributary j, or none where there is no such list
-abbrev pub bits_at : List (List Bool) → ℕ → List Bool
-bits_at lists j = slice_index_or lists j []
-
--- the source with these counts, whose tributaries are these lists and whose frames all say the same; a place past a
--- list's end has the bit 0, which no line carries that has no event and whose lists hold what its frames enter
-abbrev pub source_of : (ℕ → ℕ → ℕ) → List (List Bool) → Say → Source
-source_of counts lists say = record { counts = counts; inputs = λ j k. slice_index_or (bits_at lists j) k false; says = λ n. say }

@@ -4,7 +4,6 @@
 use Rattle.std.specs.Prelude.{◌≤◌, ℕ, suc, ◌+◌, ◌*◌, sum_by}
 use Rattle.std.specs.List.{range_with_len}
 use Rattle.pdh_shape.specs.Frame.{FrameShape}
-use Rattle.pdh_line.specs.Events.{Event}
 
 -- by how many bits the arrivals of a run may pass what its frames carry at least and at most
 abbrev pub allowance : ℕ
@@ -20,7 +19,3 @@ pub record IsWithin (s : FrameShape) (counts : ℕ → ℕ) (frames : ℕ) : Typ
   pub least : (first run : ℕ) → first + run ≤ frames → s.low * run ≤ arrived_over counts first run + allowance
   -- and at most what it carries where none is, with the allowance
   pub most : (first run : ℕ) → first + run ≤ frames → arrived_over counts first run ≤ suc s.low * run + allowance
-
--- the tributary that an event names isn't within the tolerance over the frames up to the event's own
-abbrev pub IsOutside : FrameShape → (ℕ → ℕ → ℕ) → Event → Type 0
-IsOutside s counts event = IsWithin s (counts event.trib) (suc event.frame) → ⊥

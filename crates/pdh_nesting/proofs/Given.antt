@@ -1,6 +1,6 @@
--- What comes back was given: where a chain has no event, no more of a leaf's bits come back than the leaf has given, and it
+-- What comes back was given: where no store underflows, no more of a leaf's bits come back than the leaf has given, and it
 -- gives no more than it enters. So what a leaf receives is a prefix of its list.
-use Rattle.std.proofs.Common.{◌≡◌, ℕ, ◌+◌, ◌*◌, ◌/◌, ◌%◌, ◌<◌, ◌≤◌, Bool, false, List, [], ◌∷◌, length, take, slice_index_or, sym, ap, ◌∙◌, subst, inl, inr, arith}
+use Rattle.std.proofs.Common.{◌≡◌, ℕ, ◌+◌, ◌*◌, ◌/◌, ◌%◌, ◌<◌, ◌≤◌, Bool, false, List, [], ◌∷◌, length, take, slice_index_or, refl, sym, ap, ◌∙◌, subst, inl, inr, arith}
 use Rattle.std.proofs.lemmas.List.{get_or-take, length-take-le}
 use Rattle.std.proofs.lemmas.List.FromFn.{fill_by_all}
 use Rattle.std.proofs.lemmas.Nat.{div-mul-add, mod-mul-add}
@@ -10,9 +10,9 @@ use Rattle.pdh_shape.specs.Frame.{FrameShape}
 use Rattle.pdh_line.specs.Sending.{begun, taken, entered, front, given_back}
 use Rattle.pdh_line.specs.Events.{underflows}
 use Rattle.pdh_nesting.specs.Chains.{width, child, top_len, AreFrames}
-use Rattle.pdh_nesting.specs.Sending.{Counts, chain_line, given_below, entered_below, ArriveSingly}
+use Rattle.pdh_nesting.specs.Sending.{Counts, chain_line, line_with, content_of, given_below, entered_below, ArriveSingly}
 use Rattle.pdh_nesting.specs.Receiving.{far, back_below}
-use Rattle.pdh_nesting.specs.Events.{events_in, events_below}
+use Rattle.pdh_nesting.specs.Events.{events_in, events_below, NoneEmpty}
 use Rattle.pdh_nesting.proofs.Nodes.{taken_once, taken-entered, given_back-grows, given_back-taken}
 use Rattle.pdh_nesting.proofs.EventParts.{lead_none, arrival_none, underflow_none, events_below-each}
 use Rattle.pdh_nesting.proofs.RoundTrip.{leaf-tributary, leaf-below, div-one, far_front}
@@ -49,20 +49,30 @@ none_underflows s below counts path x j known none m u inside h =
     ∙ ap (underflows s j (counts path j) ((m * s.len + u) / s.len)) (sym (mod-mul-add m s.len u inside))
     ∙ underflow_none s below counts path j (m * s.len + u) (none (m * s.len + u) h) known
 
--- Where no bit before a node's bit x has an event, no more of a leaf's bits come back than the leaf has given. A slot that
--- brings two bits would list the events of the first alone, so at most one arrives in a slot.
-pub back-given : (chain : List FrameShape) (counts : Counts) (path : List ℕ) (x k : ℕ) → AreFrames chain → ArriveSingly chain counts path x → k < width chain
-    → ((y : ℕ) → y < x → events_in chain counts path y ≡ []) → back_below chain counts path x k ≤ given_below chain counts path x k
-unfolding back_below given_below ArriveSingly
-back-given [] counts path x k are singly h none = omega arith
-back-given (s ∷ below) counts path x k are singly h none =
+-- Where no bit before a node's bit x has an event, no store at or below it underflows. A slot that brings two bits would
+-- list the events of the first alone, so at most one arrives in a slot.
+pub none-empty : (chain : List FrameShape) (counts : Counts) (path : List ℕ) (x : ℕ) → AreFrames chain → ArriveSingly chain counts path x
+    → ((y : ℕ) → y < x → events_in chain counts path y ≡ []) → NoneEmpty chain counts path x
+unfolding ArriveSingly NoneEmpty
+none-empty [] counts path x are singly none = tt
+none-empty (s ∷ below) counts path x are singly none =
+    λ j known. (
+      λ n t inside lt. none_underflows s below counts path x j known none n t inside lt,
+      none-empty below counts (child path j) (taken s (counts path j) x) are.2 (singly j known).1 (λ i lt. none_taken s below counts path x j i are known (singly j known).0 none lt),
+    )
+
+-- and where no store underflows, no more of a leaf's bits come back than the leaf has given
+pub back-given : (chain : List FrameShape) (counts : Counts) (path : List ℕ) (x k : ℕ) → AreFrames chain → NoneEmpty chain counts path x → k < width chain
+    → back_below chain counts path x k ≤ given_below chain counts path x k
+unfolding back_below given_below NoneEmpty
+back-given [] counts path x k are full h = omega arith
+back-given (s ∷ below) counts path x k are full h =
     let j : ℕ = k / width below in
     let known : j < s.tribs = leaf-tributary s.tribs (width below) k h in
     let x' : ℕ = taken s (counts path j) x in
-    let held : given_back s (counts path j) (x / s.len) ≤ x' = given_back-taken s (counts path j) j x are.0 are.1 known (none_underflows s below counts path x j known none) in
+    let held : given_back s (counts path j) (x / s.len) ≤ x' = given_back-taken s (counts path j) j x are.0 are.1 known (full j known).0 in
     let fewer = back_below-grows below counts (child path j) (given_back s (counts path j) (x / s.len)) x' (k % width below) are.2 held in
-    let rest = back-given below counts (child path j) x' (k % width below) are.2 (singly j known).1 (leaf-below s.tribs (width below) k h)
-    (λ i lt. none_taken s below counts path x j i are known (singly j known).0 none lt) in
+    let rest = back-given below counts (child path j) x' (k % width below) are.2 (full j known).1 (leaf-below s.tribs (width below) k h) in
     omega arith
 
 -- ---- no more is given than is entered
@@ -84,6 +94,16 @@ front-list : (bits : List Bool) (input : ℕ → Bool) (n : ℕ) → ((i : ℕ) 
 front-list bits input n same h =
     sym (fill_by_all input (take n bits) n false (length-take-le n bits h) (λ i lt. get_or-take n bits i false lt ∙ sym (same i)))
 
+-- the same of a leaf that holds what it has given, in a chain where no store underflows
+pub far-given : (chain : List FrameShape) (counts : Counts) (lists : ℕ → List Bool) (says : ℕ → Say) (x k : ℕ) → AreFrames chain → NoneEmpty chain counts [] x → k < width chain
+    → given_below chain counts [] x k ≤ length (lists k) → far chain (front (line_with chain counts (content_of lists says)) x) k ≡ take (back_below chain counts [] x k) (lists k)
+far-given chain counts lists says x k are full known long =
+    let bits : ℕ → ℕ → Bool = (content_of lists says).bits in
+    let back : ℕ = back_below chain counts [] x k in
+    let first : 0 + k ≡ k = omega arith in
+    far_front chain counts bits says [] 0 x k are known ∙ ap (λ i. front (bits i) back) first
+    ∙ front-list (lists k) (bits k) back (λ i. refl) (omega (arith, back-given chain counts [] x k are full known))
+
 -- A chain made so many frames of its top from lists that held what these frames enter, and met no event. Then of each front
 -- of whole frames each leaf receives a prefix of its list.
 pub far-prefix : (chain : List FrameShape) (counts : Counts) (bits : ℕ → ℕ → Bool) (lists : ℕ → List Bool) (says : ℕ → Say) (n m k : ℕ) → AreFrames chain
@@ -95,7 +115,8 @@ far-prefix chain counts bits lists says n m k are same singly none long h known 
     let back : ℕ = back_below chain counts [] (m * top_len chain) k in
     let first : 0 + k ≡ k = omega arith in
     let fewer : back ≤ back_below chain counts [] whole k = back_below-grows chain counts [] (m * top_len chain) whole k are (mul-le-mul_right (top_len chain) h) in
-    let held : back_below chain counts [] whole k ≤ given_below chain counts [] whole k = back-given chain counts [] whole k are singly known (λ y lt. events_below-each chain counts whole y none lt) in
+    let full : NoneEmpty chain counts [] whole = none-empty chain counts [] whole are singly (λ y lt. events_below-each chain counts whole y none lt) in
+    let held : back_below chain counts [] whole k ≤ given_below chain counts [] whole k = back-given chain counts [] whole k are full known in
     far_front chain counts bits says [] 0 (m * top_len chain) k are known
     ∙ ap (λ i. front (bits i) back) first
     ∙ front-list (lists k) (bits k) back (same k) (omega (arith, given-entered chain counts [] whole k are))

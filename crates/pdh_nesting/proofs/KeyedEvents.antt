@@ -35,14 +35,6 @@ keyed_arrival s below counts path n t j =
 abbrev pub keyed_read : FrameShape → Counts → List ℕ → ℕ → ℕ → ℕ → List Keyed
 keyed_read s counts path n t j = at_key (1 ∷ suc s.tribs ∷ []) (underflow_at s path j (counts path j) n t)
 
-pub keyed_in-is : (s : FrameShape) (below : List FrameShape) (counts : Counts) (path : List ℕ) (x : ℕ)
-    → keyed_in (s ∷ below) counts path x
-    ≡ cond (eqb x 0) (flat_map (keyed_lead below counts path) (range_with_len 0 s.tribs)) []
-    ++ flat_map (keyed_arrival s below counts path (x / s.len) (x % s.len)) (range_with_len 0 s.tribs)
-    ++ flat_map (keyed_read s counts path (x / s.len) (x % s.len)) (range_with_len 0 s.tribs)
-unfolding keyed_in
-keyed_in-is s below counts path x = refl
-
 -- ---- the events of each part
 
 of_at_key : (key : List ℕ) (events : List Event) → events_of (at_key key events) ≡ events

@@ -1,10 +1,10 @@
 -- The chains of the known shapes keep what the laws ask of a chain.
-use Rattle.std.proofs.Common.{[], ◌∷◌, refl, arith}
+use Rattle.std.proofs.Common.{[], ◌∷◌, refl}
 use Rattle.pdh_shape.specs.Sets.{e2, e3, e4}
-use Rattle.pdh_shape.specs.E2Laws.{e2_is_frame, e2_has_tributaries, e2_reads_evenly}
-use Rattle.pdh_shape.specs.E3Laws.{e3_is_frame, e3_has_tributaries, e3_reads_evenly}
-use Rattle.pdh_shape.specs.E4Laws.{e4_is_frame, e4_has_tributaries, e4_reads_evenly}
-use Rattle.pdh_nesting.specs.Chains.{AreFrames, HaveStores, HaveRoom}
+use Rattle.pdh_shape.specs.laws.E2Laws.{e2_is_frame, e2_has_tributaries, e2_reads_evenly}
+use Rattle.pdh_shape.specs.laws.E3Laws.{e3_is_frame, e3_has_tributaries, e3_reads_evenly}
+use Rattle.pdh_shape.specs.laws.E4Laws.{e4_is_frame, e4_has_tributaries, e4_reads_evenly}
+use Rattle.pdh_nesting.specs.Chains.{AreFrames, HaveStores}
 
 pub e2_frames : AreFrames (e2 ∷ [])
 e2_frames = (e2_is_frame, e2_has_tributaries, tt)
@@ -35,18 +35,3 @@ e4_e3_stores = (refl, e4_reads_evenly, e3_stores)
 
 pub e4_e3_e2_stores : HaveStores (e4 ∷ e3 ∷ e2 ∷ [])
 e4_e3_e2_stores = (refl, e4_reads_evenly, e3_e2_stores)
-
-pub e2_room : HaveRoom (e2 ∷ [])
-e2_room = (omega arith, tt)
-
-pub e3_room : HaveRoom (e3 ∷ [])
-e3_room = (omega arith, tt)
-
-pub e3_e2_room : HaveRoom (e3 ∷ e2 ∷ [])
-e3_e2_room = (omega arith, e2_room)
-
-pub e4_e3_room : HaveRoom (e4 ∷ e3 ∷ [])
-e4_e3_room = (omega arith, e3_room)
-
-pub e4_e3_e2_room : HaveRoom (e4 ∷ e3 ∷ e2 ∷ [])
-e4_e3_e2_room = (omega arith, e3_e2_room)

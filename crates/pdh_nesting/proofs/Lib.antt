@@ -6,10 +6,9 @@ pub mod Nodes
 pub mod EventParts
 pub mod NoEvents
 pub mod Given
-pub mod Within
 pub mod Delay
-pub mod Growth
 pub mod Orders
 pub mod Keys
 pub mod KeyedEvents
 pub mod StepOrder
+pub mod Unchanged

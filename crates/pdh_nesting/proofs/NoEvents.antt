@@ -7,8 +7,8 @@ use Rattle.pdh_line.specs.Sending.{came_before, begun, taken}
 use Rattle.pdh_line.proofs.WithinTolerance.{no_overflow, no_underflow, within-fewer}
 use Rattle.pdh_nesting.specs.Chains.{child, top_len, AreFrames, HaveStores}
 use Rattle.pdh_nesting.specs.Sending.{Counts, AllWithin, AllScheduled, AllTolerated}
-use Rattle.pdh_nesting.specs.Events.{events_in, first_event}
-use Rattle.pdh_nesting.proofs.Nodes.{begun_more, lead_taken, arrival_taken}
+use Rattle.pdh_nesting.specs.Events.{events_in, first_event, NoneEmpty}
+use Rattle.pdh_nesting.proofs.Nodes.{begun_more, frame_begun, lead_taken, arrival_taken}
 use Rattle.pdh_nesting.proofs.EventParts.{events_in-none, events_below-none}
 
 -- Where each tributary at and below a node is within the tolerance, no bit before the node's bit x has an event.
@@ -28,6 +28,16 @@ no_events (s ∷ below) counts path x y are stores within h =
     (λ j known arrives. none_below j (came_before s (counts path j) n t) known (arrival_taken s (counts path j) x y are.0 h arrives))
     (λ j known. no_overflow s j (counts path j) (begun s x) n t are.0 are.1 stores.0 stores.1 known (within j known).0 scheduled inside)
     (λ j known. no_underflow s j (counts path j) (begun s x) n t are.0 are.1 stores.0 stores.1 known (within j known).0 scheduled inside)
+
+-- nor does any store underflow
+pub none_empty-within : (chain : List FrameShape) (counts : Counts) (path : List ℕ) (x : ℕ) → AreFrames chain → HaveStores chain → AllWithin chain counts path x → NoneEmpty chain counts path x
+unfolding AllWithin NoneEmpty
+none_empty-within [] counts path x are stores within = tt
+none_empty-within (s ∷ below) counts path x are stores within =
+    λ j known. (
+      λ n t inside lt. no_underflow s j (counts path j) (begun s x) n t are.0 are.1 stores.0 stores.1 known (within j known).0 (frame_begun s x n t are.0 inside lt) inside,
+      none_empty-within below counts (child path j) (taken s (counts path j) x) are.2 stores.2 (within j known).1,
+    )
 
 -- so a chain that is within the tolerance over so many frames of its top has no first event
 pub first_event-none : (chain : List FrameShape) (counts : Counts) (frames : ℕ) → AreFrames chain → HaveStores chain → AllWithin chain counts [] (frames * top_len chain)

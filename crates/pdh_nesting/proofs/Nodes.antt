@@ -80,6 +80,12 @@ pub begun_more : (s : FrameShape) (x y : ℕ) → IsFrame s → y < x → suc (y
 begun_more s zero y frame h = absurd (omega arith)
 begun_more s (suc x) y frame h = omega (arith, begun-suc s x frame, div-grows y x s.len frame.some_slots (omega arith))
 
+-- and so does a frame of which a slot was made
+pub frame_begun : (s : FrameShape) (x n t : ℕ) → IsFrame s → t < s.len → n * s.len + t < x → n < begun s x
+frame_begun s x n t frame inside made =
+    let whole : (n * s.len + t) / s.len ≡ n = div-mul-add n s.len t inside in
+    omega (arith, whole, begun_more s x (n * s.len + t) frame made)
+
 -- ---- the bits that a node takes
 
 -- the lead is taken before the first bit

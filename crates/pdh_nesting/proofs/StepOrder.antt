@@ -1,5 +1,5 @@
 -- The events of a chain come in the order of their lists, so that the first event is that with the least list.
-use Rattle.std.proofs.Common.{◌≡◌, ℕ, suc, ◌*◌, ◌/◌, ◌%◌, ◌<◌, Bool, true, false, cond, eqb, List, [], ◌∷◌, ◌++◌, length, map, get_or, Some, refl, sym, ap, ◌∙◌, subst, inl, inr, arith, append_assoc}
+use Rattle.std.proofs.Common.{◌≡◌, ℕ, zero, suc, ◌*◌, ◌/◌, ◌%◌, ◌<◌, ◌≤◌, Bool, true, false, cond, eqb, List, [], ◌∷◌, ◌++◌, length, map, get_or, Some, refl, sym, ap, ◌∙◌, subst, inl, inr, arith, append_assoc}
 use Rattle.std.specs.Prelude.{flat_map, slice_get}
 use Rattle.std.specs.List.{range_with_len, AllPairs}
 use Rattle.std.proofs.lemmas.Bool.{eqb-true, cases_lt}
@@ -8,12 +8,12 @@ use Rattle.pdh_shape.specs.declared.role.Role.TheVariants.{Align, Service, Contr
 use Rattle.pdh_shape.specs.Frame.{FrameShape}
 use Rattle.pdh_shape.specs.Tributary.{reads_from}
 use Rattle.pdh_line.specs.Sending.{lead, arrives_at, sends_more, came_before}
-use Rattle.pdh_line.specs.Events.{overflows, underflows, overflow_at, underflow_at}
+use Rattle.pdh_line.specs.Events.{Event, overflows, underflows, overflow_at, underflow_at}
 use Rattle.pdh_line.proofs.Ranges.{and_true}
 use Rattle.pdh_nesting.specs.Chains.{child, top_len}
 use Rattle.pdh_nesting.specs.Sending.{Counts}
 use Rattle.pdh_nesting.specs.Events.{first_event}
-use Rattle.pdh_nesting.specs.StepOrder.{comes_before, Keyed, at_key, below_key, Before, keyed_in, keyed_below}
+use Rattle.pdh_nesting.specs.StepOrder.{comes_before, Keyed, at_key, below_key, Before, IsLeast, keyed_in, keyed_below, keyed_events}
 use Rattle.pdh_nesting.proofs.Orders.{Each, Ordered, each-append, each-flat, each-weaker, across-by, ordered-append, ordered-flat, ordered-pairs}
 use Rattle.pdh_nesting.proofs.Keys.{comes_before-same, comes_before-self, comes_before-other, Begins, begins-below, begins-at, less-after, across-less, ordered-below, ordered-if, each-if, ordered-one, across-one}
 use Rattle.pdh_nesting.proofs.KeyedEvents.{keyed_made, keyed_lead, keyed_arrival, keyed_read, keyed_below-events}
@@ -149,10 +149,6 @@ keyed_in-ordered (s ∷ below) counts path x =
     (sym (append_assoc (cond (eqb x 0) (flat_map (keyed_lead below counts path) (range_with_len 0 s.tribs)) []) (flat_map (keyed_arrival s below counts path n t) (range_with_len 0 s.tribs)) (flat_map (keyed_read s counts path n t) (range_with_len 0 s.tribs))))
     (ordered-bit s below counts path (λ j k. keyed_in-ordered below counts (child path j) k) n t (eqb x 0))
 
--- each before all later ones,
-pub keyed_in-pairs : (chain : List FrameShape) (counts : Counts) (path : List ℕ) (x : ℕ) → AllPairs Before (keyed_in chain counts path x)
-keyed_in-pairs chain counts path x = ordered-pairs Before (keyed_in chain counts path x) (keyed_in-ordered chain counts path x)
-
 -- and so do those of a run,
 pub keyed_below-ordered : (chain : List FrameShape) (counts : Counts) (x : ℕ) → Ordered Before (keyed_below chain counts x)
 unfolding keyed_below
@@ -165,35 +161,58 @@ keyed_below-ordered chain counts x =
 pub keyed_below-pairs : (chain : List FrameShape) (counts : Counts) (x : ℕ) → AllPairs Before (keyed_below chain counts x)
 keyed_below-pairs chain counts x = ordered-pairs Before (keyed_below chain counts x) (keyed_below-ordered chain counts x)
 
--- no event of the list comes before that at a place
-abbrev pub IsLeast : List Keyed → ℕ → Keyed → Type 0
-IsLeast keyed i none = (k : ℕ) → k < length keyed → comes_before (get_or keyed k none).0 (get_or keyed i none).0 ≡ false
+-- ---- the least list
 
--- an event of a run with the least list is the first event
-pub least-first : (chain : List FrameShape) (counts : Counts) (frames i : ℕ) (none : Keyed)
-    → i < length (keyed_below chain counts (frames * top_len chain)) → IsLeast (keyed_below chain counts (frames * top_len chain)) i none
-    → first_event chain counts frames ≡ Some (get_or (keyed_below chain counts (frames * top_len chain)) i none).1
-least-first chain counts frames i none h least =
-    let keyed : List Keyed = keyed_below chain counts (frames * top_len chain) in
-    elim (cases_lt 0 i) [
-      | inl later ↦ absurd (let e : false ≡ true = sym (least 0 (omega arith)) ∙ keyed_below-pairs chain counts (frames * top_len chain) 0 i none later h in cc)
-      | inr first ↦
-          let e : i ≡ 0 = omega arith in
-          ap (λ events. slice_get events 0) (sym (keyed_below-events chain counts (frames * top_len chain)))
-          ∙ first_of keyed none (omega arith) ∙ ap (λ i. Some (get_or keyed i none).1) (sym e)
-    ]
+-- an element that a list has at a place
+get-is : (keyed : List Keyed) (k : ℕ) (none event : Keyed) → slice_get keyed k ≡ Some event → (k < length keyed) × (get_or keyed k none ≡ event)
+get-is [] k none event is = cc
+get-is (first ∷ keyed) zero none event is = (omega arith, cc)
+get-is (first ∷ keyed) (suc k) none event is = let rest = get-is keyed k none event is in (omega (arith, rest.0), rest.1)
+
+-- of a list in order no later event comes before an earlier one
+later-not : (keyed : List Keyed) (i k : ℕ) (a b : Keyed) → AllPairs Before keyed → slice_get keyed i ≡ Some a → slice_get keyed k ≡ Some b → i ≤ k → comes_before b.0 a.0 ≡ false
+later-not keyed i k a b pairs here there h =
+    let ours = get-is keyed i a a here in
+    let other = get-is keyed k a b there in
+    subst (λ b. comes_before b.0 a.0 ≡ false) other.1 (subst (λ x. comes_before (get_or keyed k a).0 x.0 ≡ false) ours.1 (elim (cases_lt i k) [
+      | inl later ↦ comes_before-other (get_or keyed i a).0 (get_or keyed k a).0 (pairs i k a later other.0)
+      | inr same ↦
+          let e : i ≡ k = omega arith in
+          ap (λ k. comes_before (get_or keyed k a).0 (get_or keyed i a).0) (sym e) ∙ comes_before-self (get_or keyed i a).0
+    ]))
+
+-- an event of a run with the least list is the first event,
+pub least-first : (chain : List FrameShape) (counts : Counts) (frames : ℕ) (key : List ℕ) (event : Event) → IsLeast (keyed_events chain counts frames) (key, event)
+    → first_event chain counts frames ≡ Some event
+least-first chain counts frames key event least =
+    let x : ℕ = frames * top_len chain in
+    ap (λ events. slice_get events 0) (sym (keyed_below-events chain counts x)) ∙ first_of (keyed_below chain counts x) (keyed_below-pairs chain counts x) least
   where
-    first_of : (keyed : List Keyed) (none : Keyed) → 0 < length keyed → slice_get (map (λ event. event.1) keyed) 0 ≡ Some (get_or keyed 0 none).1
-    first_of [] none some = absurd (omega arith)
-    first_of (event ∷ keyed) none some = refl
+    first_of : (keyed : List Keyed) → AllPairs Before keyed → IsLeast keyed (key, event) → slice_get (map (λ event. event.1) keyed) 0 ≡ Some event
+    first_of [] pairs least = absurd (let wrong : slice_get [] least.place ≡ Some (key, event) = least.among in cc)
+    first_of (first ∷ keyed) pairs least =
+        let ours = get-is (first ∷ keyed) least.place first (key, event) least.among in
+        elim (cases_lt 0 least.place) [
+          | inl later ↦
+              let before : comes_before first.0 (get_or (first ∷ keyed) least.place first).0 ≡ true = pairs 0 least.place first later ours.0 in
+              let wrong : true ≡ false = sym before ∙ ap (λ other. comes_before first.0 other.0) ours.1 ∙ least.first 0 first refl in
+              absurd (cc)
+          | inr none ↦
+              let e : least.place ≡ 0 = omega arith in
+              let same : first ≡ (key, event) = ap (λ k. get_or (first ∷ keyed) k first) (sym e) ∙ ours.1 in
+              ap (λ first. Some first.1) same
+        ]
 
 -- and the first event has the least list
-pub first-least : (chain : List FrameShape) (counts : Counts) (frames : ℕ) (none : Keyed) → IsLeast (keyed_below chain counts (frames * top_len chain)) 0 none
-first-least chain counts frames none k h =
-    let keyed : List Keyed = keyed_below chain counts (frames * top_len chain) in
-    elim (cases_lt 0 k) [
-      | inl later ↦ comes_before-other (get_or keyed 0 none).0 (get_or keyed k none).0 (keyed_below-pairs chain counts (frames * top_len chain) 0 k none later h)
-      | inr first ↦
-          let e : k ≡ 0 = omega arith in
-          ap (λ k. comes_before (get_or keyed k none).0 (get_or keyed 0 none).0) e ∙ comes_before-self (get_or keyed 0 none).0
-    ]
+pub first-least : (chain : List FrameShape) (counts : Counts) (frames : ℕ) (event : Event) → first_event chain counts frames ≡ Some event
+    → (key : List ℕ) × IsLeast (keyed_events chain counts frames) (key, event)
+first-least chain counts frames event found =
+    let x : ℕ = frames * top_len chain in
+    least_of (keyed_below chain counts x) (keyed_below-pairs chain counts x) (ap (λ events. slice_get events 0) (keyed_below-events chain counts x) ∙ found)
+  where
+    least_of : (keyed : List Keyed) → AllPairs Before keyed → slice_get (map (λ event. event.1) keyed) 0 ≡ Some event → (key : List ℕ) × IsLeast keyed (key, event)
+    least_of [] pairs found = cc
+    least_of (first ∷ keyed) pairs found =
+        let same : first.1 ≡ event = cc in
+        let here : slice_get (first ∷ keyed) 0 ≡ Some (first.0, event) = ap (λ event. Some (first.0, event)) same in
+        (first.0, record { place = 0; among = here; first = λ k other is. later-not (first ∷ keyed) 0 k (first.0, event) other pairs here is (omega arith) })

@@ -1,13 +1,13 @@
 -- Worked examples of events in chains and of the order of their lists, computed by the checker.
-use Rattle.std.proofs.Common.{◌≡◌, ℕ, ◌*◌, true, false, [], ◌∷◌, None, refl, arith}
+use Rattle.std.proofs.Common.{◌≡◌, ℕ, ◌*◌, true, false, [], ◌∷◌, None, Some, refl, arith}
 use Rattle.std.specs.Prelude.{◌==◌, ◌&&◌, if◌then◌else◌}
 use Rattle.pdh_shape.specs.Sets.{e2, e3, set_role}
 use Rattle.pdh_line.specs.Sending.{arrived, sent, begun, taken}
 use Rattle.pdh_line.specs.Events.{Event}
-use Rattle.pdh_line.specs.Events.Kind.{Underflow}
+use Rattle.pdh_line.specs.Events.Kind.{Overflow, Underflow}
 use Rattle.pdh_line.proofs.WithinTolerance.{within-each}
 use Rattle.pdh_nesting.specs.Sending.{Counts, AllWithin}
-use Rattle.pdh_nesting.specs.Events.{events_in, first_event}
+use Rattle.pdh_nesting.specs.Events.{events_in, events_below, first_event}
 use Rattle.pdh_nesting.specs.StepOrder.{comes_before, keyed_in}
 use Rattle.pdh_nesting.proofs.KnownChains.{e3_e2_frames, e3_e2_stores}
 use Rattle.pdh_nesting.proofs.NoEvents.{first_event-none}
@@ -21,6 +21,25 @@ longer_first = refl
 
 pub shorter_later : comes_before (5 ∷ 1 ∷ 2 ∷ []) (5 ∷ 1 ∷ 2 ∷ 7 ∷ 1 ∷ 3 ∷ []) ≡ false
 shorter_later = refl
+
+-- ---- one node
+
+-- where all four tributaries bring 848 bits in frame 0, a bit a slot, the last one overflows first: the others were read before
+pub all_overflow : first_event (e2 ∷ []) (λ path j n. 848) 1 ≡ Some (record { kind = Overflow; path = []; trib = 3; frame = 0; slot = 27 })
+unfolding events_below events_in sent arrived set_role
+all_overflow = refl
+
+-- where the first alone brings 848, it overflows a slot later
+pub first_overflows : first_event (e2 ∷ []) (λ path j n. (if j == 0 then 848 else 206)) 1 ≡ Some (record { kind = Overflow; path = []; trib = 0; frame = 0; slot = 28 })
+unfolding events_below events_in sent arrived set_role
+first_overflows = refl
+
+-- where the first brings nothing, its 24 bits are used up at its 25th slot
+pub first_underflows : first_event (e2 ∷ []) (λ path j n. (if j == 0 then 0 else 206)) 1 ≡ Some (record { kind = Underflow; path = []; trib = 0; frame = 0; slot = 108 })
+unfolding events_below events_in sent arrived set_role
+first_underflows = refl
+
+-- ---- nodes below a node
 
 -- E3 over E2, where the first tributary of the first E2 node brings nothing and all others the least
 unfoldable pub silent_first : Counts

@@ -1,10 +1,10 @@
 -- Chains of nested multiplexers. A chain is the list of the frames of its levels, from the top down. A node is named by its
 -- path: the numbers of the tributaries, from 1, on the way to it from the top. Leaves are numbered from 0, in the order of
 -- their paths.
-use Rattle.std.specs.Prelude.{◌≡◌, ◌≤◌, ℕ, suc, ◌+◌, ◌*◌, false, ◌==◌, List, [], ◌∷◌, ◌++◌}
+use Rattle.std.specs.Prelude.{ℕ, suc, ◌*◌, List, [], ◌∷◌, ◌++◌}
 use Rattle.pdh_shape.specs.Frame.{FrameShape, IsFrame}
 use Rattle.pdh_shape.specs.Tributary.{HasTributaries, ReadsEvenly}
-use Rattle.pdh_line.specs.Tolerance.{allowance}
+use Rattle.pdh_line.specs.Sending.{HasStores}
 
 -- how many leaves are below a node of the first of these levels; below all levels stands a leaf
 abbrev pub width : List FrameShape → ℕ
@@ -28,14 +28,9 @@ AreFrames (s ∷ below) = IsFrame s × HasTributaries s × AreFrames below
 -- each level's nodes have stores, and read their tributaries evenly
 abbrev pub HaveStores : List FrameShape → Type 0
 HaveStores [] = Unit {0}
-HaveStores (s ∷ below) = ((s.copies == 0) ≡ false) × ReadsEvenly s × HaveStores below
-
--- each level's frame has no fewer slots than bits of a tributary may arrive in one frame within the tolerance
-abbrev pub HaveRoom : List FrameShape → Type 0
-HaveRoom [] = Unit {0}
-HaveRoom (s ∷ below) = (suc s.low + allowance ≤ s.len) × HaveRoom below
+HaveStores (s ∷ below) = HasStores s × ReadsEvenly s × HaveStores below
 
 -- the tributaries of each level have stores
 abbrev pub AllStores : List FrameShape → Type 0
 AllStores [] = Unit {0}
-AllStores (s ∷ below) = ((s.copies == 0) ≡ false) × AllStores below
+AllStores (s ∷ below) = HasStores s × AllStores below

@@ -1,10 +1,10 @@
 -- Overflows and underflows of the elastic stores of a chain, in the order in which the chain meets them. The order of the
 -- steps in making a line bit is this project's own.
-use Rattle.std.specs.Prelude.{ℕ, ◌*◌, ◌/◌, ◌%◌, ◌==◌, if◌then◌else◌, List, [], ◌∷◌, ◌++◌, flat_map, Option, slice_get}
+use Rattle.std.specs.Prelude.{◌≡◌, ◌<◌, ℕ, ◌+◌, ◌*◌, ◌/◌, ◌%◌, false, ◌==◌, if◌then◌else◌, List, [], ◌∷◌, ◌++◌, flat_map, Option, slice_get}
 use Rattle.std.specs.List.{range_with_len}
 use Rattle.pdh_shape.specs.Frame.{FrameShape}
-use Rattle.pdh_line.specs.Sending.{lead, arrives_at, came_before}
-use Rattle.pdh_line.specs.Events.{Event, overflow_at, underflow_at}
+use Rattle.pdh_line.specs.Sending.{lead, arrives_at, came_before, taken}
+use Rattle.pdh_line.specs.Events.{Event, underflows, overflow_at, underflow_at}
 use Rattle.pdh_nesting.specs.Chains.{child, top_len}
 use Rattle.pdh_nesting.specs.Sending.{Counts}
 
@@ -29,3 +29,9 @@ events_below chain counts x = flat_map (events_in chain counts []) (range_with_l
 -- the first event of a chain in so many frames of its top, if there is one
 abbrev pub first_event : List FrameShape → Counts → ℕ → Option Event
 first_event chain counts frames = slice_get (events_below chain counts (frames * top_len chain)) 0
+
+-- no store of the node at a path, or of a node below it, underflows in making the first x bits of the node's line
+unfoldable pub NoneEmpty : List FrameShape → Counts → List ℕ → ℕ → Type 0
+NoneEmpty [] counts path x = Unit {0}
+NoneEmpty (s ∷ below) counts path x =
+    (j : ℕ) → j < s.tribs → ((n t : ℕ) → t < s.len → n * s.len + t < x → underflows s j (counts path j) n t ≡ false) × NoneEmpty below counts (child path j) (taken s (counts path j) x)

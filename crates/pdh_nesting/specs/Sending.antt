@@ -1,5 +1,6 @@
 -- What a chain sends, and how far it has come.
-use Rattle.std.specs.Prelude.{ℕ, suc, ◌+◌, ◌*◌, ◌/◌, ◌%◌, ◌<◌, ◌≤◌, Bool, List, [], ◌∷◌}
+use Rattle.std.specs.Prelude.{◌≡◌, ℕ, suc, ◌+◌, ◌*◌, ◌/◌, ◌%◌, ◌<◌, ◌≤◌, Bool, false, List, [], ◌∷◌}
+use Rattle.std.specs.List.{slice_index_or}
 use Rattle.pdh_shape.specs.declared.role.Service.{Service as Say}
 use Rattle.pdh_shape.specs.Frame.{FrameShape, idle}
 use Rattle.pdh_line.specs.Sending.{lead, line_bit, begun, taken, entered}
@@ -36,6 +37,33 @@ entered_below (s ∷ []) counts path x k = entered (counts path k) (begun s x)
 entered_below (s ∷ t ∷ below) counts path x k =
     let j = k / width (t ∷ below) in
     entered_below (t ∷ below) counts (child path j) (taken s (counts path j) x) (k % width (t ∷ below))
+
+-- ---- what a chain carries
+
+-- the bits of the leaves, and what the service bits of the top's frames say
+pub record Content : Type 0 where
+  pub bits : ℕ → ℕ → Bool
+  pub says : ℕ → Say
+
+-- lists of bits as the leaves; a place past a list's end has the bit 0, which no line carries whose lists hold what it takes
+abbrev pub content_of : (ℕ → List Bool) → (ℕ → Say) → Content
+content_of lists says = record { bits = λ leaf i. slice_index_or (lists leaf) i false; says = says }
+
+-- the top's line with this content
+abbrev pub line_with : List FrameShape → Counts → Content → ℕ → Bool
+line_with chain counts content = chain_line chain counts content.bits content.says [] 0
+
+-- how many frames of the top are begun where x bits of its line are made
+abbrev pub top_begun : List FrameShape → ℕ → ℕ
+top_begun [] x = 0
+top_begun (s ∷ below) x = begun s x
+
+-- two contents are the same in all that making the first x bits of the top's line takes
+pub record Agree (chain : List FrameShape) (counts : Counts) (x : ℕ) (a b : Content) : Type 0 where
+  -- the bits that each leaf has given,
+  pub bits : (leaf i : ℕ) → leaf < width chain → i < given_below chain counts [] x leaf → a.bits leaf i ≡ b.bits leaf i
+  -- and the service bits of the frames that are begun
+  pub says : (n : ℕ) → n < top_begun chain x → a.says n ≡ b.says n
 
 -- ---- the tolerance
 

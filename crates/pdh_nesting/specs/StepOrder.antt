@@ -2,12 +2,12 @@
 -- step from a node down to its child a mark, the child's number from 1, and the child's bit, where the mark is 0 where that
 -- bit is one of the lead and else 1; last the mark 1 and, for an overflow, the number of its tributary from 1, or, for an
 -- underflow, the number of the node's tributaries and one more.
-use Rattle.std.specs.Prelude.{ℕ, suc, ◌/◌, ◌%◌, Bool, true, false, IsTrue, nat_lt, ◌==◌, if◌then◌else◌, List, [], ◌∷◌, ◌++◌, map, flat_map}
+use Rattle.std.specs.Prelude.{◌≡◌, ℕ, suc, ◌*◌, ◌/◌, ◌%◌, Bool, true, false, IsTrue, nat_lt, ◌==◌, if◌then◌else◌, List, [], ◌∷◌, ◌++◌, map, flat_map, slice_get, Some}
 use Rattle.std.specs.List.{range_with_len}
 use Rattle.pdh_shape.specs.Frame.{FrameShape}
 use Rattle.pdh_line.specs.Sending.{lead, arrives_at, came_before}
 use Rattle.pdh_line.specs.Events.{Event, overflow_at, underflow_at}
-use Rattle.pdh_nesting.specs.Chains.{child}
+use Rattle.pdh_nesting.specs.Chains.{child, top_len}
 use Rattle.pdh_nesting.specs.Sending.{Counts}
 
 -- Lists are compared number by number. Where one is the beginning of the other, the longer one comes first: a bit is made
@@ -45,6 +45,18 @@ keyed_in (s ∷ below) counts path x =
 unfoldable pub keyed_below : List FrameShape → Counts → ℕ → List Keyed
 keyed_below chain counts x = flat_map (λ bit. below_key (bit ∷ []) (keyed_in chain counts [] bit)) (range_with_len 0 x)
 
+-- all events in so many frames of the top, each with its list
+abbrev pub keyed_events : List FrameShape → Counts → ℕ → List Keyed
+keyed_events chain counts frames = keyed_below chain counts (frames * top_len chain)
+
 -- an event's list comes before another's
 abbrev pub Before : Keyed → Keyed → Type 0
 Before a b = IsTrue (comes_before a.0 b.0)
+
+-- one of these events comes before all others
+pub record IsLeast (events : List Keyed) (least : Keyed) : Type 0 where
+  -- it is one of them,
+  pub place : ℕ
+  pub among : slice_get events place ≡ Some least
+  -- and no event's list comes before its own
+  pub first : (k : ℕ) (other : Keyed) → slice_get events k ≡ Some other → comes_before other.0 least.0 ≡ false

@@ -1,3 +1,5 @@
 //! Chains of nested multiplexers: definitions of the lines that they send, of the events of their stores, of what comes
-//! back of a line and of how late it is, with laws for all chains. They stand in `specs/` and `proofs/`.
+//! back of a line and of how late it is. They stand in `specs/`, and their laws for all chains in `laws`.
 #![tactic(auto)]
+
+pub mod laws;

@@ -5,7 +5,7 @@ use Rattle.std.proofs.lemmas.Bool.{cases_Bool, cases_eq, ne_eqb}
 use Rattle.pdh_edge.specs.Ports.{Outputs, only}
 use Rattle.pdh_rx.specs.Meaning.{Meaning, IsSound, Gains, GainsPart}
 use Rattle.pdh_rx.specs.Node.{EachStands, IsDisjoint, any_leaf, got_by, with_more}
-use Rattle.pdh_rx.specs.NodeLaws.{got_by_same}
+use Rattle.pdh_rx.specs.laws.NodeLaws.{got_by_same}
 
 -- what lies at j after a write at i
 slice_get_set : {C : Type 0} (xs : List C) (i j : ℕ) (y c : C) → slice_get (slice_set xs i y) j ≡ Some c → ((j ≡ i) × (y ≡ c)) ⊎ ((j ≡ i → ⊥) × (slice_get xs j ≡ Some c))

@@ -5,7 +5,7 @@ use Rattle.pdh_edge.specs.Files.{Rose}
 use Rattle.pdh_edge.specs.Ports.{Outputs, PrefixOf, IsPrefix, HasCause, after, nothing}
 use Rattle.pdh_rx.specs.Meaning.{Meaning, Gains, GainsPart}
 use Rattle.pdh_rx.specs.Node.{EachStands, got_by, with_more, Gives, GivesPart}
-use Rattle.pdh_rx.specs.NodeLaws.{AllSound, got_by_same, got_by_grows}
+use Rattle.pdh_rx.specs.laws.NodeLaws.{AllSound, got_by_same, got_by_grows}
 
 pub on_err_from : {T E : Type 0} (P : Type 0) (r : Result T E) → P → OnErr r P
 on_err_from P (Ok x) p = tt

@@ -1,7 +1,8 @@
+pub mod Tails
 pub mod Children
 pub mod Gains
 pub mod SlotBits
 pub mod Ones
 pub mod NodeSteps
 pub mod StepBits
-pub mod NumberedLeaves
+mod FourTails

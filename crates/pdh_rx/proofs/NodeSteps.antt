@@ -18,7 +18,7 @@ use Rattle.pdh_align.specs.declared.step.Step.TheVariants.{Nothing, Rejected, Al
 use Rattle.pdh_align.specs.Aligning.{Held, StandsFor, Grows, Tracks, frames_gained}
 use Rattle.pdh_rx.specs.Meaning.{Meaning, Gains, GainsPart}
 use Rattle.pdh_rx.specs.Node.{EachStands, IsDisjoint, received_lines, node_meaning, with_more, Gives, GivesPart, frames_bits, gap_after, frames_after, step_bits, IsGap, frames_counted, NodeStands}
-use Rattle.pdh_rx.specs.NodeLaws.{got_by_same}
+use Rattle.pdh_rx.specs.laws.NodeLaws.{got_by_same}
 use Rattle.pdh_line.proofs.DeliveredLaws.{count_append, count_frames, count_gap, frames_delivered-le}
 use Rattle.pdh_line.proofs.RightLines.{piece_bits_gap, track-short, received-short}
 use Rattle.pdh_rx.proofs.Gains.{each_same, gains_is, part_is}

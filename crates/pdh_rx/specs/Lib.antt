@@ -1,5 +1,4 @@
 pub mod Meaning
 pub mod Tail
-pub mod Growth
 pub mod Node
-pub mod NodeLaws
+pub mod laws

@@ -1,6 +1,7 @@
 -- What a tree of demultiplexers gives, by the list of received bits.
-use Rattle.std.specs.Prelude.{◌≡◌, ℕ, Bool, false, IsTrue, List, [], ◌++◌, Option}
+use Rattle.std.specs.Prelude.{◌≡◌, ℕ, Bool, false, List, [], ◌++◌, Option}
 use Rattle.pdh_shape.specs.declared.place.Path.{Path}
+use Rattle.pdh_edge.specs.Leaves.{HaveLists}
 use Rattle.pdh_edge.specs.Ports.{Outputs, Puts, PutsPart, IsPrefix}
 
 pub record Meaning : Type 0 where
@@ -18,7 +19,7 @@ pub record IsSound (m : Meaning) : Type 0 where
 
 -- each leaf has a list
 abbrev pub HoldsAll : (ℕ → Bool) → Outputs → Type 0
-HoldsAll leaves outputs = (k : ℕ) → IsTrue (leaves k) → IsTrue (outputs.holds k)
+HoldsAll leaves outputs = HaveLists leaves outputs.holds
 
 -- each leaf had got `was` and now has got `is`, and what came to it was put to its list
 pub record Gains (was is : ℕ → List Bool) (old new : Outputs) : Type 0 where

@@ -1,11 +1,13 @@
 -- A demultiplexer over children: what each of them receives, and what leaves get by that.
-use Rattle.std.specs.Prelude.{◌≡◌, ℕ, suc, ◌+◌, ◌%◌, ◌^◌, ◌-◌, ◌<◌, min, Bool, true, false, ◌||◌, List, [], ◌∷◌, ◌++◌, length, map, take, if◌then◌else◌, slice_get, Some, None, Option, flat_map, replicate, ◌==◌}
+use Rattle.std.specs.Prelude.{◌≡◌, ℕ, suc, ◌+◌, ◌%◌, ◌^◌, ◌-◌, ◌<◌, min, Bool, true, List, [], ◌∷◌, ◌++◌, length, map, if◌then◌else◌, slice_get, Some, None, Option, flat_map, replicate, ◌==◌}
 use Rattle.pdh_shape.specs.declared.place.Path.{Path}
 use Rattle.pdh_shape.specs.declared.role.Role.{Role}
 use Rattle.pdh_shape.specs.declared.role.Role.TheVariants.{Info, Just}
 use Rattle.pdh_shape.specs.Frame.{FrameShape}
 use Rattle.pdh_shape.specs.Tributary.{reads_from, turned, stripped}
+use Rattle.pdh_edge.specs.Leaves.{any_below, NoneShared}
 use Rattle.pdh_edge.specs.Ports.{Outputs}
+use Rattle.pdh_line.specs.Paths.{StandBelow}
 use Rattle.pdh_line.specs.Tracking.{Piece, track, frames_delivered}
 use Rattle.pdh_line.specs.Tracking.Piece.{Gap}
 use Rattle.pdh_line.specs.Receiving.{received}
@@ -20,12 +22,11 @@ EachStands {C} stands children lines = (j : ℕ) (c : C) → slice_get children 
 
 -- no leaf is below two of them
 abbrev pub IsDisjoint : List Meaning → Type 0
-IsDisjoint ms = (i j k : ℕ) (a b : Meaning) → slice_get ms i ≡ Some a → slice_get ms j ≡ Some b → a.leaves k ≡ true → b.leaves k ≡ true → i ≡ j
+IsDisjoint = NoneShared (λ (m : Meaning). m.leaves)
 
 -- whether a leaf is below one of them
 abbrev pub any_leaf : List Meaning → ℕ → Bool
-any_leaf [] k = false
-any_leaf (m ∷ ms) k = m.leaves k || any_leaf ms k
+any_leaf = any_below (λ (m : Meaning). m.leaves)
 
 -- what a leaf has got, where these children have received these lines
 abbrev pub got_by : List Meaning → (ℕ → List Bool) → ℕ → List Bool
@@ -39,13 +40,9 @@ received_lines s line j = received s j line
 abbrev pub node_meaning : FrameShape → Path → List Meaning → Meaning
 node_meaning s path ms = record { path = Some path; leaves = any_leaf ms; got = λ line k. got_by ms (received_lines s line) k }
 
--- the steps from the top to the node at a path
-abbrev pub steps_of : Path → List ℕ
-steps_of path = take path.depth (path.first ∷ path.second ∷ [])
-
 -- each child that is a node stands below the node at this path, by its number from 1
 abbrev pub ArePlaced : Path → List Meaning → Type 0
-ArePlaced path ms = (j : ℕ) (m : Meaning) (below : Path) → slice_get ms j ≡ Some m → m.path ≡ Some below → steps_of below ≡ steps_of path ++ (j + 1) ∷ []
+ArePlaced = StandBelow (λ (m : Meaning). m.path) (λ below. below)
 
 -- ---- calls that give the children bits
 
@@ -88,9 +85,9 @@ frames_bits s frames j = flat_map (stripped s j) frames
 abbrev pub ones_bits : FrameShape → ℕ → List Bool
 ones_bits s j = replicate s.low true
 
--- so many ones for one tributary
-abbrev pub ones_to : ℕ → ℕ → ℕ → List Bool
-ones_to trib ones j = (if j == trib then replicate ones true else [])
+-- a one for each tributary
+abbrev pub one_each : ℕ → List Bool
+one_each j = true ∷ []
 
 -- ---- a step of the alignment machine
 

@@ -3,7 +3,7 @@ ghost use Rattle.pdh_edge.specs.Ports.{HasCause};
 ghost use Rattle.pdh_shape.specs.Tributary.{stripped};
 ghost use Rattle.pdh_align.specs.Aligning.{frame_back, frames_gained};
 ghost use Rattle.pdh_rx.specs.Meaning.{HoldsAll};
-ghost use Rattle.pdh_rx.specs.Node.{EachStands, IsDisjoint, any_leaf, Gives, GivesPart, frames_bits, ones_bits, step_bits, ones_to};
+ghost use Rattle.pdh_rx.specs.Node.{EachStands, IsDisjoint, any_leaf, Gives, GivesPart, frames_bits, ones_bits, step_bits, one_each};
 
 use crate::Rx;
 use crate::giving::push_to;
@@ -85,36 +85,35 @@ fn deliver_all<S: Shape, C: Rx, D: Drain, W: Watch>(
     Ok(())
 }
 
-// Gives one child so many ones.
-fn give_ones_to<C: Rx, D: Drain, W: Watch>(
+// Gives a one to each child in turn.
+fn give_round<S: Shape, C: Rx, D: Drain, W: Watch>(
     children: &mut Vec<C>,
-    trib: u8,
-    ones: u32,
     drain: &mut D,
     watch: &mut W,
 ) -> Result<(), Failed>
-    requires known { trib < length children.old.items }
+    requires tribs { length children.old.items ≡ S.TRIBS }
     requires stands { (lines : ℕ → List Bool) × EachStands C.stands children.old.items lines }
     requires lists { HoldsAll (any_leaf (map C.meaning children.old.items)) (D.outputs drain.old) }
     requires disjoint { IsDisjoint (map C.meaning children.old.items) }
     ensures given { OnOk result (Gives C.stands (map C.meaning children.old.items)
-        (ones_to trib ones)
+        one_each
         children.old.items children.new.items (D.outputs drain.old) (D.outputs drain.new)) }
     ensures part { OnErr result (GivesPart C.stands (map C.meaning children.old.items)
-        (ones_to trib ones)
+        one_each
         children.old.items (D.outputs drain.old) (D.outputs drain.new)) }
     ensures seen { W.saw watch.old [] watch.new }
     ensures cause { HasCause (D.drain_faults drain.old) (D.drain_faults drain.new) result }
     ensures drained { D.drained drain.old drain.new }
     ensures same { map C.meaning children.new.items ≡ map C.meaning children.old.items }
 {
-    for _one in 0..ones {
+    for trib in 0..S::TRIBS {
         push_to(children, trib, true, drain, watch)?;
     }
     Ok(())
 }
 
-// Gives each child as many ones as a frame carries bits of it at least.
+// Gives each child as many ones as a frame carries bits of it at least, in rounds, as the bits of a
+// frame come in turn.
 fn give_ones<S: Shape, C: Rx, D: Drain, W: Watch>(
     children: &mut Vec<C>,
     drain: &mut D,
@@ -135,8 +134,8 @@ fn give_ones<S: Shape, C: Rx, D: Drain, W: Watch>(
     ensures drained { D.drained drain.old drain.new }
     ensures same { map C.meaning children.new.items ≡ map C.meaning children.old.items }
 {
-    for trib in 0..S::TRIBS {
-        give_ones_to(children, trib, S::LOW, drain, watch)?;
+    for _round in 0..S::LOW {
+        give_round::<S, C, D, W>(children, drain, watch)?;
     }
     Ok(())
 }

@@ -12,4 +12,4 @@ mod tests;
 
 pub use node::RxNode;
 pub use rx::Rx;
-pub use tail::{Tail, tails};
+pub use tail::Tail;

@@ -2,7 +2,7 @@ ghost use Rattle.std.specs.Prelude.{◌≡◌, ◌<◌, ℕ, All, Bool, List, []
 ghost use Rattle.pdh_edge.specs.Ports.{HasCause};
 ghost use Rattle.pdh_rx.specs.Meaning.{Meaning, HoldsAll, Gains, GainsPart};
 ghost use Rattle.pdh_rx.specs.Node.{EachStands, IsDisjoint, ArePlaced, node_meaning, NodeStands, gap_after as gap_after_step, frames_after as frames_after_step, frames_counted};
-ghost use Rattle.pdh_rx.specs.NodeLaws.{node_sound};
+ghost use Rattle.pdh_rx.specs.laws.NodeLaws.{node_sound};
 
 use crate::Rx;
 use crate::frames::give;

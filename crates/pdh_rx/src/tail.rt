@@ -1,10 +1,10 @@
-ghost use Rattle.std.specs.Prelude.{◌≡◌, Bool, List, length, map, IfOk};
-ghost use Rattle.pdh_rx.specs.Tail.{tail_meaning, tail_meanings, tail_sound};
+ghost use Rattle.std.specs.Prelude.{◌≡◌, Bool, List};
+ghost use Rattle.pdh_rx.specs.Tail.{tail_meaning};
+ghost use Rattle.pdh_rx.specs.laws.TailLaws.{tail_sound};
 
 use crate::Rx;
 use pdh_edge::{Drain, Failed};
 use pdh_watch::Watch;
-use std::alloc::{AllocError, Global};
 
 /// Puts the bits that it receives to one leaf of a drain.
 #[derive(Drop)]
@@ -20,20 +20,6 @@ impl Tail {
     {
         Tail { leaf }
     }
-}
-
-/// So many leaves, numbered from 0; or the refusal of memory for them.
-pub fn tails(alloc: Global, count: u8) -> Result<Vec<Tail>, AllocError>
-    ensures count { IfOk result (λ tails. length tails.items ≡ count) }
-    ensures meaning { IfOk result (λ tails. map ⟦<Tail as Rx>⟧.meaning tails.items ≡ tail_meanings count) }
-{
-    let mut tails = Vec::with_capacity(alloc, usize::from(count))?;
-    for leaf in 0..count {
-        tails.push(Tail {
-            leaf: u32::from(leaf),
-        })?;
-    }
-    Ok(tails)
 }
 
 impl Rx for Tail {

@@ -1,10 +1,10 @@
-ghost use Rattle.std.specs.Prelude.{◌≡◌, ◌<◌, ℕ, IsTrue, Bool, List, [], IfOk};
+ghost use Rattle.std.specs.Prelude.{◌≡◌, ◌<◌, ℕ, IsTrue, Bool, List, [], map, IfOk};
 ghost use Rattle.pdh_shape.specs.Sets.{e2};
 ghost use Rattle.pdh_rx.specs.Meaning.{HoldsAll};
-ghost use Rattle.pdh_rx.specs.Tail.{tail_meanings};
+ghost use Rattle.pdh_rx.specs.Tail.{four_tails};
 ghost use Rattle.pdh_rx.specs.Node.{node_meaning};
 
-use crate::{Rx, RxNode, Tail, tails};
+use crate::{Rx, RxNode, Tail};
 use pdh_edge::{Drain, Failed, MemPort};
 use pdh_shape::{E2, Path};
 use pdh_watch::Quiet;
@@ -17,13 +17,20 @@ const TOP: Path = Path {
     second: 0,
 };
 
+// The leaves 0 to 3.
+fn tails(alloc: Global) -> Result<Vec<Tail>, AllocError>
+    ensures { IfOk result (λ tails. map ⟦<Tail as Rx>⟧.meaning tails.items ≡ four_tails) }
+{
+    Ok(vec![in alloc; Tail::new(0), Tail::new(1), Tail::new(2), Tail::new(3)]?)
+}
+
 // A demultiplexer of the leaves 0 to 3.
 fn node(alloc: Global) -> Result<RxNode<E2, Tail>, AllocError>
     ensures meaning { IfOk result (λ node. ⟦<RxNode<E2, Tail> as Rx>⟧.meaning node
-        ≡ node_meaning e2 (record { depth = 0; first = 0; second = 0 }) (tail_meanings 4)) }
+        ≡ node_meaning e2 (record { depth = 0; first = 0; second = 0 }) four_tails) }
     ensures stands { IfOk result (λ node. ⟦<RxNode<E2, Tail> as Rx>⟧.stands node []) }
 {
-    RxNode::open(alloc, TOP, tails(alloc, 4)?)
+    RxNode::open(alloc, TOP, tails(alloc)?)
 }
 
 // Adds so many bits of one value.
@@ -94,6 +101,9 @@ fn each_got(port: &MemPort, bits: &[bool]) -> bool
 fn run(alloc: Global, line: &[bool], bits: &[bool]) -> Result<(bool, u64), Fail> {
     let mut node = node(alloc)?;
     let mut port = MemPort::open(alloc, Vec::new(alloc), 4)?;
+    for leaf in 0..4 {
+        port.room(leaf, line.len())?;
+    }
     receive(&mut node, line, &mut port)?;
     Ok((each_got(&port, bits), node.frames()))
 }

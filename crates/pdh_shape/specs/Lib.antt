@@ -1,12 +1,6 @@
 pub mod Frame
 pub mod Tributary
-pub mod Ranges
 pub mod Walk
 pub mod KeptLaws
 pub mod Sets
-pub mod LawsOfTest
-pub mod E2Laws
-pub mod E3Laws
-pub mod E4Laws
-pub mod Worked
-pub mod WorkedSets
+pub mod laws

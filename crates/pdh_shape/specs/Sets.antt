@@ -1,5 +1,5 @@
 -- The frames of four tributaries in sets of equal length: ITU-T G.742, Table 1; G.751 has frames of the same plan.
-use Rattle.std.specs.Prelude.{ℕ, ◌-◌, ◌/◌, ◌%◌, Bool, true, false, nat_lt, nat_le, ◌==◌, ◌&&◌, if◌then◌else◌, List, [], ◌∷◌, length}
+use Rattle.std.specs.Prelude.{◌≡◌, ◌<◌, ◌≤◌, ℕ, ◌-◌, ◌*◌, ◌/◌, ◌%◌, Bool, true, false, nat_lt, nat_le, ◌==◌, ◌&&◌, if◌then◌else◌, List, [], ◌∷◌, length}
 use Rattle.std.specs.List.{slice_index_or}
 use Rattle.pdh_shape.specs.declared.role.Role.{Role}
 use Rattle.pdh_shape.specs.declared.role.Role.TheVariants.{Align, Service, Control, Just, Info}
@@ -9,16 +9,17 @@ use Rattle.pdh_shape.specs.declared.role.Marks.{Marks}
 use Rattle.pdh_shape.specs.declared.role.Service.{Service as Say}
 use Rattle.pdh_shape.specs.declared.role.Duty.{Duty}
 use Rattle.pdh_shape.specs.declared.role.Duty.TheVariants.{Alarm, Other as NoDuty}
+use Rattle.pdh_shape.specs.declared.set_plan.SetPlan.{SetPlan}
 use Rattle.pdh_shape.specs.Frame.{FrameShape}
 
 -- The first set begins with the alignment signal, the alarm and the national bits; each later set with one control
 -- bit of each tributary; in the last set the justifiable slots follow. All other slots carry the tributaries in turn.
-unfoldable pub set_role : List Bool → ℕ → ℕ → ℕ → ℕ → Role
-set_role signal first_info set sets slot =
+unfoldable pub set_role : List Bool → SetPlan → ℕ → Role
+set_role signal plan slot =
     (if nat_lt slot (length signal) then Align (slice_index_or signal slot false)
-    else (if nat_lt slot first_info then Service (if slot == length signal then 0 else 1)
-    else (if nat_le set slot && nat_lt (slot % set) 4 then Control (slot % set) (slot / set - 1)
-    else (if slot / set == sets - 1 && nat_lt (slot % set) 8 then Just (slot % set - 4)
+    else (if nat_lt slot plan.first_info then Service (if slot == length signal then 0 else 1)
+    else (if nat_le plan.set slot && nat_lt (slot % plan.set) 4 then Control (slot % plan.set) (slot / plan.set - 1)
+    else (if slot / plan.set == plan.sets - 1 && nat_lt (slot % plan.set) 8 then Just (slot % plan.set - 4)
     else Info (slot % 4)))))
 
 -- every slot of the signal is a framing slot
@@ -40,55 +41,59 @@ signal_wrong marks = nat_lt 0 marks.framing
 unfoldable pub four_wrong : Marks → Marks → Marks → Marks → Bool
 four_wrong a b c d = signal_wrong a && signal_wrong b && signal_wrong c && signal_wrong d
 
+-- the frame with this alignment signal and these numbers
+abbrev pub in_sets : List Bool → SetPlan → FrameShape
+in_sets signal plan = record {
+  len = plan.len;
+  tribs = 4;
+  copies = plan.copies;
+  low = plan.low;
+  role = set_role signal plan;
+  mark = set_mark (length signal);
+  inverted = λ j. false;
+  duty = set_duty;
+  service = λ number say odd. set_service number say;
+  loses = four_wrong;
+}
+
+-- the numbers of a frame in sets fit together
+pub record IsSetPlan (signal : List Bool) (plan : SetPlan) : Type 0 where
+  -- a frame is its sets, of which it has some,
+  pub whole : plan.len ≡ plan.set * plan.sets
+  pub some : (0 < plan.set) × (0 < plan.sets)
+  -- but not so many that a copy's number is more than a byte
+  pub few : plan.sets ≤ 256
+  -- and nor is that of a slot of the signal
+  pub short : length signal < 256
+
 -- the alignment signal 1111010000
 abbrev pub e2_signal : List Bool
 e2_signal = true ∷ true ∷ true ∷ true ∷ false ∷ true ∷ false ∷ false ∷ false ∷ false ∷ []
 
--- the second-order multiplex of G.742, 8448 kbit/s: four sets of 212 slots
-abbrev pub e2 : FrameShape
-e2 = record {
-  len = 848;
-  tribs = 4;
-  copies = 3;
-  low = 205;
-  role = set_role e2_signal 12 212 4;
-  mark = set_mark 10;
-  inverted = λ j. false;
-  duty = set_duty;
-  service = λ number say odd. set_service number say;
-  loses = four_wrong;
-}
+-- four sets of 212 slots
+abbrev pub e2_plan : SetPlan
+e2_plan = record { len = 848; set = 212; sets = 4; first_info = 12; copies = 3; low = 205 }
 
--- the third-order multiplex of G.751, 34368 kbit/s: four sets of 384 slots, and the same signal
+-- the second-order multiplex of G.742, 8448 kbit/s
+abbrev pub e2 : FrameShape
+e2 = in_sets e2_signal e2_plan
+
+-- four sets of 384 slots
+abbrev pub e3_plan : SetPlan
+e3_plan = record { len = 1536; set = 384; sets = 4; first_info = 12; copies = 3; low = 377 }
+
+-- the third-order multiplex of G.751, 34368 kbit/s, which has the same signal
 abbrev pub e3 : FrameShape
-e3 = record {
-  len = 1536;
-  tribs = 4;
-  copies = 3;
-  low = 377;
-  role = set_role e2_signal 12 384 4;
-  mark = set_mark 10;
-  inverted = λ j. false;
-  duty = set_duty;
-  service = λ number say odd. set_service number say;
-  loses = four_wrong;
-}
+e3 = in_sets e2_signal e3_plan
 
 -- the alignment signal 111110100000
 abbrev pub e4_signal : List Bool
 e4_signal = true ∷ true ∷ true ∷ true ∷ true ∷ false ∷ true ∷ false ∷ false ∷ false ∷ false ∷ false ∷ []
 
--- the fourth-order multiplex of G.751, 139264 kbit/s: six sets of 488 slots
+-- six sets of 488 slots
+abbrev pub e4_plan : SetPlan
+e4_plan = record { len = 2928; set = 488; sets = 6; first_info = 16; copies = 5; low = 722 }
+
+-- the fourth-order multiplex of G.751, 139264 kbit/s
 abbrev pub e4 : FrameShape
-e4 = record {
-  len = 2928;
-  tribs = 4;
-  copies = 5;
-  low = 722;
-  role = set_role e4_signal 16 488 6;
-  mark = set_mark 12;
-  inverted = λ j. false;
-  duty = set_duty;
-  service = λ number say odd. set_service number say;
-  loses = four_wrong;
-}
+e4 = in_sets e4_signal e4_plan

@@ -1,17 +1,17 @@
 //! Frame shapes: what each slot of a frame carries, and when frame alignment is lost.
 #![tactic(auto)]
 
-mod e2;
-mod e3;
-mod e4;
 mod place;
+mod plans;
 mod role;
+mod set_frame;
+mod set_plan;
 mod sets;
 mod shape;
 
-pub use e2::E2;
-pub use e3::E3;
-pub use e4::E4;
 pub use place::{Level, Path, Place};
+pub use plans::{E2Plan, E3Plan, E4Plan};
 pub use role::{Duty, Mark, Marks, Role, Service};
+pub use set_frame::{E2, E3, E4, SetFrame};
+pub use set_plan::{InSets, SetPlan};
 pub use shape::{Shape, majority};

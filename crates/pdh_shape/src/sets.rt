@@ -1,26 +1,24 @@
 // Frames in sets of equal length, as ITU-T G.742 and G.751 have them for four tributaries.
-ghost use Rattle.std.specs.Prelude.{◌≡◌, ◌+◌, ◌*◌, ◌^◌, ◌<◌, ◌≤◌, length};
-ghost use Rattle.pdh_shape.specs.Sets.{set_role as role_in_sets, set_mark as mark_in_sets, set_service as service_in_sets, set_duty as duty_in_sets, four_wrong as are_four_wrong};
+ghost use Rattle.std.specs.Prelude.{◌≡◌, ◌<◌};
+ghost use Rattle.pdh_shape.specs.Sets.{IsSetPlan, set_role as role_in_sets, set_mark as mark_in_sets, set_service as service_in_sets, set_duty as duty_in_sets, four_wrong as are_four_wrong};
 
-use crate::{Duty, Mark, Marks, Role, Service};
+use crate::{Duty, Mark, Marks, Role, Service, SetPlan};
 
-/// What a slot carries in `sets` sets of `set` slots each, of which the first begins with the
-/// alignment signal and the service bits, and its tributary bits at `first_info`.
+/// What a slot carries in a frame with this alignment signal and these numbers.
 #[tactic(auto, unfolding(crate::specs::Sets::set_role))]
-pub fn set_role(signal: &[bool], first_info: u32, set: u32, sets: u32, slot: u32) -> Role
-    requires some { 0 < set }
-    requires sets { (0 < sets) × (sets ≤ 256) }
-    requires within { slot < set * sets }
-    requires short { length signal.now < 2 ^ 32 }
-    ensures { result ≡ role_in_sets signal.now first_info set sets slot }
+pub fn set_role(signal: &[bool], plan: &SetPlan, slot: u32) -> Role
+    requires fits { IsSetPlan signal.now plan.now }
+    requires within { slot < plan.now.len }
+    ensures { result ≡ role_in_sets signal.now plan.now slot }
 {
+    let set = plan.set;
     if (slot as usize) < signal.len() {
         Role::Align(signal[slot as usize])
-    } else if slot < first_info {
+    } else if slot < u32::from(plan.first_info) {
         Role::Service(if slot as usize == signal.len() { 0 } else { 1 })
     } else if set <= slot && slot % set < 4 {
         Role::Control((slot % set) as u8, (slot / set - 1) as u8)
-    } else if slot / set == sets - 1 && slot % set < 8 {
+    } else if slot / set == plan.sets - 1 && slot % set < 8 {
         Role::Just((slot % set).saturating_sub(4) as u8)
     } else {
         Role::Info((slot % 4) as u8)

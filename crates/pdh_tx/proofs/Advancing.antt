@@ -13,7 +13,7 @@ use Rattle.pdh_tx.specs.Meaning.{Meaning, Plan, Supply, Fits, Met}
 use Rattle.pdh_tx.specs.Held.{Gains, Halts, first_some}
 use Rattle.pdh_tx.specs.Node.{IsDisjoint, EachPlaced, AllFit, set_at, Advance, Blocked}
 use Rattle.pdh_tx.proofs.Firsts.{first_after, first_here}
-use Rattle.pdh_tx.specs.Growing.{given_more}
+use Rattle.pdh_tx.specs.laws.Growing.{given_more}
 use Rattle.pdh_tx.proofs.Moving.{set_here, set_other, slice_get_set, moves_none, moves_one, moves_join, moves_to, moves_fit, fit_one, stays_one, stays_join}
 use Rattle.pdh_tx.proofs.TributarySteps.{met_weaker}
 
@@ -38,13 +38,6 @@ upto_other f g i j ne = elim (cases_lt j i) [
     not_here : i ≤ j → (i < j) ⊎ (j ≤ i) → suc i ≤ j
     not_here more (inl h) = omega arith
     not_here more (inr h) = absurd (ne (omega arith))
-
-pub upto_same : (f g : ℕ → ℕ) (i j : ℕ) → f j ≡ g j → upto f g i j ≡ f j
-upto_same f g i j e = go (ltb j i)
-  where
-    go : (b : Bool) → cond b (g j) (f j) ≡ f j
-    go true = sym e
-    go false = refl
 
 upto_most : (f g : ℕ → ℕ) (i j : ℕ) → f j ≤ g j → upto f g i j ≤ g j
 upto_most f g i j h = go (ltb j i)
@@ -76,7 +69,7 @@ module _ {W : Type 0} (placed : W → Plan → ℕ → ℕ → Type 0) (held : W
   pub blocked_join : (ms : List Meaning) (u v : List W) (x y most read : ℕ → ℕ) (steps next : (ℕ → ℕ) → List (Option TxStop)) (stop : TxStop) (a b c : Inputs) (f g h : ℕ) → f ≤ g
       → Advance placed held ms plan u v x y read steps a b → Blocked ms plan y most next stop b c g h → Blocked ms plan x most (λ size. steps size ++ next size) stop a c f h
   blocked_join ms u v x y most read steps next stop a b c f g h less first second = record {
-    stays = stays_join held meaning plan ms u v x y most read a b c first.moves second.stays;
+    stays = stays_join held meaning plan ms u v x y most read stop a b c first.moves second.stays;
     met = met_weaker (AllFit ms plan y b) (AllFit ms plan x a) (λ size. first_some (next size)) (λ size. first_some (steps size ++ next size)) stop g h f less
         (λ size fit. moves_fit held meaning plan ms u v x y read a b size first.moves fit)
         (λ size fit e. first_after (steps size) (next size) (first.free size fit) ∙ e) second.met;
@@ -140,15 +133,15 @@ module _ {W : Type 0} (placed : W → Plan → ℕ → ℕ → Type 0) (held : W
   -- it stopped
   pub blocked_one : (old : List W) (i : ℕ) (w : W) (f g : ℕ → ℕ) (steps : (ℕ → ℕ) → List (Option TxStop)) (first : (ℕ → ℕ) → Option TxStop) (stop : TxStop) (a b : Inputs) (faults now : ℕ) → IsDisjoint (map meaning old) → slice_get old i ≡ Some w
       → ((w : W) (n k : ℕ) → (meaning w).given plan n k ≤ (meaning w).given plan (suc n) k) → ((j : ℕ) → f j ≤ g j)
-      → Halts (meaning w) plan (f i) (g i) a b → Met (Fits (meaning w) plan (f i) a) first stop faults now
+      → Halts (meaning w) plan (f i) (g i) stop a b → Met (Fits (meaning w) plan (f i) a) first stop faults now
       → ((size : ℕ → ℕ) → first_some (steps size) ≡ first size)
       → Blocked (map meaning old) plan (upto f g i) g steps stop a b faults now
   blocked_one old i w f g steps first stop a b faults now dis at grows less halts met same =
       let m : Meaning = meaning w in
       let maker : slice_get (map meaning old) i ≡ Some m = slice_get-map meaning old i ∙ rw at refl in
-      let P : ℕ → Type 0 = λ n. Halts m plan n (g i) a b in
+      let P : ℕ → Type 0 = λ n. Halts m plan n (g i) stop a b in
       record {
-        stays = stays_one held meaning plan (map meaning old) i m (upto f g i) g a b dis maker (λ k leaf. given_more meaning plan old (upto f g i) g k grows (λ j. upto_most f g i j (less j)))
+        stays = stays_one held meaning plan (map meaning old) i m (upto f g i) g stop a b dis maker (λ k leaf. given_more meaning plan old (upto f g i) g k grows (λ j. upto_most f g i j (less j)))
             (subst P (sym (upto_here f g i)) halts);
         met = met_weaker (Fits m plan (f i) a) (AllFit (map meaning old) plan (upto f g i) a) first (λ size. first_some (steps size)) stop faults now faults (omega arith)
             (λ size fit. (let F : ℕ → Type 0 = λ n. Fits m plan n a size in subst F (upto_here f g i) (fit_one held meaning plan (map meaning old) i m (upto f g i) a size dis maker fit)))

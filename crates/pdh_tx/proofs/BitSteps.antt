@@ -1,18 +1,21 @@
 -- The bit of a slot, from its steps.
 use Rattle.std.proofs.Common.{◌≡◌, ℕ, suc, ◌<◌, ◌≤◌, ◌^◌, Bool, true, false, List, ◌++◌, length, map, refl, sym, ap, ◌∙◌, subst, arith, Option, Some, None, append_assoc, Result, Ok, Err, OnOk, IfOk}
+use Rattle.std.specs.List.{range_with_len}
 use Rattle.pdh_edge.specs.Ports.{Inputs}
 use Rattle.pdh_shape.specs.declared.place.Path.{Path}
 use Rattle.pdh_shape.specs.declared.role.Service.{Service}
 use Rattle.pdh_shape.specs.Frame.{FrameShape, IsFrame}
 use Rattle.pdh_line.specs.Sending.{came_before, slot_bit, odd_before}
+use Rattle.pdh_line.specs.Events.{underflows}
 use Rattle.pdh_line.proofs.SendingLaws.{came_before_grows}
 use Rattle.pdh_tx.specs.declared.tx.TxStop.{TxStop}
+use Rattle.pdh_tx.specs.declared.tx.TxStop.TheVariants.{Underflow}
 use Rattle.pdh_tx.specs.declared.tributary.FrameShare.{FrameShare}
-use Rattle.pdh_tx.specs.Meaning.{Meaning, Plan, Supply, is_failed}
+use Rattle.pdh_tx.specs.Meaning.{Meaning, Plan, Supply, is_failed, IsUsedUp}
 use Rattle.pdh_tx.specs.Held.{first_some}
-use Rattle.pdh_tx.specs.Node.{EachPlaced, EachHeld, IsDecided, given_by, Advance, Blocked, MakesBit, below, source_of, beginning, arrivals, reads, steps, taken_to, came_to, read_to}
-use Rattle.pdh_tx.specs.Growing.{given_more}
-use Rattle.pdh_tx.proofs.Firsts.{first_after}
+use Rattle.pdh_tx.specs.Node.{EachPlaced, EachHeld, IsDecided, given_by, Advance, Blocked, MakesBit, below, source_of, beginning, arrivals, reads, steps, place_at, taken_to, came_to, read_to}
+use Rattle.pdh_tx.specs.laws.Growing.{given_more}
+use Rattle.pdh_tx.proofs.Firsts.{first_after, first_of}
 use Rattle.pdh_tx.proofs.Advancing.{advance_join, blocked_join, blocked_more}
 use Rattle.pdh_tx.proofs.FrameStarts.{advance_change, started, ended}
 
@@ -29,6 +32,7 @@ module _ {W : Type 0} (placed : W → Plan → ℕ → ℕ → Type 0) (held : W
       takes = blocked.stays.takes;
       others = blocked.stays.others;
       no_more = λ k h. (let p = blocked.stays.no_more k h in let q = less k in omega arith);
+      used_up = blocked.stays.used_up;
     };
     met = blocked.met;
   }
@@ -74,6 +78,7 @@ module _ {W : Type 0} (placed : W → Plan → ℕ → ℕ → Type 0) (held : W
       takes = advance.moves.takes;
       others = advance.moves.others;
       no_more = λ k h. (let e = advance.moves.exact k h in omega arith);
+      used_up = first_of (λ v. IsUsedUp v c) (λ j. underflows s j (plan.counts path j) n t) (λ j. Underflow (place_at path j n t)) (range_with_len 0 s.tribs) stop (λ j. tt) read;
     };
     met = record {
       rose = λ h. absurd (differ (sym other ∙ h));

@@ -5,7 +5,7 @@ use Rattle.pdh_shape.specs.declared.place.Path.{Path}
 use Rattle.pdh_line.specs.Sending.{taken, read_before}
 use Rattle.pdh_tx.specs.Meaning.{Plan, Meaning, NodeFrame}
 use Rattle.pdh_tx.specs.Node.{node_meaning, taken_to, read_to}
-use Rattle.pdh_tx.specs.Stepping.{frame_is, slot_is, taken_is}
+use Rattle.pdh_tx.specs.laws.Stepping.{frame_is, slot_is, taken_is}
 
 first_path : Path → List NodeFrame → Path
 first_path path [] = path

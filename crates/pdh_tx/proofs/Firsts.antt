@@ -1,9 +1,9 @@
 -- The first of a list of options that is there.
-use Rattle.std.proofs.Common.{◌≡◌, ℕ, zero, suc, ◌+◌, ◌<◌, ◌≤◌, List, [], ◌∷◌, ◌++◌, map, refl, ap, ◌∙◌, arith, None, Some, Option, inl, inr}
+use Rattle.std.proofs.Common.{◌≡◌, ℕ, zero, suc, ◌+◌, ◌<◌, ◌≤◌, Bool, true, false, List, [], ◌∷◌, ◌++◌, map, cond, refl, ap, ◌∙◌, subst, arith, None, Some, Option, inl, inr}
 use Rattle.std.specs.Prelude.{flat_map}
 use Rattle.std.specs.List.{range_with_len}
 use Rattle.std.proofs.lemmas.Bool.{cases_eq}
-use Rattle.pdh_tx.specs.Held.{first_some}
+use Rattle.pdh_tx.specs.Held.{first_some, some_if}
 
 pub first_after : {X : Type 0} (a b : List (Option X)) → first_some a ≡ None → first_some (a ++ b) ≡ first_some b
 first_after [] b h = refl
@@ -41,3 +41,18 @@ map_some f x a (suc n) j l m h e = elim (cases_eq a j) [
       let later : a + 1 ≤ j = omega arith in
       ap (λ o. first_some (o ∷ map f (range_with_len (a + 1) n))) (h a (omega arith) (omega arith)) ∙ map_some f x (a + 1) n j later (omega arith) (λ i l m. h i (omega arith) m) e
 ]
+
+-- the first of values with tests is one of the values
+pub first_of : {X : Type 0} (P : X → Type 0) (test : ℕ → Bool) (f : ℕ → X) (js : List ℕ) (x : X) → ((j : ℕ) → P (f j)) → first_some (map (λ j. some_if (test j) (f j)) js) ≡ Some x → P x
+first_of P test f [] x all h = absurd (none h)
+  where
+    none : None ≡ Some x → ⊥
+    none h = cc
+first_of P test f (j ∷ js) x all h = go (test j) (first_of P test f js x all) h
+  where
+    same : Some (f j) ≡ Some x → f j ≡ x
+    same e = cc
+
+    go : (b : Bool) → (first_some (map (λ i. some_if (test i) (f i)) js) ≡ Some x → P x) → first_some (cond b (Some (f j)) None ∷ map (λ i. some_if (test i) (f i)) js) ≡ Some x → P x
+    go true later e = subst P (same e) (all j)
+    go false later e = later e

@@ -14,8 +14,8 @@ use Rattle.pdh_tx.specs.Held.{first_some, some_if}
 use Rattle.pdh_tx.specs.declared.tributary.Tributary.{Tributary}
 use Rattle.pdh_tx.specs.Tributary.{meaning_in, child_in}
 use Rattle.pdh_tx.specs.Node.{Advance, Blocked, beginning, taken_to, led_to, came_to, read_to, leads}
-use Rattle.pdh_tx.specs.Stepping.{taken_later}
-use Rattle.pdh_tx.specs.Growing.{given_more}
+use Rattle.pdh_tx.specs.laws.Stepping.{taken_later}
+use Rattle.pdh_tx.specs.laws.Growing.{given_more}
 use Rattle.pdh_tx.proofs.Moving.{moves_to, inside, takes_none}
 
 module _ {W : Type 0} (placed : W → Plan → ℕ → ℕ → Type 0) (held : W → Supply → ℕ → ℕ → Type 0) (meaning : W → Meaning) (plan : Plan) where
@@ -97,6 +97,7 @@ module _ {W : Type 0} (placed : W → Plan → ℕ → ℕ → Type 0) (held : W
         takes = takes_none a;
         others = λ k h. refl;
         no_more = λ k h. (let g = given_more meaning plan ws (taken_to s path plan n 0) (came_to s path plan n 0 0) k grows (λ j. taken_start n j) in omega (arith, g));
+        used_up = tt;
       };
       met = record { rose = λ h. absurd (no h); is_first = λ h size fit. steps_none (map meaning ws) size n none };
     }

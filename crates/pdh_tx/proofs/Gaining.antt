@@ -1,5 +1,5 @@
 -- One tributary that takes bits of its child, one after another.
-use Rattle.std.proofs.Common.{◌≡◌, ℕ, suc, ◌<◌, ◌≤◌, [], ◌∷◌, ◌++◌, cond, leb, refl, sym, ap, ◌∙◌, arith, Option, Some, None, length-append, Result, Ok, Err, OnErr, IfErr, OnOk}
+use Rattle.std.proofs.Common.{◌≡◌, ℕ, suc, ◌<◌, ◌≤◌, [], ◌∷◌, ◌++◌, cond, leb, refl, sym, ap, ◌∙◌, arith, Option, Some, None, length-append, Result, Ok, Err, IfErr, OnOk}
 use Rattle.std.proofs.lemmas.Bool.{lt-leb}
 use Rattle.pdh_edge.specs.Ports.{Inputs, nothing}
 use Rattle.pdh_shape.specs.declared.place.Place.{Place}
@@ -7,14 +7,10 @@ use Rattle.pdh_tx.specs.declared.tx.TxStop.{TxStop}
 use Rattle.pdh_tx.specs.declared.tx.TxStop.TheVariants.{Overflow}
 use Rattle.pdh_tx.specs.Meaning.{Meaning, Plan, Supply, Fits, Met}
 use Rattle.pdh_tx.specs.Held.{Gains, Halts, arrival, lead_of, first_some}
-use Rattle.pdh_tx.specs.Growing.{grows_to}
-use Rattle.pdh_tx.proofs.Firsts.{map_none, map_some}
+use Rattle.pdh_tx.specs.laws.Growing.{grows_to}
+use Rattle.pdh_tx.proofs.Firsts.{map_some}
 use Rattle.pdh_tx.proofs.Moving.{takes_join, takes_none, agrees_left, agrees_right}
 use Rattle.pdh_tx.proofs.TributarySteps.{met_weaker}
-
-pub on_err_from : {T E P : Type 0} (r : Result T E) → P → OnErr r P
-on_err_from (Ok x) p = tt
-on_err_from (Err e) p = p
 
 pub if_err_from : {T E : Type 0} (r : Result T E) (P : E → Type 0) (e : E) → r ≡ Err e → P e → IfErr r P
 if_err_from r P e is p = rw is p
@@ -42,20 +38,22 @@ gains_join m plan u v w x y z read a b c first second = record {
 pub gains_fit : (m : Meaning) (plan : Plan) (u v : Supply → ℕ → ℕ → Type 0) (x y read : ℕ) (a b : Inputs) (size : ℕ → ℕ) → Gains m plan u v x y read a b → Fits m plan x a size → Fits m plan y b size
 gains_fit m plan u v x y read a b size gains fit k h = (let s = fit k h in let t = gains.takes.counts k in let e = gains.exact k h in omega arith)
 
-pub halts_join : (m : Meaning) (plan : Plan) (u v : Supply → ℕ → ℕ → Type 0) (x y most read : ℕ) (a b c : Inputs) → Gains m plan u v x y read a b → Halts m plan y most b c → Halts m plan x most a c
-halts_join m plan u v x y most read a b c first second = record {
+pub halts_join : (m : Meaning) (plan : Plan) (u v : Supply → ℕ → ℕ → Type 0) (x y most read : ℕ) (stop : TxStop) (a b c : Inputs) → Gains m plan u v x y read a b → Halts m plan y most stop b c → Halts m plan x most stop a c
+halts_join m plan u v x y most read stop a b c first second = record {
   given = λ k. first.given k ++ second.given k;
   takes = takes_join first.given second.given a b c first.takes second.takes;
   others = λ k h. ap (λ l. l ++ second.given k) (first.others k h) ∙ second.others k h;
   no_more = λ k h. (let p = first.exact k h in let q = second.no_more k h in let l = length-append (first.given k) (second.given k) in omega arith);
+  used_up = second.used_up;
 }
 
-pub halts_more : (m : Meaning) (plan : Plan) (x y z : ℕ) (a b : Inputs) → ((n k : ℕ) → m.given plan n k ≤ m.given plan (suc n) k) → y ≤ z → Halts m plan x y a b → Halts m plan x z a b
-halts_more m plan x y z a b grows h halts = record {
+pub halts_more : (m : Meaning) (plan : Plan) (x y z : ℕ) (stop : TxStop) (a b : Inputs) → ((n k : ℕ) → m.given plan n k ≤ m.given plan (suc n) k) → y ≤ z → Halts m plan x y stop a b → Halts m plan x z stop a b
+halts_more m plan x y z stop a b grows h halts = record {
   given = halts.given;
   takes = halts.takes;
   others = halts.others;
   no_more = λ k l. (let p = halts.no_more k l in let q = grows_to (λ n. m.given plan n k) y z (λ n. grows n k) h in omega arith);
+  used_up = halts.used_up;
 }
 
 -- ---- leads
@@ -70,9 +68,6 @@ no_first (Some x) p h = h
 
 pub arrival_none : (m : Meaning) (plan : Plan) (place : Place) (size : ℕ → ℕ) (made fill : ℕ) → first_some (arrival m plan place size made fill) ≡ None → m.obstacle plan size made ≡ None
 arrival_none m plan place size made fill h = no_first (m.obstacle plan size made) (cond (leb 48 fill) (Some (Overflow place)) None) h
-
-pub lead_free : (m : Meaning) (plan : Plan) (size : ℕ → ℕ) → ((k : ℕ) → k < 24 → m.obstacle plan size k ≡ None) → first_some (lead_of m plan size) ≡ None
-lead_free m plan size h = map_none (m.obstacle plan size) 0 24 (λ k l l'. h k (omega arith))
 
 pub lead_met : (m : Meaning) (plan : Plan) (place : Place) (fits fits' : (ℕ → ℕ) → Type 0) (made fill : ℕ) (stop : TxStop) (f g f' : ℕ) → made < 24 → fill < 48 → f' ≤ f
     → ((size : ℕ → ℕ) → fits' size → fits size) → ((size : ℕ → ℕ) → fits' size → (k : ℕ) → k < made → m.obstacle plan size k ≡ None)
@@ -89,6 +84,6 @@ pub on_ok_three : {T E A B C D : Type 0} (r : Result T E) → OnOk r A → OnOk 
 on_ok_three (Ok x) a b c f = f a b c
 on_ok_three (Err e) a b c f = tt
 
-pub if_err_two : {T E A : Type 0} (r : Result T E) (B D : E → Type 0) → OnErr r A → IfErr r B → ((e : E) → A → B e → D e) → IfErr r D
-if_err_two (Ok x) B D a b f = tt
-if_err_two (Err e) B D a b f = f e a b
+pub if_err_two : {T E : Type 0} (r : Result T E) (A B D : E → Type 0) → IfErr r A → IfErr r B → ((e : E) → A e → B e → D e) → IfErr r D
+if_err_two (Ok x) A B D a b f = tt
+if_err_two (Err e) A B D a b f = f e a b

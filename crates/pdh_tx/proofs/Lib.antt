@@ -13,6 +13,4 @@ mod Parity
 mod NodeSteps
 mod Fills
 mod Opening
-pub mod FirstEvents
-mod LeafLists
 mod Worked

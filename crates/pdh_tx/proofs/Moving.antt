@@ -4,6 +4,7 @@ use Rattle.std.proofs.lemmas.List.{get_or_append_left, get_or-append-add}
 use Rattle.std.proofs.lemmas.Bool.{cases_Bool, ne_eqb}
 use Rattle.std.proofs.lemmas.Option.{slice_get-map}
 use Rattle.pdh_edge.specs.Ports.{Inputs, Takes, before, nothing}
+use Rattle.pdh_tx.specs.declared.tx.TxStop.{TxStop}
 use Rattle.pdh_tx.specs.Meaning.{Meaning, Plan, Supply, Fits, Agrees}
 use Rattle.pdh_tx.specs.Held.{Gains, Halts}
 use Rattle.pdh_tx.specs.Node.{any_leaf, given_by, IsDisjoint, Moves, Stays, AllFit, set_at}
@@ -218,9 +219,9 @@ module _ {W : Type 0} (held : W → Supply → ℕ → ℕ → Type 0) (meaning 
   fit_one ms t m x a size dis at fit k leaf = fit k (leaf_of ms t k m at leaf) ∙ ap (λ n. n + a.left k) (given_at ms plan x t k m dis at leaf)
 
   -- one tributary stopped
-  pub stays_one : (ms : List Meaning) (t : ℕ) (m : Meaning) (made most : ℕ → ℕ) (a b : Inputs) → IsDisjoint ms → slice_get ms t ≡ Some m → ((k : ℕ) → any_leaf ms k ≡ true → given_by ms plan made k ≤ given_by ms plan most k)
-      → Halts m plan (made t) (most t) a b → Stays ms plan made most a b
-  stays_one ms t m made most a b dis at grows halts = record {
+  pub stays_one : (ms : List Meaning) (t : ℕ) (m : Meaning) (made most : ℕ → ℕ) (stop : TxStop) (a b : Inputs) → IsDisjoint ms → slice_get ms t ≡ Some m → ((k : ℕ) → any_leaf ms k ≡ true → given_by ms plan made k ≤ given_by ms plan most k)
+      → Halts m plan (made t) (most t) stop a b → Stays ms plan made most stop a b
+  stays_one ms t m made most stop a b dis at grows halts = record {
     given = halts.given;
     takes = halts.takes;
     others = λ k h. halts.others k (not_leaf ms t k m at h);
@@ -228,12 +229,14 @@ module _ {W : Type 0} (held : W → Supply → ℕ → ℕ → Type 0) (meaning 
       | inl leaf ↦ (let p = halts.no_more k leaf in let q = given_at ms plan made t k m dis at leaf in let r = given_at ms plan most t k m dis at leaf in omega arith)
       | inr other ↦ (let none : length (halts.given k) ≡ 0 = ap length (halts.others k other) in let g = grows k h in omega arith)
     ];
+    used_up = halts.used_up;
   }
 
-  pub stays_join : (ms : List Meaning) (u v : List W) (x y most read : ℕ → ℕ) (a b c : Inputs) → Moves held ms plan u v x y read a b → Stays ms plan y most b c → Stays ms plan x most a c
-  stays_join ms u v x y most read a b c first second = record {
+  pub stays_join : (ms : List Meaning) (u v : List W) (x y most read : ℕ → ℕ) (stop : TxStop) (a b c : Inputs) → Moves held ms plan u v x y read a b → Stays ms plan y most stop b c → Stays ms plan x most stop a c
+  stays_join ms u v x y most read stop a b c first second = record {
     given = λ k. first.given k ++ second.given k;
     takes = takes_join first.given second.given a b c first.takes second.takes;
     others = λ k h. ap (λ l. l ++ second.given k) (first.others k h) ∙ second.others k h;
     no_more = λ k h. (let p = first.exact k h in let q = second.no_more k h in let l = length-append (first.given k) (second.given k) in omega arith);
+    used_up = second.used_up;
   }

@@ -18,7 +18,8 @@ use Rattle.pdh_tx.specs.Meaning.{Meaning, Plan, Supply, Makes, Stops}
 use Rattle.pdh_tx.specs.Held.{first_some}
 use Rattle.pdh_tx.specs.Node.{EachHeld, IsDecided, IsDisjoint, given_by, Blocked, MakesBit, below, source_of, node_meaning, node_obstacle, steps, taken_to, read_to}
 use Rattle.pdh_tx.specs.NodeState.{NodeAt, NodeFor, HasParity, KeepsParity}
-use Rattle.pdh_tx.specs.Stepping.{Follows, frame_is, slot_is, taken_is, following, came_follows, read_follows}
+use Rattle.pdh_tx.specs.laws.Stepping.{frame_is, slot_is, taken_is, following, came_follows, read_follows}
+use Rattle.pdh_tx.specs.Follows.{Follows}
 use Rattle.pdh_tx.proofs.Moving.{inside}
 
 -- ---- what holds of all nodes of a tree
@@ -86,6 +87,7 @@ module _ {W : Type 0} (placed : W → Plan → ℕ → ℕ → Type 0) (held : W
             let p = ap (λ v. given_by ms plan v k) now in
             let q = ap (λ v. given_by ms plan v k) then in
             omega (arith, less, p, q);
+        used_up = blocked.stays.used_up;
         met = record {
           rose = blocked.met.rose;
           is_first = λ h size fit. obstacle_is at.frame at.slot x old.place old.inside ms size ∙ blocked.met.is_first h size (λ k leaf. fit k leaf ∙ ap (λ v. given_by ms plan v k + a.left k) now);

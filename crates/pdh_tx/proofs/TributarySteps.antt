@@ -1,7 +1,7 @@
 -- One arrival at a tributary's store.
-use Rattle.std.proofs.Common.{◌≡◌, ℕ, suc, ◌+◌, ◌<◌, ◌≤◌, Bool, true, false, List, [], ◌∷◌, ◌++◌, length, map, cond, leb, sym, ap, ◌∙◌, subst, arith, None, Some, Option, length-append}
+use Rattle.std.proofs.Common.{◌≡◌, ℕ, suc, ◌+◌, ◌<◌, ◌≤◌, Bool, false, List, [], ◌∷◌, ◌++◌, length, map, cond, leb, sym, ap, ◌∙◌, subst, arith, None, Some, Option, length-append}
 use Rattle.std.specs.List.{range_with_len}
-use Rattle.std.proofs.lemmas.Bool.{lt-leb, le-leb}
+use Rattle.std.proofs.lemmas.Bool.{lt-leb}
 use Rattle.std.proofs.lemmas.List.{map-append}
 use Rattle.pdh_line.proofs.Ranges.{range_push}
 use Rattle.pdh_edge.specs.Files.{Rose}
@@ -10,8 +10,8 @@ use Rattle.pdh_shape.specs.declared.place.Place.{Place}
 use Rattle.pdh_shape.specs.declared.role.Service.{Service}
 use Rattle.pdh_tx.specs.declared.tx.TxStop.{TxStop}
 use Rattle.pdh_tx.specs.declared.tx.TxStop.TheVariants.{Overflow}
-use Rattle.pdh_tx.specs.Meaning.{Supply, Plan, Meaning, Makes, Stops, Met, Fits}
-use Rattle.pdh_tx.specs.Held.{IsPart, Placed, Held, Gains, Halts, arrival, first_some}
+use Rattle.pdh_tx.specs.Meaning.{Supply, Plan, Meaning, Makes, Met, Fits}
+use Rattle.pdh_tx.specs.Held.{IsPart, Placed, Held, Gains, arrival, first_some}
 
 -- the line's next bit joins those held
 pub part_push : (line : ℕ → Bool) (bits : List Bool) (from to : ℕ) (bit : Bool) → IsPart line bits from → from + length bits ≡ to → bit ≡ line to → IsPart line (bits ++ bit ∷ []) from
@@ -20,14 +20,6 @@ part_push line bits from to bit part count is =
     ap (λ b. bits ++ b ∷ []) (is ∙ ap line (sym count)) ∙ ap (λ xs. xs ++ line (from + length bits) ∷ []) part
     ∙ sym (map-append line (range_with_len from (length bits)) ((from + length bits) ∷ []))
     ∙ ap (map line) (sym (range_push from (length bits))) ∙ ap (λ n. map line (range_with_len from n)) (sym long)
-
--- the oldest bit leaves
-pub part_pop : (line : ℕ → Bool) (bits : List Bool) (from : ℕ) (bit : Bool) → IsPart line (bit ∷ bits) from → (bit ≡ line from) × IsPart line bits (suc from)
-part_pop line bits from bit part =
-    let e : from + 1 ≡ suc from = omega arith in
-    let here : bit ≡ line from = cc in
-    let rest : bits ≡ map line (range_with_len (from + 1) (length bits)) = cc in
-    (here, rest ∙ ap (λ n. map line (range_with_len n (length bits))) e)
 
 pub met_weaker : (fits fits' : (ℕ → ℕ) → Type 0) (first first' : (ℕ → ℕ) → Option TxStop) (stop : TxStop) (f g f' : ℕ) → f' ≤ f
     → ((size : ℕ → ℕ) → fits' size → fits size) → ((size : ℕ → ℕ) → fits' size → first size ≡ Some stop → first' size ≡ Some stop) → Met fits first stop f g → Met fits' first' stop f' g
@@ -83,29 +75,3 @@ module _ {C : Type 0} (stands_at : C → Plan → ℕ → Type 0) (stands_for : 
       let room' : cond (leb 48 (length store)) (Some (Overflow place)) None ≡ None = ap (λ b. cond b (Some (Overflow place)) None) (lt-leb _ _ room) in
       ap (λ o. first_some (o ∷ cond (leb 48 (length store)) (Some (Overflow place)) None ∷ [])) (makes.free size fits)
       ∙ ap (λ o. first_some (o ∷ [])) room'
-
-  -- the child made a bit for which there was no room
-  pub full_met : (place : Place) (now : Service) (bit : Bool) (store : List Bool) (made : ℕ) (before after : Inputs) (f g : ℕ) → length store ≡ 48
-      → Makes (meaning old) now (stands_at new plan) (stands_for old) (stands_for new) plan made bit before after
-      → Met (Fits (meaning old) plan made before) (λ size. first_some (arrival (meaning old) plan place size made (length store))) (Overflow place) f g
-  full_met place now bit store made before after f g full makes = record {
-    rose = λ h. absurd (no h);
-    is_first = λ h size fits.
-        let none : cond (leb 48 (length store)) (Some (Overflow place)) None ≡ Some (Overflow place) = ap (λ b. cond b (Some (Overflow place)) None) (le-leb 48 (length store) (omega arith)) in
-        ap (λ o. first_some (o ∷ cond (leb 48 (length store)) (Some (Overflow place)) None ∷ [])) (makes.free size fits) ∙ ap (λ o. first_some (o ∷ [])) none;
-  }
-    where
-      no : false ≡ true → ⊥
-      no h = cc
-
-  pub full_halts : (now : Service) (bit : Bool) (made : ℕ) (before after : Inputs) → Makes (meaning old) now (stands_at new plan) (stands_for old) (stands_for new) plan made bit before after → Halts (meaning old) plan made (suc made) before after
-  full_halts now bit made before after makes = record { given = makes.given; takes = makes.takes; others = makes.others; no_more = λ k h. let e = makes.exact k h in omega arith }
-
-  -- the child stopped
-  pub stop_halts : (made : ℕ) (stop : TxStop) (before after : Inputs) (f g : ℕ) → Stops (meaning old) plan made stop before after f g → Halts (meaning old) plan made (suc made) before after
-  stop_halts made stop before after f g stops = record { given = stops.given; takes = stops.takes; others = stops.others; no_more = stops.no_more }
-
-  pub stop_met : (place : Place) (store : List Bool) (made : ℕ) (stop : TxStop) (before after : Inputs) (f g : ℕ) → Stops (meaning old) plan made stop before after f g
-      → Met (Fits (meaning old) plan made before) (λ size. first_some (arrival (meaning old) plan place size made (length store))) stop f g
-  stop_met place store made stop before after f g stops =
-      met_weaker _ _ _ _ stop f g f (omega arith) (λ size fits. fits) (λ size fits e. ap (λ o. first_some (o ∷ cond (leb 48 (length store)) (Some (Overflow place)) None ∷ [])) e) stops.met

@@ -8,7 +8,7 @@ use Rattle.pdh_shape.specs.Frame.{idle}
 use Rattle.pdh_line.specs.Sending.{lead, store_size}
 use Rattle.pdh_tx.specs.declared.tx.TxStop.{TxStop}
 use Rattle.pdh_tx.specs.declared.tx.TxStop.TheVariants.{Overflow}
-use Rattle.pdh_tx.specs.Meaning.{Plan, Supply, Meaning, Agrees}
+use Rattle.pdh_tx.specs.Meaning.{Plan, Supply, Meaning, Agrees, IsUsedUp}
 
 -- ---- what may stand in the way
 
@@ -62,8 +62,9 @@ pub record Gains (m : Meaning) (plan : Plan) (old new : Supply → ℕ → ℕ �
   pub onward : (supply : Supply) → supply.plan ≡ plan → old supply made read → Agrees m.leaves supply.lists (m.given plan made) given → new supply more read
 
 -- a tributary stopped on its way to so many bits
-pub record Halts (m : Meaning) (plan : Plan) (made most : ℕ) (before after : Inputs) : Type 0 where
+pub record Halts (m : Meaning) (plan : Plan) (made most : ℕ) (stop : TxStop) (before after : Inputs) : Type 0 where
   pub given : ℕ → List Bool
   pub takes : Takes given before after
   pub others : (k : ℕ) → m.leaves k ≡ false → given k ≡ []
   pub no_more : (k : ℕ) → m.leaves k ≡ true → m.given plan made k + length (given k) ≤ m.given plan most k
+  pub used_up : IsUsedUp stop after

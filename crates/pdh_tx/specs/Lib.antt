@@ -1,9 +1,8 @@
+pub mod Follows
 pub mod Meaning
 pub mod Leaf
 pub mod Held
 pub mod Tributary
 pub mod Node
-pub mod Growing
-pub mod Stepping
-pub mod NodeLaws
 pub mod NodeState
+pub mod laws

@@ -1,7 +1,8 @@
 -- What a tree of multiplexers makes, takes and meets.
-use Rattle.std.specs.Prelude.{◌≡◌, ℕ, suc, ◌+◌, ◌<◌, ◌≤◌, Bool, true, false, IsTrue, List, [], length, Option, Some, None}
+use Rattle.std.specs.Prelude.{◌≡◌, ℕ, suc, ◌+◌, ◌<◌, ◌≤◌, Bool, true, false, List, [], length, Option, Some, None}
 use Rattle.std.specs.List.{slice_index_or}
 use Rattle.pdh_edge.specs.Files.{Rose}
+use Rattle.pdh_edge.specs.Leaves.{HaveLists}
 use Rattle.pdh_edge.specs.Ports.{Inputs, Takes}
 use Rattle.pdh_shape.specs.declared.role.Service.{Service}
 use Rattle.pdh_shape.specs.declared.place.Path.{Path}
@@ -10,7 +11,7 @@ use Rattle.pdh_shape.specs.Frame.{idle}
 use Rattle.pdh_clock.specs.Chain.{level_at, steps_of}
 use Rattle.pdh_clock.specs.Contents.{Contents, frame_count, counts}
 use Rattle.pdh_tx.specs.declared.tx.TxStop.{TxStop}
-use Rattle.pdh_tx.specs.declared.tx.TxStop.TheVariants.{Failed}
+use Rattle.pdh_tx.specs.declared.tx.TxStop.TheVariants.{Failed, Ended}
 
 -- ---- what decides a line
 
@@ -67,7 +68,7 @@ pub record Meaning : Type 0 where
 
 -- each leaf has a list
 abbrev pub HoldsAll : (ℕ → Bool) → Inputs → Type 0
-HoldsAll leaves inputs = (k : ℕ) → IsTrue (leaves k) → IsTrue (inputs.holds k)
+HoldsAll leaves inputs = HaveLists leaves inputs.holds
 
 -- the lists hold so many bits in all, where x bits of the line are made
 abbrev pub Fits : Meaning → Plan → ℕ → Inputs → (ℕ → ℕ) → Type 0
@@ -107,12 +108,18 @@ pub record Met (fits : (ℕ → ℕ) → Type 0) (first : (ℕ → ℕ) → Opti
   pub rose : is_failed stop ≡ true → Rose faults now
   pub is_first : is_failed stop ≡ false → (size : ℕ → ℕ) → fits size → first size ≡ Some stop
 
+-- where a leaf ended, its list is used up
+abbrev pub IsUsedUp : TxStop → Inputs → Type 0
+IsUsedUp (Ended leaf) inputs = inputs.left leaf ≡ 0
+IsUsedUp _ inputs = Unit {0}
+
 -- a call stopped after x bits: the leaves gave no more than the next bit takes, and this is what it met
 pub record Stops (m : Meaning) (plan : Plan) (x : ℕ) (stop : TxStop) (before after : Inputs) (faults now : ℕ) : Type 0 where
   pub given : ℕ → List Bool
   pub takes : Takes given before after
   pub others : (k : ℕ) → m.leaves k ≡ false → given k ≡ []
   pub no_more : (k : ℕ) → m.leaves k ≡ true → m.given plan x k + length (given k) ≤ m.given plan (suc x) k
+  pub used_up : IsUsedUp stop after
   pub met : Met (Fits m plan x before) (λ size. m.obstacle plan size x) stop faults now
 
 -- ---- a state that has made no bit

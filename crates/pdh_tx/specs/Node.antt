@@ -1,6 +1,7 @@
 -- A multiplexer with a store for each child.
-use Rattle.std.specs.Prelude.{◌≡◌, ℕ, suc, ◌+◌, ◌/◌, ◌%◌, ◌<◌, ◌≤◌, ◌^◌, Bool, true, false, not, ◌||◌, ◌&&◌, ◌==◌, nat_le, nat_lt, List, [], ◌∷◌, ◌++◌, All, length, map, flat_map, count_by, slice_get, Option, Some, None, if◌then◌else◌}
+use Rattle.std.specs.Prelude.{◌≡◌, ℕ, suc, ◌+◌, ◌/◌, ◌%◌, ◌<◌, ◌≤◌, ◌^◌, Bool, true, false, not, ◌&&◌, ◌==◌, nat_le, nat_lt, List, [], ◌∷◌, ◌++◌, All, length, map, flat_map, count_by, slice_get, Option, Some, None, if◌then◌else◌}
 use Rattle.std.specs.List.{range_with_len, slice_index_or}
+use Rattle.pdh_edge.specs.Leaves.{any_below, NoneShared}
 use Rattle.pdh_edge.specs.Ports.{Inputs, Takes}
 use Rattle.pdh_shape.specs.declared.place.Path.{Path}
 use Rattle.pdh_shape.specs.declared.place.Place.{Place}
@@ -14,7 +15,7 @@ use Rattle.pdh_line.specs.Events.{overflows, underflows}
 use Rattle.pdh_tx.specs.declared.tx.TxStop.{TxStop}
 use Rattle.pdh_tx.specs.declared.tx.TxStop.TheVariants.{Overflow, Underflow, NoFrame}
 use Rattle.pdh_tx.specs.declared.tributary.FrameShare.{FrameShare}
-use Rattle.pdh_tx.specs.Meaning.{Plan, Supply, NodeFrame, IsNodeOf, Meaning, Agrees, Met}
+use Rattle.pdh_tx.specs.Meaning.{Plan, Supply, NodeFrame, IsNodeOf, Meaning, Agrees, Met, IsUsedUp}
 use Rattle.pdh_tx.specs.Held.{first_some, some_if}
 
 -- ---- the line of a node
@@ -34,9 +35,9 @@ source_of path ms supply = record { counts = supply.plan.counts path; inputs = �
 
 -- ---- what a node takes
 
+-- whether a leaf is below one of them
 abbrev pub any_leaf : List Meaning → ℕ → Bool
-any_leaf [] k = false
-any_leaf (m ∷ ms) k = m.leaves k || any_leaf ms k
+any_leaf = any_below (λ (m : Meaning). m.leaves)
 
 -- how many bits of leaf k are taken, where each child j has made so many bits of its line
 abbrev pub given_by : List Meaning → Plan → (ℕ → ℕ) → ℕ → ℕ
@@ -45,7 +46,7 @@ given_by (m ∷ ms) plan made k = (if m.leaves k then m.given plan (made 0) k el
 
 -- no leaf is below two children
 abbrev pub IsDisjoint : List Meaning → Type 0
-IsDisjoint ms = (i j k : ℕ) (a b : Meaning) → slice_get ms i ≡ Some a → slice_get ms j ≡ Some b → a.leaves k ≡ true → b.leaves k ≡ true → i ≡ j
+IsDisjoint = NoneShared (λ (m : Meaning). m.leaves)
 
 -- ---- what may stand in the way of a node's bit
 
@@ -169,11 +170,12 @@ pub record Moves {W : Type 0} (held : W → Supply → ℕ → ℕ → Type 0) (
   pub onward : (supply : Supply) → supply.plan ≡ plan → EachHeld held old supply made read → Agrees (any_leaf ms) supply.lists (given_by ms plan made) given → EachHeld held new supply more read
 
 -- they stopped on the way to so many bits
-pub record Stays (ms : List Meaning) (plan : Plan) (made most : ℕ → ℕ) (before after : Inputs) : Type 0 where
+pub record Stays (ms : List Meaning) (plan : Plan) (made most : ℕ → ℕ) (stop : TxStop) (before after : Inputs) : Type 0 where
   pub given : ℕ → List Bool
   pub takes : Takes given before after
   pub others : (k : ℕ) → any_leaf ms k ≡ false → given k ≡ []
   pub no_more : (k : ℕ) → any_leaf ms k ≡ true → given_by ms plan made k + length (given k) ≤ given_by ms plan most k
+  pub used_up : IsUsedUp stop after
 
 -- the tributaries went through all these steps, in whose way nothing stood
 pub record Advance {W : Type 0} (placed : W → Plan → ℕ → ℕ → Type 0) (held : W → Supply → ℕ → ℕ → Type 0) (ms : List Meaning) (plan : Plan) (old new : List W) (made more read : ℕ → ℕ)
@@ -184,7 +186,7 @@ pub record Advance {W : Type 0} (placed : W → Plan → ℕ → ℕ → Type 0)
 
 -- they stopped at the first of these steps in whose way something stood
 pub record Blocked (ms : List Meaning) (plan : Plan) (made most : ℕ → ℕ) (steps : (ℕ → ℕ) → List (Option TxStop)) (stop : TxStop) (before after : Inputs) (faults now : ℕ) : Type 0 where
-  pub stays : Stays ms plan made most before after
+  pub stays : Stays ms plan made most stop before after
   pub met : Met (AllFit ms plan made before) (λ size. first_some (steps size)) stop faults now
 
 -- ---- the bit of a slot

@@ -1,10 +1,10 @@
 -- The state of a multiplexer with stores.
-use Rattle.std.specs.Prelude.{◌≡◌, ℕ, suc, ◌+◌, ◌*◌, ◌<◌, ◌^◌, Bool, false, ◌==◌, List, [], ◌∷◌, ◌++◌, length, map, slice_get, Some}
+use Rattle.std.specs.Prelude.{◌≡◌, ℕ, suc, ◌+◌, ◌*◌, ◌<◌, ◌^◌, Bool, false, ◌==◌, List, length, map, slice_get}
 use Rattle.pdh_shape.specs.declared.place.Path.{Path}
 use Rattle.pdh_shape.specs.declared.role.Service.{Service}
 use Rattle.pdh_shape.specs.Frame.{FrameShape}
+use Rattle.pdh_line.specs.Paths.{StandBelow}
 use Rattle.pdh_line.specs.Sending.{Source, slot_bit, odd_before}
-use Rattle.pdh_clock.specs.Chain.{steps_of}
 use Rattle.pdh_tx.specs.declared.position.Position.{Position}
 use Rattle.pdh_tx.specs.declared.tributary.FrameShare.{FrameShare}
 use Rattle.pdh_tx.specs.Meaning.{Plan, Supply, NodeFrame, Meaning}
@@ -45,4 +45,4 @@ pub record NodeFor {W : Type 0} (held : W → Supply → ℕ → ℕ → Type 0)
 
 -- each child that is a node stands below the node at this path, by its number from 1
 abbrev pub ArePlaced : Path → List Meaning → Type 0
-ArePlaced path ms = (j : ℕ) (m : Meaning) (node : NodeFrame) → slice_get ms j ≡ Some m → slice_get m.nodes 0 ≡ Some node → steps_of node.path ≡ steps_of path ++ (j + 1) ∷ []
+ArePlaced = StandBelow (λ (m : Meaning). slice_get m.nodes 0) (λ (node : NodeFrame). node.path)

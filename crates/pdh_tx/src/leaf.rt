@@ -1,12 +1,12 @@
-ghost use Rattle.std.specs.Prelude.{◌≡◌, All, IfOk, length, map};
+ghost use Rattle.std.specs.Prelude.{◌≡◌};
 ghost use Rattle.pdh_shape.specs.Frame.{idle};
 ghost use Rattle.pdh_tx.specs.Meaning.{IsFresh};
-ghost use Rattle.pdh_tx.specs.Leaf.{leaf_meaning, leaf_meanings, leaf_grows};
+ghost use Rattle.pdh_tx.specs.Leaf.{leaf_meaning};
+ghost use Rattle.pdh_tx.specs.laws.LeafLaws.{leaf_grows};
 
 use crate::{Tx, TxStop};
 use pdh_clock::Schedule;
 use pdh_edge::{Feed, FeedStop};
-use std::alloc::{AllocError, Global};
 
 /// Passes the bits of one leaf of a feed.
 #[derive(Drop)]
@@ -27,23 +27,6 @@ impl Leaf {
             stopped: false,
         }
     }
-}
-
-/// So many leaves, numbered from 0; or the refusal of memory for them.
-pub fn leaves(alloc: Global, count: u8) -> Result<Vec<Leaf>, AllocError>
-    ensures count { IfOk result (λ leaves. length leaves.items ≡ count) }
-    ensures meaning { IfOk result (λ leaves. map ⟦<Leaf as Tx>⟧.meaning leaves.items ≡ leaf_meanings count) }
-    ensures fresh { IfOk result (λ leaves. All (IsFresh ⟦<Leaf as Tx>⟧.stands_at
-        ⟦<Leaf as Tx>⟧.stands_for ⟦<Leaf as Tx>⟧.says ⟦<Leaf as Tx>⟧.is_stopped) leaves.items) }
-{
-    let mut leaves = Vec::with_capacity(alloc, usize::from(count))?;
-    for leaf in 0..count {
-        leaves.push(Leaf {
-            leaf: u32::from(leaf),
-            stopped: false,
-        })?;
-    }
-    Ok(leaves)
 }
 
 impl Tx for Leaf {

@@ -14,6 +14,6 @@ mod tests;
 mod tributary;
 mod tx;
 
-pub use leaf::{Leaf, leaves};
+pub use leaf::Leaf;
 pub use node::Node;
 pub use tx::{Tx, TxStop};

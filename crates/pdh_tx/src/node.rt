@@ -5,7 +5,7 @@ ghost use Rattle.pdh_tx.specs.Meaning.{Plan, Supply, plan_of, Meaning, IsNodeOf,
 ghost use Rattle.pdh_tx.specs.Tributary.{placed_in, held_in, meaning_in, share_in, child_in};
 ghost use Rattle.pdh_tx.specs.Node.{node_meaning, IsDisjoint};
 ghost use Rattle.pdh_tx.specs.NodeState.{NodeAt, NodeFor, ArePlaced};
-ghost use Rattle.pdh_tx.specs.NodeLaws.{node_grows};
+ghost use Rattle.pdh_tx.specs.laws.NodeLaws.{node_grows};
 
 use crate::bits::make_bit;
 use crate::position::{Position, after};
@@ -61,6 +61,8 @@ pub struct Node<S: Shape, C: Tx> {
     next_say: Service,
     stopped: bool,
     of: PhantomData<S>,
+    // it has a tributary for each of the shape's
+    ghost count: { length tributaries.items ≡ S.TRIBS },
 }
 
 impl<S: Shape, C: Tx> Drop for Node<S, C> {
@@ -137,9 +139,6 @@ impl<S: Shape, C: Tx> Node<S, C> {
             ≡ taken S.shape (plan.counts path trib) x }
         ensures none { (plan : Plan) → ⟦<Node<S, C> as Tx>⟧.stands_at self.now plan 0 → result ≡ 0 }
     {
-        if trib as usize >= self.tributaries.len() {
-            return 0;
-        }
         self.tributaries[trib as usize].store.fill()
     }
 

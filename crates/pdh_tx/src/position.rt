@@ -1,6 +1,6 @@
 ghost use Rattle.std.specs.Prelude.{◌≡◌, ◌<◌, ◌^◌, suc};
 ghost use Rattle.pdh_tx.specs.Node.{is_payload as is_payload_role};
-ghost use Rattle.pdh_tx.specs.Stepping.{Follows};
+ghost use Rattle.pdh_tx.specs.Follows.{Follows};
 ghost use Rattle.pdh_tx.specs.NodeState.{KeepsParity};
 
 use pdh_shape::{Role, Shape};

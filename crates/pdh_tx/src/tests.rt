@@ -1,10 +1,10 @@
-ghost use Rattle.std.specs.Prelude.{◌≡◌, ◌<◌, ℕ, false, IsTrue, All, IfOk};
+ghost use Rattle.std.specs.Prelude.{◌≡◌, ◌<◌, ℕ, false, IsTrue, All, map, IfOk};
 ghost use Rattle.pdh_shape.specs.Sets.{e2};
 ghost use Rattle.pdh_tx.specs.Meaning.{plan_of, IsNodeOf, HoldsAll, IsFresh};
-ghost use Rattle.pdh_tx.specs.Leaf.{leaf_meanings};
+ghost use Rattle.pdh_tx.specs.Leaf.{four_leaves};
 ghost use Rattle.pdh_tx.specs.Node.{node_meaning};
 
-use crate::{Leaf, Node, Tx, TxStop, leaves};
+use crate::{Leaf, Node, Tx, TxStop};
 use pdh_clock::Schedule;
 use pdh_edge::{Feed, MemPort};
 use pdh_shape::{E2, Level, Path};
@@ -31,16 +31,25 @@ const E12: Level = Level {
     trib_ppm: 50,
 };
 
+// The leaves 0 to 3.
+fn leaves(alloc: Global) -> Result<Vec<Leaf>, AllocError>
+    ensures meaning { IfOk result (λ leaves. map ⟦<Leaf as Tx>⟧.meaning leaves.items ≡ four_leaves) }
+    ensures fresh { IfOk result (λ leaves. All (IsFresh ⟦<Leaf as Tx>⟧.stands_at
+        ⟦<Leaf as Tx>⟧.stands_for ⟦<Leaf as Tx>⟧.says ⟦<Leaf as Tx>⟧.is_stopped) leaves.items) }
+{
+    Ok(vec![in alloc; Leaf::new(0), Leaf::new(1), Leaf::new(2), Leaf::new(3)]?)
+}
+
 // A multiplexer of the leaves 0 to 3.
 fn node(alloc: Global) -> Result<Node<E2, Leaf>, AllocError>
     ensures meaning { IfOk result (λ node. ⟦<Node<E2, Leaf> as Tx>⟧.meaning node
         ≡ node_meaning e2 (record { depth = 0; first = 0; second = 0 })
-        (leaf_meanings 4)) }
+        four_leaves) }
     ensures fresh { IfOk result (IsFresh ⟦<Node<E2, Leaf> as Tx>⟧.stands_at
         ⟦<Node<E2, Leaf> as Tx>⟧.stands_for ⟦<Node<E2, Leaf> as Tx>⟧.says
         ⟦<Node<E2, Leaf> as Tx>⟧.is_stopped) }
 {
-    Node::open(alloc, TOP, leaves(alloc, 4)?)
+    Node::open(alloc, TOP, leaves(alloc)?)
 }
 
 // A feed of zeros, as many as a frame with counts of 205 enters.

@@ -49,14 +49,15 @@ impl<C: Tx> Tributary<C> {
             → Gains (C.meaning self.old.child) (plan_of clock.now) (Held C.stands_for C.meaning self.old.child self.old.store) (Held C.stands_for C.meaning self.new.child self.new.store) made (suc made) read (F.inputs feed.old) (F.inputs feed.new)) }
         ensures free { OnOk result ((made read : ℕ) → Placed C.stands_at C.says C.is_stopped self.old.child self.old.store (plan_of clock.now) made read
             → (size : ℕ → ℕ) → Fits (C.meaning self.old.child) (plan_of clock.now) made (F.inputs feed.old) size → first_some (arrival (C.meaning self.old.child) (plan_of clock.now) place size made (length self.old.store)) ≡ None) }
-        ensures halts { OnErr result ((made read : ℕ) → Placed C.stands_at C.says C.is_stopped self.old.child self.old.store (plan_of clock.now) made read
-            → Halts (C.meaning self.old.child) (plan_of clock.now) made (suc made) (F.inputs feed.old) (F.inputs feed.new)) }
+        ensures halts { IfErr result (λ stop. (made read : ℕ) → Placed C.stands_at C.says C.is_stopped self.old.child self.old.store (plan_of clock.now) made read
+            → Halts (C.meaning self.old.child) (plan_of clock.now) made (suc made) stop (F.inputs feed.old) (F.inputs feed.new)) }
         ensures met { IfErr result (λ stop. (made read : ℕ) → Placed C.stands_at C.says C.is_stopped self.old.child self.old.store (plan_of clock.now) made read
             → Met (Fits (C.meaning self.old.child) (plan_of clock.now) made (F.inputs feed.old)) (λ size. first_some (arrival (C.meaning self.old.child) (plan_of clock.now) place size made (length self.old.store))) stop (F.feed_faults feed.old) (F.feed_faults feed.new)) }
         ensures later { F.feed_faults feed.old ≤ F.feed_faults feed.new }
         ensures fed { F.fed feed.old feed.new }
         ensures same { C.meaning self.new.child ≡ C.meaning self.old.child }
         ensures share { self.new.share ≡ self.old.share }
+        ensures kept { OnErr result (self.new.store ≡ self.old.store) }
     {
         let bit = self.child.next(clock, feed)?;
         match self.store.arrive(bit) {
@@ -78,7 +79,7 @@ impl<C: Tx> Tributary<C> {
         ensures placed { OnOk result (Placed C.stands_at C.says C.is_stopped self.new.child self.new.store (plan_of clock.now) lead 0) }
         ensures gains { OnOk result (Gains (C.meaning self.old.child) (plan_of clock.now) (Held C.stands_for C.meaning self.old.child self.old.store) (Held C.stands_for C.meaning self.new.child self.new.store) 0 lead 0 (F.inputs feed.old) (F.inputs feed.new)) }
         ensures free { OnOk result ((size : ℕ → ℕ) → Fits (C.meaning self.old.child) (plan_of clock.now) 0 (F.inputs feed.old) size → first_some (lead_of (C.meaning self.old.child) (plan_of clock.now) size) ≡ None) }
-        ensures halts { OnErr result (Halts (C.meaning self.old.child) (plan_of clock.now) 0 lead (F.inputs feed.old) (F.inputs feed.new)) }
+        ensures halts { IfErr result (λ stop. Halts (C.meaning self.old.child) (plan_of clock.now) 0 lead stop (F.inputs feed.old) (F.inputs feed.new)) }
         ensures met { IfErr result (λ stop. Met (Fits (C.meaning self.old.child) (plan_of clock.now) 0 (F.inputs feed.old)) (λ size. first_some (lead_of (C.meaning self.old.child) (plan_of clock.now) size)) stop (F.feed_faults feed.old) (F.feed_faults feed.new)) }
         ensures later { F.feed_faults feed.old ≤ F.feed_faults feed.new }
         ensures fed { F.fed feed.old feed.new }

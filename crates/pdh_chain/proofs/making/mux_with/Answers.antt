@@ -8,35 +8,35 @@ use Rattle.pdh_chain.proofs.Muxed.{leaves_held, nodes_held, sent, stopped, faile
 use Rattle.pdh_chain.proofs.making.mux_with.Goals as goal
 
 pub returns-in-Err-clause-err : goal.returns-in-Err-clause-err
-returns-in-Err-clause-err g c = (c.in-Err.ensures.cause.failed, nothing_put (g.S.Shape.shape ∷ g.C.Sender.shapes) _ _ _ _ _ _ c.start.ensures.inputs c.start.ensures.outputs)
+returns-in-Err-clause-err g c = (c.in-Err.ensures.cause.failed, nothing_put (g.S.Shape.shape ∷ g.C.ChainTx.shapes) _ _ _ _ _ _ c.start.ensures.inputs c.start.ensures.outputs)
 
 pub send_frames-requires-clause-lists : goal.send_frames-requires-clause-lists
 send_frames-requires-clause-lists g c =
-    leaves_held (g.S.Shape.shape ∷ g.C.Sender.shapes) _ (g.P.Feed.inputs c.start.new.self) c.in_ok-node.ensures.meaning
+    leaves_held (g.S.Shape.shape ∷ g.C.ChainTx.shapes) _ (g.P.Feed.inputs c.start.new.self) c.in_ok-node.ensures.meaning
     (λ k known. subst (λ (i : Inputs). IsTrue (i.holds k)) (sym c.in_default.ensures.inputs) (c.requires.leaves k known))
 
 pub send_frames-requires-clause-nodes : goal.send_frames-requires-clause-nodes
 send_frames-requires-clause-nodes g c =
-    let few : 0 + suc (length g.C.Sender.shapes) ≤ 3 = omega (arith, c.requires.depth) in
-    nodes_held (g.S.Shape.shape ∷ g.C.Sender.shapes) c.args.clock.now.levels _ c.in_ok-node.ensures.meaning (refl, refl, few) c.requires.levels
+    let few : 0 + suc (length g.C.ChainTx.shapes) ≤ 3 = omega (arith, c.requires.depth) in
+    nodes_held (g.S.Shape.shape ∷ g.C.ChainTx.shapes) c.args.clock.now.levels _ c.in_ok-node.ensures.meaning (refl, refl, few) c.requires.levels
 
 pub send_frames-requires-clause-stands : goal.send_frames-requires-clause-stands
 send_frames-requires-clause-stands g c = c.in_ok-node.ensures.fresh.placed (plan_of c.args.clock.now)
 
 pub returns-in-Ok-clause-ok : goal.returns-in-Ok-clause-ok
 returns-in-Ok-clause-ok g c =
-    let shapes = g.S.Shape.shape ∷ g.C.Sender.shapes in
-    let are : AreFrames (g.S.Shape.shape ∷ g.C.Sender.shapes) = (g.met.S.Shape.is_frame, g.met.S.Shape.has_tributaries, g.met.C.Sender.are_frames) in
-    let few : 0 + suc (length g.C.Sender.shapes) ≤ 3 = omega (arith, c.requires.depth) in
+    let shapes = g.S.Shape.shape ∷ g.C.ChainTx.shapes in
+    let are : AreFrames (g.S.Shape.shape ∷ g.C.ChainTx.shapes) = (g.met.S.Shape.is_frame, g.met.S.Shape.has_tributaries, g.met.C.ChainTx.are_frames) in
+    let few : 0 + suc (length g.C.ChainTx.shapes) ≤ 3 = omega (arith, c.requires.depth) in
     let whole = g.met.S.Shape.len_is ∙ sym c.LEN-2.ensures in
     rw (sym c.in_default.ensures.inputs, sym c.in_default.ensures.outputs)
     (sent shapes (counts c.args.clock.now.rows) (frame_count c.args.clock.now.rows) are (refl, refl, few) _ c.LEN-2.result c.in_ok-node.ensures.meaning whole _ _ _ c.args.frames _ _ _ _ c.in_ok-node.ensures.fresh.held c.in-Ok.ensures.sent)
 
 pub returns-in-Err-Sender-clause-err : goal.returns-in-Err-Sender-clause-err
 returns-in-Err-Sender-clause-err g c =
-    let shapes = g.S.Shape.shape ∷ g.C.Sender.shapes in
-    let are : AreFrames (g.S.Shape.shape ∷ g.C.Sender.shapes) = (g.met.S.Shape.is_frame, g.met.S.Shape.has_tributaries, g.met.C.Sender.are_frames) in
-    let few : 0 + suc (length g.C.Sender.shapes) ≤ 3 = omega (arith, c.requires.depth) in
+    let shapes = g.S.Shape.shape ∷ g.C.ChainTx.shapes in
+    let are : AreFrames (g.S.Shape.shape ∷ g.C.ChainTx.shapes) = (g.met.S.Shape.is_frame, g.met.S.Shape.has_tributaries, g.met.C.ChainTx.are_frames) in
+    let few : 0 + suc (length g.C.ChainTx.shapes) ≤ 3 = omega (arith, c.requires.depth) in
     let whole = g.met.S.Shape.len_is ∙ sym c.LEN-2.ensures in
     let since = g.met.P.Port.kept_counts c.args.port.now c.start.new.self c.start.ensures.kept in
     let stops = rw c.in-Err-Sender.field-0-is at c.in-Err-Sender.ensures.stops in
@@ -47,9 +47,9 @@ returns-in-Err-Sender-clause-err g c =
 
 pub returns-clause-err : goal.returns-clause-err
 returns-clause-err g c =
-    let shapes = g.S.Shape.shape ∷ g.C.Sender.shapes in
-    let are : AreFrames (g.S.Shape.shape ∷ g.C.Sender.shapes) = (g.met.S.Shape.is_frame, g.met.S.Shape.has_tributaries, g.met.C.Sender.are_frames) in
-    let few : 0 + suc (length g.C.Sender.shapes) ≤ 3 = omega (arith, c.requires.depth) in
+    let shapes = g.S.Shape.shape ∷ g.C.ChainTx.shapes in
+    let are : AreFrames (g.S.Shape.shape ∷ g.C.ChainTx.shapes) = (g.met.S.Shape.is_frame, g.met.S.Shape.has_tributaries, g.met.C.ChainTx.are_frames) in
+    let few : 0 + suc (length g.C.ChainTx.shapes) ≤ 3 = omega (arith, c.requires.depth) in
     let whole = g.met.S.Shape.len_is ∙ sym c.LEN-2.ensures in
     let since = g.met.P.Port.kept_counts c.args.port.now c.start.new.self c.start.ensures.kept in
     let fails = rw c.in-Err-WriteFailed.field-0-is at c.in-Err-WriteFailed.ensures.fails in

@@ -8,12 +8,12 @@ use Rattle.pdh_chain.proofs.receiving.demux_with.Goals as goal
 pub returns-in_err-start-clause-err : goal.returns-in_err-start-clause-err
 returns-in_err-start-clause-err g c =
     let p = err_from_is_err_and c.from_residual-in_err-start.result c.from_residual-in_err-start.ensures.1 in
-    rw (p.1, p.2) (c.in_err-start.ensures.cause.failed, nothing_received (g.S.Shape.shape ∷ g.C.Receiver.shapes) c.args.bits _ _ _ _ c.in_err-start.ensures.inputs c.in_err-start.ensures.outputs)
+    rw (p.1, p.2) (c.in_err-start.ensures.cause.failed, nothing_received (g.S.Shape.shape ∷ g.C.ChainRx.shapes) c.args.bits _ _ _ _ c.in_err-start.ensures.inputs c.in_err-start.ensures.outputs)
 
 pub receive-requires-clause-lists : goal.receive-requires-clause-lists
 receive-requires-clause-lists g c k is =
     let s = g.S.Shape.shape in
-    let shapes = s ∷ g.C.Receiver.shapes in
+    let shapes = s ∷ g.C.ChainRx.shapes in
     let same = c.in_ok-node.ensures.meaning in
     ap (λ (o : Outputs). o.holds k) c.in_ok-start.ensures.outputs ∙ c.requires.leaves k (leaf_held shapes k (sym (ap (λ m. m.leaves k) same) ∙ is))
 
@@ -21,11 +21,11 @@ pub returns-in_err-receive-clause-err : goal.returns-in_err-receive-clause-err
 returns-in_err-receive-clause-err g c =
     let p = err_from_is_err_and c.from_residual-in_err-receive.result c.from_residual-in_err-receive.ensures.1 in
     let s = g.S.Shape.shape in
-    let shapes = s ∷ g.C.Receiver.shapes in
+    let shapes = s ∷ g.C.ChainRx.shapes in
     let same = c.in_ok-node.ensures.meaning in
     let since = g.met.P.Port.kept_counts c.args.port.now c.start.new.self c.start.ensures.kept in
     rw (p.1, p.2, sym c.in_ok-start.ensures.inputs, sym c.in_ok-start.ensures.outputs)
-    (stops shapes _ c.args.bits _ _ _ _ _ _ _ _ _ _ c.in_err-receive.field-0.0 same (g.met.S.Shape.is_frame, g.met.S.Shape.has_tributaries, g.met.C.Receiver.are_frames) since.0 since.1 c.in_err-receive.ensures.stops)
+    (stops shapes _ c.args.bits _ _ _ _ _ _ _ _ _ _ c.in_err-receive.field-0.0 same (g.met.S.Shape.is_frame, g.met.S.Shape.has_tributaries, g.met.C.ChainRx.are_frames) since.0 since.1 c.in_err-receive.ensures.stops)
 
 pub returns-clause-kept : goal.returns-clause-kept
 returns-clause-kept g c = g.met.P.Port.kept_join c.args.port.now c.start.new.self c.receive.new.port c.start.ensures.kept c.receive.ensures.kept
@@ -36,8 +36,8 @@ returns-clause-ready g c = g.met.P.Port.kept_ready c.start.new.self c.receive.ne
 pub returns-clause-ok : goal.returns-clause-ok
 returns-clause-ok g c =
     let s = g.S.Shape.shape in
-    let shapes = s ∷ g.C.Receiver.shapes in
+    let shapes = s ∷ g.C.ChainRx.shapes in
     let same = c.in_ok-node.ensures.meaning in
     rw (sym c.in_ok-start.ensures.inputs, sym c.in_ok-start.ensures.outputs)
-    (demuxes shapes _ _ c.args.bits c.frames.result _ _ _ _ same (g.met.S.Shape.is_frame, g.met.S.Shape.has_tributaries, g.met.C.Receiver.are_frames)
+    (demuxes shapes _ _ c.args.bits c.frames.result _ _ _ _ same (g.met.S.Shape.is_frame, g.met.S.Shape.has_tributaries, g.met.C.ChainRx.are_frames)
     (λ line count stood. c.frames.ensures line stood ∙ frames_exact s line g.met.S.Shape.is_frame (omega (arith, count, c.requires.few))) c.in_ok-receive.ensures.received)

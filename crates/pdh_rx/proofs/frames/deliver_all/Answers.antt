@@ -2,7 +2,7 @@ use Rattle.std.proofs.Common.{◌≡◌, ◌<◌, ◌-◌, suc, refl, ◌∙◌,
 use Rattle.pdh_shape.specs.Tributary.{stripped}
 use Rattle.pdh_align.specs.Aligning.{frame_back}
 use Rattle.pdh_rx.specs.Node.{frames_bits, with_more}
-use Rattle.pdh_rx.specs.NodeLaws.{all_sound}
+use Rattle.pdh_rx.specs.laws.NodeLaws.{all_sound}
 use Rattle.pdh_rx.proofs.Gains.{on_err_from, cause_since, gives_nothing, gives_join, gives_part, gives_at, part_at}
 use Rattle.pdh_rx.proofs.SlotBits.{frames_push, frames_begin}
 use Rattle.pdh_rx.proofs.frames.deliver_all.Goals as goal

@@ -109,9 +109,9 @@ returns-clause-err g c =
     let step : suc (f i) ≡ h i = came_arrives s (counts i) n t g.met.S.Shape.is_frame share.fits is in
     let P : ℕ → Type 0 = λ v. placed w plan v (read_to s c.args.path plan n t i) in
     let was : placed w plan (f i) (read_to s c.args.path plan n t i) = subst P (upto_here f h i) (c.requires.placed i w at) in
-    let R : ℕ → Type 0 = λ v. Halts (meaning_in g.C.Tx.meaning w) plan (f i) v (g.F.Feed.inputs c.args.feed.now) (g.F.Feed.inputs c.arrive.new.feed) in
-    if_err_two c.arrive.result _ _ c.arrive.ensures.halts c.arrive.ensures.met
+    if_err_two c.arrive.result _ _ _ c.arrive.ensures.halts c.arrive.ensures.met
     (λ stop halts met.
+    let R : ℕ → Type 0 = λ v. Halts (meaning_in g.C.Tx.meaning w) plan (f i) v stop (g.F.Feed.inputs c.args.feed.now) (g.F.Feed.inputs c.arrive.new.feed) in
     blocked_one placed held (meaning_in g.C.Tx.meaning) plan ws i w f h _ _ stop _ _ _ _ c.requires.disjoint at (λ v n k. g.met.C.Tx.grows v.child plan n k) (λ j. came_before_grows s (counts j) n t g.met.S.Shape.is_frame)
     (subst R step (halts (f i) _ was)) (met (f i) _ was)
     (λ size. arrival_same s c.args.path plan (map (meaning_in g.C.Tx.meaning) ws) size n t i (length w.store) (g.C.Tx.meaning w.child) is

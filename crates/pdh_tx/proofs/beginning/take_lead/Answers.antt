@@ -56,7 +56,7 @@ returns-clause-err g c =
     let at : slice_get ws i ≡ Some w = slice_get_read _ _ i _ refl c.requires.trib c.index_mut.ensures.value in
     let placed : _ → Plan → ℕ → ℕ → Type 0 = placed_in g.C.Tx.stands_at g.C.Tx.says g.C.Tx.is_stopped in
     let held : _ → _ → ℕ → ℕ → Type 0 = held_in g.C.Tx.stands_for g.C.Tx.meaning in
-    if_err_two c.lead.result _ _ c.lead.ensures.halts c.lead.ensures.met
+    if_err_two c.lead.result _ _ _ c.lead.ensures.halts c.lead.ensures.met
     (λ stop halts met.
     blocked_one placed held (meaning_in g.C.Tx.meaning) plan ws i w (λ j. 0) (λ j. lead) _ _ stop _ _ _ _ c.requires.disjoint at (λ v n k. g.met.C.Tx.grows v.child plan n k) (λ j. omega arith)
     halts met

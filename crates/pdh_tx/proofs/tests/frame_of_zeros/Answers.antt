@@ -1,11 +1,11 @@
-use Rattle.std.proofs.Common.{◌≡◌, true, false, ap, sym, ◌∙◌, subst, refl}
+use Rattle.std.proofs.Common.{ap, sym, ◌∙◌, subst, refl}
 use Rattle.std.specs.Prelude.{All}
-use Rattle.pdh_tx.specs.Meaning.{plan_of, IsNodeOf}
-use Rattle.pdh_tx.proofs.Worked.{four_leaves, one_node}
+use Rattle.pdh_tx.specs.Meaning.{IsNodeOf}
+use Rattle.pdh_tx.proofs.Worked.{below_four, one_node}
 use Rattle.pdh_tx.proofs.tests.frame_of_zeros.Goals as goal
 
 pub make_bits-requires-clause-lists : goal.make_bits-requires-clause-lists
-make_bits-requires-clause-lists g c k leaf = c.in_ok-feed.ensures k (four_leaves k (ap (λ m. m.leaves k) (sym c.in_ok-node.ensures.meaning) ∙ leaf))
+make_bits-requires-clause-lists g c k leaf = c.in_ok-feed.ensures k (below_four k (ap (λ m. m.leaves k) (sym c.in_ok-node.ensures.meaning) ∙ leaf))
 
 pub make_bits-requires-clause-nodes : goal.make_bits-requires-clause-nodes
 make_bits-requires-clause-nodes g c = subst (λ m. All (IsNodeOf c.in_ok-clock.clock.levels) m.nodes) (sym c.in_ok-node.ensures.meaning) (one_node c.in_ok-clock.clock.levels _ c.in_ok-clock.ensures.levels refl refl refl refl)

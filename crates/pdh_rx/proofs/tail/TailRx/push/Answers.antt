@@ -1,6 +1,6 @@
 use Rattle.std.proofs.lemmas.Result.{on_ok_weaker, on_err_weaker}
 use Rattle.pdh_edge.specs.Ports.{only}
-use Rattle.pdh_rx.specs.Tail.{tail_only}
+use Rattle.pdh_rx.proofs.Tails.{tail_only}
 use Rattle.pdh_rx.proofs.tail.TailRx.push.Goals as goal
 
 pub returns-clause-put : goal.returns-clause-put

@@ -2,7 +2,7 @@ use Rattle.std.proofs.Common.{rules, ◌≡◌, ◌<◌, ℕ, suc, ◌+◌, leng
 use Rattle.std.proofs.lemmas.Bool.{cases_lt}
 use Rattle.pdh_tx.specs.Meaning.{plan_of, Meaning, Fits, Met}
 use Rattle.pdh_tx.specs.Held.{Placed, Held, Gains, Halts, first_some, arrival}
-use Rattle.pdh_tx.proofs.Gaining.{gains_none, gains_join, gains_fit, halts_join, halts_more, arrival_none, lead_met, on_err_from, if_err_from}
+use Rattle.pdh_tx.proofs.Gaining.{gains_none, gains_join, gains_fit, halts_join, halts_more, arrival_none, lead_met, if_err_from}
 use Rattle.pdh_tx.proofs.tributary.Tributary.lead.Goals as goal
 
 pub loop-taken-init : goal.loop-taken-init
@@ -22,10 +22,11 @@ returns-in_err-arrive-clause-halts g c =
     let i : ℕ = c.loop-taken._taken in
     let plan = plan_of c.args.clock.now in
     let m : Meaning = g.C.Tx.meaning c.args.self.now.child in
-    let P : Meaning → Type 0 = λ v. Halts v plan i (suc i) (g.F.Feed.inputs c.loop-taken.feed) (g.F.Feed.inputs c.arrive.new.feed) in
-    on_err_from c.from_residual.result
-    (halts_more m plan 0 (suc i) 24 _ _ (λ n k. g.met.C.Tx.grows c.args.self.now.child plan n k) (omega arith)
-    (halts_join m plan _ _ 0 i (suc i) 0 _ _ _ inv.gains (subst P inv.same (c.in_err-arrive.ensures.halts i 0 inv.placed))))
+    let P : Meaning → Type 0 = λ v. Halts v plan i (suc i) c.in_err-arrive.field-0.0 (g.F.Feed.inputs c.loop-taken.feed) (g.F.Feed.inputs c.arrive.new.feed) in
+    let e : c.from_residual.result ≡ Err c.in_err-arrive.field-0.0 = search rules in
+    if_err_from c.from_residual.result _ c.in_err-arrive.field-0.0 e
+    (halts_more m plan 0 (suc i) 24 _ _ _ (λ n k. g.met.C.Tx.grows c.args.self.now.child plan n k) (omega arith)
+    (halts_join m plan _ _ 0 i (suc i) 0 _ _ _ _ inv.gains (subst P inv.same (c.in_err-arrive.ensures.halts i 0 inv.placed))))
 
 pub returns-in_err-arrive-clause-met : goal.returns-in_err-arrive-clause-met
 returns-in_err-arrive-clause-met g c =

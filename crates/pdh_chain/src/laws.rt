@@ -1,0 +1,40 @@
+//! Laws of whole chains. Each function does nothing: what it ensures is the law.
+ghost use Rattle.std.specs.Prelude.{◌≤◌, ◌<◌, ◌+◌, ◌*◌, ◌/◌, ℕ, Bool, List, length};
+ghost use Rattle.pdh_edge.specs.Ports.{Inputs, Outputs};
+ghost use Rattle.pdh_edge.specs.MemLists.{bits_held};
+ghost use Rattle.pdh_shape.specs.Frame.{FrameShape};
+ghost use Rattle.pdh_nesting.specs.Chains.{width, top_len, AreFrames};
+ghost use Rattle.pdh_nesting.specs.Sending.{Counts};
+ghost use Rattle.pdh_nesting.specs.Receiving.{far};
+ghost use Rattle.pdh_chain.specs.Muxes.{obstacle_at, IsNoEvent, IsTolerated, PutsPrefix};
+ghost use Rattle.pdh_chain.specs.Demuxes.{DemuxesPart};
+
+/// Within the tolerance no bit of a chain's line meets an event of a store, whatever the leaves' lists
+/// hold and however many frames are scheduled.
+pub fn no_event_within_tolerance()
+    ensures { (shapes : List FrameShape) (counts : Counts) (bits : ℕ) → IsTolerated shapes counts bits
+        → (scheduled : List ℕ → ℕ) (size : ℕ → ℕ) (x : ℕ) → x < bits
+        → IsNoEvent (obstacle_at shapes counts scheduled size x) }
+{}
+
+/// A leaf receives no more bits of a line than its share of them.
+pub fn leaf_receives_no_more_than_its_share()
+    ensures { (shapes : List FrameShape) (line : List Bool) (leaf : ℕ) → AreFrames shapes
+        → leaf < width shapes → length (far shapes line leaf) * width shapes ≤ length line }
+{}
+
+/// Where `mux` couldn't put a bit, no list took more bits than its frames have.
+pub fn mux_puts_no_more_than_its_frames()
+    ensures { (shapes : List FrameShape) (counts : Counts) (frames : ℕ)
+        (inputs inputs_now : Inputs) (outputs outputs_now : Outputs)
+        → PutsPrefix shapes counts frames inputs inputs_now outputs outputs_now
+        → (k : ℕ) → bits_held outputs_now k ≤ bits_held outputs k + frames * top_len shapes }
+{}
+
+/// Where `demux` couldn't put a bit, no list took more bits than a leaf's share of the line.
+pub fn demux_puts_no_more_than_the_shares()
+    ensures { (shapes : List FrameShape) (bits : ℕ)
+        (inputs inputs_now : Inputs) (outputs outputs_now : Outputs) → AreFrames shapes
+        → DemuxesPart shapes bits inputs inputs_now outputs outputs_now
+        → (k : ℕ) → bits_held outputs_now k ≤ bits_held outputs k + bits / width shapes }
+{}

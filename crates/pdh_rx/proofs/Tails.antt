@@ -1,0 +1,12 @@
+-- What one more bit gives a leaf.
+use Rattle.std.specs.Prelude.{◌≡◌, ℕ, Bool, true, false, List, [], ◌∷◌, ◌++◌, ◌==◌, cond, refl}
+use Rattle.pdh_edge.specs.Ports.{only}
+use Rattle.pdh_rx.specs.Tail.{tail_meaning}
+
+-- with one more bit the leaf has got one more
+pub tail_only : (leaf : ℕ) (line : List Bool) (bit : Bool) (k : ℕ) → (tail_meaning leaf).got (line ++ bit ∷ []) k ≡ (tail_meaning leaf).got line k ++ only leaf bit k
+tail_only leaf line bit k = go (k == leaf)
+  where
+    go : (here : Bool) → cond here (line ++ bit ∷ []) [] ≡ cond here line [] ++ cond here (bit ∷ []) []
+    go true = refl
+    go false = refl

@@ -1,0 +1,5 @@
+-- Laws that ghost members cite.
+pub mod Growing
+pub mod NodeLaws
+pub mod LeafLaws
+pub mod Stepping
