@@ -23,8 +23,8 @@ use Rattle.pdh_ops.specs.Answer.{Answer, and_then}
 use Rattle.pdh_ops.specs.Reading.{HasLength, IsSizeStop}
 use Rattle.pdh_ops.specs.Schedules.{Files, rows_of, contents_of}
 use Rattle.pdh_ops.specs.Clock.{run_outside, outside_at, outside_of, first_outside_of, first_of, checked, made_text, rows_in_text, clock_made}
-use Rattle.pdh_ops.specs.Commands.{AreTold, IsOutput, comes_to}
-use Rattle.pdh_ops.specs.Run.{Performs, GoesOn, reaches_outputs}
+use Rattle.pdh_ops.specs.Commands.{AreTold, IsOutput, comes_to, reaches_outputs}
+use Rattle.pdh_ops.specs.Run.{with_stop, Performs, GoesOn}
 use Rattle.pdh_ops.specs.Refusing.{Refuses}
 use Rattle.pdh_ops.specs.ScheduleSteps.{RowsAre, IsScheduleStop}
 use Rattle.pdh_ops.specs.declared.file.File.TheVariants.{Schedule}
@@ -32,10 +32,10 @@ use Rattle.pdh_ops.specs.declared.answer.Done.TheVariants.{ClockInside, ClockOut
 use Rattle.pdh_ops.specs.declared.answer.OutOfTolerance.{OutOfTolerance}
 use Rattle.pdh_ops.specs.declared.answer.Stop.{Stop}
 use Rattle.pdh_ops.specs.declared.answer.Stop.TheVariants.{Memory, Missing, ManyFrames}
-use Rattle.pdh_ops.proofs.Touching.{looks_then, looks_none}
+use Rattle.pdh_ops.proofs.Touching.{looks_then, looks_none, counted_since}
 use Rattle.pdh_ops.proofs.Causes.{looks_others}
-use Rattle.pdh_ops.proofs.Refusing.{refuses_since, refuses_performs, size_stop}
-use Rattle.pdh_ops.proofs.ScheduleComes.{Begins, schedule_refuses, comes_on}
+use Rattle.pdh_ops.proofs.Refusing.{refuses_since, refuses_performs, size_refuses}
+use Rattle.pdh_ops.proofs.ScheduleComes.{Begins, HasSchedule, schedule_refuses, comes_on}
 use Rattle.pdh_ops.proofs.OneOutput.{HasOutput, Writes, start_refused, append_refused, writing_done}
 use Rattle.pdh_chain.specs.declared.chain.Chain.{Chain}
 use Rattle.pdh_chain.specs.declared.chain.Chain.TheVariants.{E12, E23, E34, E13, E24, E14}
@@ -52,10 +52,20 @@ not_held : (chain : Chain) (files : Files) → files schedule_name ≡ None → 
 not_held chain files none = let e : is_none (files schedule_name) ≡ true = ap is_none none in rw e refl
 
 pub check_size_refuses : (chain : Chain) (a b : ShelfState) (stop : Stop) → IsSizeStop Schedule a b stop → Refuses (ClockCheck chain) a b stop
-check_size_refuses chain a b stop cause = elim (size_stop Schedule a b stop cause) [
-  | inl missing ↦ subst (Refuses (ClockCheck chain) a b) (sym missing.0) (missing.1, λ files told. not_held chain files (missing.2 (files schedule_name) (check_told chain a files told)))
-  | inr fails ↦ subst (Refuses (ClockCheck chain) a b) (sym fails.0) fails.1
-]
+check_size_refuses chain a b stop cause =
+    size_refuses (ClockCheck chain) Schedule 0 a b stop (omega arith) refl (λ files told i h. absurd (omega arith))
+    (λ missing files told. not_held chain files (missing (files schedule_name) (check_told chain a files told))) cause
+
+known_held : (bytes : ℕ) (held : Option (List ℕ)) → Some bytes ≡ option_map length held → is_none held ≡ false
+known_held bytes None e = absurd (cc)
+known_held bytes (Some text) e = refl
+
+check_schedule : (chain : Chain) (a : ShelfState) (bytes : ℕ) → HasLength schedule_name bytes a → HasSchedule (ClockCheck chain) 0 a
+check_schedule chain a bytes known = record {
+  known = omega arith;
+  named = refl;
+  held = λ files told i h. known_held bytes (files schedule_name) (known.told (files schedule_name) (check_told chain a files told));
+}
 
 begins_held : (chain : Chain) (files : Files) (held : Option (List ℕ)) (bytes : ℕ) → Some bytes ≡ option_map length held → files schedule_name ≡ held →
     (text : List ℕ) × (held ≡ Some text) × (comes_to (ClockCheck chain) files ≡ and_then (rows_of chain text) (λ rows. Ok (checked chain rows)))
@@ -143,21 +153,23 @@ outside_now chain clock k node out levels low is said =
     ∙ ap (λ l. first_outside_of (record { levels = l; rows = clock.rows }) (steps_of node)) (sym levels) ∙ sym said
 
 -- what was read is what the command comes to
-pub check_done : (chain : Chain) (a s b : ShelfState) (bytes : ℕ) (rows : List Row) → Looks a s → HasLength schedule_name bytes s → Looks s b → RowsAre chain s (Ok rows) → Performs (ClockCheck chain) a b (Ok (checked chain rows))
-check_done chain a s b bytes rows first known second are = record {
+pub check_done : (chain : Chain) (a s b : ShelfState) (bytes : ℕ) (rows : List Row) → Looks a s → s.counts ≡ a.counts → HasLength schedule_name bytes s → Looks s b → b.counts ≡ s.counts → RowsAre chain s (Ok rows) → Performs (ClockCheck chain) a b (Ok (checked chain rows))
+check_done chain a s b bytes rows first same known second same' are = record {
   cause = λ files told.
       sym (comes_on chain (ClockCheck chain) (λ files rows. Ok (checked chain rows)) s rows files (check_begins chain s bytes known) are (subst (λ (t : List ℕ → Told). AreTold (ClockCheck chain) t files) (sym first.told) told));
-  outputs = λ files i told low. absurd (omega arith);
+  outputs = λ i low. absurd (omega arith);
   others = looks_others (IsOutput (ClockCheck chain)) a b (looks_then a s b first second);
+  counted = same' ∙ same;
 }
 
-pub check_schedule_refused : (chain : Chain) (a s b : ShelfState) (bytes : ℕ) (stop : Stop) → Looks a s → HasLength schedule_name bytes s → Looks s b → IsScheduleStop chain s b stop → Performs (ClockCheck chain) a b (Err stop)
-check_schedule_refused chain a s b bytes stop first known second cause =
+pub check_schedule_refused : (chain : Chain) (a s b : ShelfState) (bytes : ℕ) (stop : Stop) → Looks a s → s.counts ≡ a.counts → HasLength schedule_name bytes s → Looks s b → b.counts ≡ with_stop stop s.counts → IsScheduleStop chain s b stop → Performs (ClockCheck chain) a b (Err stop)
+check_schedule_refused chain a s b bytes stop first same known second counted cause =
     refuses_performs (ClockCheck chain) a b stop (looks_then a s b first second)
-    (refuses_since (ClockCheck chain) a s b stop first (schedule_refuses chain (ClockCheck chain) (λ files rows. Ok (checked chain rows)) s b stop (check_begins chain s bytes known) cause))
+    (refuses_since (ClockCheck chain) a s b stop first same (schedule_refuses chain (ClockCheck chain) (λ files rows. Ok (checked chain rows)) 0 s b stop (check_begins chain s bytes known) (check_schedule chain s bytes known) cause))
+    (counted_since _ _ _ stop same counted)
 
-pub check_size_refused : (chain : Chain) (a b : ShelfState) (stop : Stop) → Looks a b → IsSizeStop Schedule a b stop → Performs (ClockCheck chain) a b (Err stop)
-check_size_refused chain a b stop looks cause = refuses_performs (ClockCheck chain) a b stop looks (check_size_refuses chain a b stop cause)
+pub check_size_refused : (chain : Chain) (a b : ShelfState) (stop : Stop) → Looks a b → b.counts ≡ with_stop stop a.counts → IsSizeStop Schedule a b stop → Performs (ClockCheck chain) a b (Err stop)
+check_size_refused chain a b stop looks counted cause = refuses_performs (ClockCheck chain) a b stop looks (check_size_refuses chain a b stop cause) counted
 
 -- ---- the making
 
@@ -176,10 +188,11 @@ many_refused chain a frames bias many = record {
   cause = λ files told. let test : nat_lt 16384 frames ≡ true = grind (arith, nat_tests) in rw test refl;
   outputs = refl;
   others = looks_others (IsOutput (ClockMake chain frames bias)) a a (looks_none a);
+  counted = refl;
 }
 
 pub make_no_memory : (chain : Chain) (a : ShelfState) (frames : ℕ) (bias : Bias) → Performs (ClockMake chain frames bias) a a (Err Memory)
-make_no_memory chain a frames bias = refuses_performs (ClockMake chain frames bias) a a Memory (looks_none a) tt
+make_no_memory chain a frames bias = refuses_performs (ClockMake chain frames bias) a a Memory (looks_none a) tt refl
 
 make_output : (chain : Chain) (frames : ℕ) (bias : Bias) → HasOutput (ClockMake chain frames bias) Schedule
 make_output chain frames bias = record { count = refl; name = refl }
@@ -188,11 +201,11 @@ make_goes_on : (chain : Chain) (a : ShelfState) (frames : ℕ) (bias : Bias) →
 make_goes_on chain a frames bias few files told = ap reaches_outputs (made_few chain frames bias few)
 
 make_writes : (chain : Chain) (a : ShelfState) (frames : ℕ) (bias : Bias) (bytes : List ℕ) → frames ≤ 16384 → bytes ≡ made_text chain frames bias → Writes (ClockMake chain frames bias) a a bytes
-make_writes chain a frames bias bytes few same = record { looks = looks_none a; goes_on = make_goes_on chain a frames bias few; content = λ files told. same }
+make_writes chain a frames bias bytes few same = record { looks = looks_none a; same = refl; goes_on = make_goes_on chain a frames bias few; content = λ files told. same }
 
 pub make_start_refused : (chain : Chain) (a c : ShelfState) (frames : ℕ) (bias : Bias) (stop : Stop) → frames ≤ 16384 → Touches schedule_name a c → IsStartStop Schedule a c stop → Performs (ClockMake chain frames bias) a c (Err stop)
 make_start_refused chain a c frames bias stop few touches cause =
-    start_refused (ClockMake chain frames bias) Schedule a a c stop (make_output chain frames bias) (looks_none a) (make_goes_on chain a frames bias few) touches cause
+    start_refused (ClockMake chain frames bias) Schedule a a c stop (make_output chain frames bias) (looks_none a) refl (make_goes_on chain a frames bias few) touches cause
 
 pub make_append_refused : (chain : Chain) (a c d : ShelfState) (frames : ℕ) (bias : Bias) (bytes : List ℕ) (stop : Stop) → frames ≤ 16384 → bytes ≡ made_text chain frames bias → Touches schedule_name a c → Starts schedule_name a c → Touches schedule_name c d →
     IsAppendStop Schedule bytes c d stop → Performs (ClockMake chain frames bias) a d (Err stop)

@@ -8,7 +8,7 @@ use Rattle.std.proofs.lemmas.Bool.{le-leb, cases_Bool, ltb-false}
 use Rattle.std.proofs.Math.Nat.{div-mul-le_self}
 use Rattle.pdh_shape.specs.Frame.{FrameShape, IsFrame}
 use Rattle.pdh_shape.specs.Sets.{e2, e3, e4}
-use Rattle.pdh_shape.specs.E4Laws.{e4_reads_evenly}
+use Rattle.pdh_shape.specs.laws.E4Laws.{e4_reads_evenly}
 use Rattle.pdh_shape.specs.declared.place.Level.{Level}
 use Rattle.pdh_line.specs.Sending.{arrived, begun, taken, entered}
 use Rattle.pdh_line.proofs.SendingLaws.{arrived-zero, arrived-suc}

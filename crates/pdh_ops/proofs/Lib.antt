@@ -6,12 +6,14 @@ pub mod DemuxFiles
 pub mod Received
 pub mod Texts
 pub mod Refusing
+pub mod LineStops
 pub mod ScheduleComes
 pub mod MuxComes
 pub mod Lists
 pub mod Firsts
 pub mod Levels
 pub mod MuxMade
+pub mod MuxSent
 pub mod OneOutput
 pub mod MuxFiles
 pub mod ClockComes

@@ -7,7 +7,7 @@ use Rattle.std.specs.Option.{option_map}
 use Rattle.pdh_edge.specs.Files.{IsRangeOf}
 use Rattle.pdh_ops.specs.Answer.{Answer, and_then}
 use Rattle.pdh_ops.specs.Demux.{line_of, frames_received, demuxed}
-use Rattle.pdh_ops.specs.Run.{reaches_outputs}
+use Rattle.pdh_ops.specs.Commands.{reaches_outputs}
 use Rattle.pdh_ops.specs.declared.answer.Stop.{Stop}
 use Rattle.pdh_ops.specs.declared.answer.Done.TheVariants.{Demuxed}
 use Rattle.pdh_ops.specs.declared.answer.Stop.TheVariants.{NoAlignment}

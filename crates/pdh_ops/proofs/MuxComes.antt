@@ -1,11 +1,11 @@
 -- What the steps of `mux` before its outputs come to.
-use Rattle.std.proofs.Common.{◌≡◌, ℕ, suc, ◌*◌, ◌<◌, nat_lt, List, [], Option, None, Some, Ok, Err, true, false, length, refl, ap, sym, ◌∙◌, inl, inr, subst, arith}
+use Rattle.std.proofs.Common.{◌≡◌, ℕ, suc, zero, ◌*◌, ◌<◌, ◌≤◌, nat_lt, List, [], Option, None, Some, Ok, Err, true, false, length, refl, ap, sym, ◌∙◌, inl, inr, subst, arith}
 use Rattle.std.specs.Prelude.{is_none, unwrap_or, slice_index, find}
 use Rattle.std.specs.Option.{option_map, option_map_or}
 use Rattle.std.specs.List.{range_with_len}
 use Rattle.std.proofs.lemmas.Bool.Decides.{nat_tests}
 use Rattle.pdh_bits.specs.Bits.{bits_of}
-use Rattle.pdh_edge.specs.Files.{ShelfState, Told, Looks, Holds}
+use Rattle.pdh_edge.specs.Files.{ShelfState, Counts, Told, Looks, Holds}
 use Rattle.pdh_edge.specs.Files.Told.{Known}
 use Rattle.pdh_clock.specs.Row.{Row}
 use Rattle.pdh_shape.specs.declared.place.Path.{Path}
@@ -16,13 +16,14 @@ use Rattle.pdh_ops.specs.Answer.{Answer, and_then}
 use Rattle.pdh_ops.specs.Reading.{HasLength, IsSizeStop}
 use Rattle.pdh_ops.specs.Schedules.{Files, bytes_in, rows_of, frames_in}
 use Rattle.pdh_ops.specs.Mux.{mux_inputs, all_held, leaf_bits, bits_held, bits_needed, short_node, stop_of_shortage, short_leaf, muxed}
-use Rattle.pdh_ops.specs.Commands.{AreTold, comes_to}
+use Rattle.pdh_ops.specs.Commands.{AreTold, OfInputs, AreHeld, comes_to}
+use Rattle.pdh_ops.specs.Run.{with_stop}
 use Rattle.pdh_ops.specs.Refusing.{Refuses}
 use Rattle.pdh_ops.specs.ScheduleSteps.{RowsAre}
 use Rattle.pdh_ops.proofs.Firsts.{first_of_range, none_of_range, each_fails, find-map}
-use Rattle.pdh_ops.proofs.Refusing.{size_stop}
-use Rattle.pdh_ops.proofs.ScheduleComes.{Begins}
-use Rattle.pdh_ops.specs.MuxSteps.{OfInputs, AreSizes, AreHeld, HasRows, IsLong, IsShortNode, IsShort, IsEnoughStop}
+use Rattle.pdh_ops.proofs.Refusing.{size_refuses}
+use Rattle.pdh_ops.proofs.ScheduleComes.{Begins, HasSchedule}
+use Rattle.pdh_ops.specs.MuxSteps.{AreSizes, AllHeld, HasRows, IsLong, IsShortNode, IsShort, IsEnoughStop}
 use Rattle.pdh_words.specs.declared.commands.Command.TheVariants.{Mux}
 use Rattle.pdh_ops.specs.declared.file.File.{File}
 use Rattle.pdh_ops.specs.declared.file.File.TheVariants.{Line, Schedule, Leaf, Output}
@@ -41,7 +42,7 @@ leaf_told : (chain : Chain) (state : ShelfState) (files : Files) (k : ℕ) → k
 leaf_told chain state files k low told = told (suc k) (omega arith)
 
 -- what holds of inputs as they were told holds of them as they are told now
-pub of_inputs_since : (chain : Chain) (P : Files → Type 0) (a b : ShelfState) → Looks a b → OfInputs chain a P → OfInputs chain b P
+pub of_inputs_since : (chain : Chain) (P : Files → Type 0) (a b : ShelfState) → Looks a b → OfInputs (Mux chain) a P → OfInputs (Mux chain) b P
 of_inputs_since chain P a b looks holds files told = holds files (subst (λ (t : List ℕ → Told). AreTold (Mux chain) t files) looks.told told)
 
 -- ---- inputs that aren't held
@@ -85,28 +86,32 @@ comes_held : (chain : Chain) (files : Files) (stop : Stop) → all_held (mux_inp
 comes_held chain files stop e = sym (ap (λ r. and_then r (λ _. and_then (rows_of chain (bytes_in files schedule_name)) (muxed chain files))) e)
 
 pub schedule_size_refuses : (chain : Chain) (a b : ShelfState) (stop : Stop) → IsSizeStop Schedule a b stop → Refuses (Mux chain) a b stop
-schedule_size_refuses chain a b stop cause = elim (size_stop Schedule a b stop cause) [
-  | inl missing ↦ subst (Refuses (Mux chain) a b) (sym missing.0) (
-    missing.1,
-    λ files told.
-        comes_held chain files (Missing Schedule) (no_schedule chain files (missing.2 (files schedule_name) (schedule_told chain a files told))),
-  )
-  | inr fails ↦ subst (Refuses (Mux chain) a b) (sym fails.0) fails.1
-]
+schedule_size_refuses chain a b stop cause =
+    size_refuses (Mux chain) Schedule 0 a b stop (omega arith) refl (λ files told i h. absurd (omega arith))
+    (λ missing files told. comes_held chain files (Missing Schedule) (no_schedule chain files (missing (files schedule_name) (schedule_told chain a files told)))) cause
+
+-- the schedule and the leaves before one are held
+held_before : (chain : Chain) (a : ShelfState) (schedule k : ℕ) (leaf : ℕ → ℕ) → k ≤ leaves_of chain → HasLength schedule_name schedule a → ((i : ℕ) → i < k → HasLength (leaf_name i) (leaf i) a) → OfInputs (Mux chain) a (AreHeld (Mux chain) (suc k))
+held_before chain a schedule k leaf upto first before files told zero h = is_held a schedule_name schedule (files schedule_name) first (schedule_told chain a files told)
+held_before chain a schedule k leaf upto first before files told (suc i) h = held_files chain a files (leaf i) i told (omega arith) (before i (omega arith))
 
 pub leaf_size_refuses : (chain : Chain) (a b : ShelfState) (schedule k : ℕ) (leaf : ℕ → ℕ) (stop : Stop) → k < leaves_of chain → HasLength schedule_name schedule a → ((i : ℕ) → i < k → HasLength (leaf_name i) (leaf i) a) →
     IsSizeStop (Leaf k) a b stop → Refuses (Mux chain) a b stop
-leaf_size_refuses chain a b schedule k leaf stop low first before cause = elim (size_stop (Leaf k) a b stop cause) [
-  | inl missing ↦ subst (Refuses (Mux chain) a b) (sym missing.0) (
-    missing.1,
-    λ files told.
-        comes_held chain files (Missing (Leaf k)) (no_leaf chain files k low (is_held a schedule_name schedule (files schedule_name) first (schedule_told chain a files told))
-        (λ i h. held_files chain a files (leaf i) i told (omega arith) (before i h)) (ap is_none (missing.2 (files (leaf_name k)) (leaf_told chain a files k low told)))),
-  )
-  | inr fails ↦ subst (Refuses (Mux chain) a b) (sym fails.0) fails.1
-]
+leaf_size_refuses chain a b schedule k leaf stop low first before cause =
+    size_refuses (Mux chain) (Leaf k) (suc k) a b stop (omega arith) refl (held_before chain a schedule k leaf (omega arith) first before)
+    (λ missing files told.
+    comes_held chain files (Missing (Leaf k)) (no_leaf chain files k low (is_held a schedule_name schedule (files schedule_name) first (schedule_told chain a files told))
+    (λ i h. held_files chain a files (leaf i) i told (omega arith) (before i h)) (ap is_none (missing (files (leaf_name k)) (leaf_told chain a files k low told)))))
+    cause
 
-pub all_are_held : (chain : Chain) (sizes : InputSizes) (a : ShelfState) → AreSizes chain sizes a → AreHeld chain a
+pub has_schedule : (chain : Chain) (sizes : InputSizes) (a : ShelfState) → AreSizes chain sizes a → HasSchedule (Mux chain) 0 a
+has_schedule chain sizes a are = record {
+  known = omega arith;
+  named = refl;
+  held = held_before chain a sizes.schedule (leaves_of chain) (slice_index sizes.leaves) (omega arith) are.schedule are.leaf;
+}
+
+pub all_are_held : (chain : Chain) (sizes : InputSizes) (a : ShelfState) → AreSizes chain sizes a → AllHeld chain a
 all_are_held chain sizes a are files told = every_leaf chain files (is_held a schedule_name sizes.schedule (files schedule_name) are.schedule (schedule_told chain a files told))
     (λ i h. held_files chain a files (slice_index sizes.leaves i) i told h (are.leaf i h))
 
@@ -118,7 +123,7 @@ text_held None bytes e = absurd (cc)
 text_held (Some text) bytes e = (text, refl)
 
 -- what `mux` comes to, by its schedule
-pub mux_begins : (chain : Chain) (a : ShelfState) (bytes : ℕ) → AreHeld chain a → HasLength schedule_name bytes a → Begins chain (Mux chain) (muxed chain) a
+pub mux_begins : (chain : Chain) (a : ShelfState) (bytes : ℕ) → AllHeld chain a → HasLength schedule_name bytes a → Begins chain (Mux chain) (muxed chain) a
 mux_begins chain a bytes held known files told =
     let t = text_held (files schedule_name) bytes (known.told (files schedule_name) (schedule_told chain a files told)) in (
       t.0,
@@ -134,7 +139,7 @@ has_rows chain a bytes rows known are files told =
 
 -- ---- too many frames, or a leaf that is too short
 
-pub comes_muxed : (chain : Chain) (a : ShelfState) (rows : List Row) (files : Files) → AreHeld chain a → HasRows chain a rows → AreTold (Mux chain) a.told files → comes_to (Mux chain) files ≡ muxed chain files rows
+pub comes_muxed : (chain : Chain) (a : ShelfState) (rows : List Row) (files : Files) → AllHeld chain a → HasRows chain a rows → AreTold (Mux chain) a.told files → comes_to (Mux chain) files ≡ muxed chain files rows
 comes_muxed chain a rows files held are told =
     ap (λ r. and_then r (λ _. and_then (rows_of chain (bytes_in files schedule_name)) (muxed chain files))) (held files told) ∙ ap (λ r. and_then r (muxed chain files)) (are files told)
 
@@ -207,6 +212,24 @@ enough_refuses chain sizes rows a b (CountOver l n m) are has cause = absurd cau
 enough_refuses chain sizes rows a b (Overflow p) are has cause = absurd cause
 enough_refuses chain sizes rows a b (Underflow p) are has cause = absurd cause
 enough_refuses chain sizes rows a b (NoAlignment n) are has cause = absurd cause
+
+-- they count nothing
+pub enough_counts : (chain : Chain) (rows : List Row) (sizes : InputSizes) (x y : Counts) (stop : Stop) → IsEnoughStop chain rows sizes stop → y ≡ x → y ≡ with_stop stop x
+enough_counts chain rows sizes x y (ManyFrames n) cause same = same
+enough_counts chain rows sizes x y (ShortNode node have need) cause same = same
+enough_counts chain rows sizes x y (Short file have need) cause same = same
+enough_counts chain rows sizes x y Memory cause same = same
+enough_counts chain rows sizes x y Usage cause same = same
+enough_counts chain rows sizes x y (Read f) cause same = absurd cause
+enough_counts chain rows sizes x y (Write f) cause same = absurd cause
+enough_counts chain rows sizes x y (Missing f) cause same = absurd cause
+enough_counts chain rows sizes x y LongSchedule cause same = same
+enough_counts chain rows sizes x y (BadRow l) cause same = same
+enough_counts chain rows sizes x y (UnknownNode l) cause same = same
+enough_counts chain rows sizes x y (CountOver l n m) cause same = same
+enough_counts chain rows sizes x y (Overflow p) cause same = same
+enough_counts chain rows sizes x y (Underflow p) cause same = same
+enough_counts chain rows sizes x y (NoAlignment n) cause same = same
 
 -- the bytes of a leaf's file that were read give its bits
 pub bits_are : (chain : Chain) (a : ShelfState) (k : ℕ) (bytes : List ℕ) (files : Files) → k < leaves_of chain → Holds (a.told (leaf_name k)) bytes → AreTold (Mux chain) a.told files → leaf_bits files k ≡ bits_of bytes

@@ -17,8 +17,8 @@ use Rattle.pdh_ops.specs.Answer.{Answer}
 use Rattle.pdh_ops.specs.Writing.{IsStartStop, IsAppendStop}
 use Rattle.pdh_ops.specs.Schedules.{Files, rows_in, frames_in}
 use Rattle.pdh_ops.specs.Mux.{leaf_bits, short_node, bits_held, bits_needed, stop_of_kind, stop_of_event, event_of, muxed, frames_made, line_bytes}
-use Rattle.pdh_ops.specs.Commands.{IsOutput, AreTold, output_bytes, comes_to}
-use Rattle.pdh_ops.specs.Run.{Comes, AreWhole, ChangesOnly, Performs, GoesOn, reaches_outputs}
+use Rattle.pdh_ops.specs.Commands.{IsOutput, AreTold, output_bytes, comes_to, reaches_outputs}
+use Rattle.pdh_ops.specs.Run.{Comes, AreWhole, ChangesOnly, Performs, GoesOn}
 use Rattle.pdh_ops.specs.MuxSteps.{AreBits, AreSizes, HasRows, AreEnough, AreLeaves, IsEnd, IsMade}
 use Rattle.pdh_words.specs.declared.commands.Command.TheVariants.{Mux}
 use Rattle.pdh_ops.specs.declared.file.File.TheVariants.{Line}
@@ -35,15 +35,17 @@ use Rattle.pdh_chain.specs.Chains.{shapes_of, leaves_of}
 -- what the steps before the outputs have found
 pub record IsReady (chain : Chain) (a b : ShelfState) (sizes : InputSizes) (rows : List Row) (frames : ℕ) (leaves : List (Vec Bool Global)) : Type 0 where
   pub looks : Looks a b
+  pub same : b.counts ≡ a.counts
   pub sizes_are : AreSizes chain sizes b
   pub rows_are : HasRows chain b rows
   pub enough : AreEnough chain rows sizes frames
   pub leaves_are : AreLeaves chain sizes b leaves
 
-pub is_ready : (chain : Chain) (a s t b : ShelfState) (sizes : InputSizes) (rows : List Row) (frames : ℕ) (leaves : List (Vec Bool Global)) → Looks a s → AreSizes chain sizes s → Looks s t → HasRows chain t rows → AreEnough chain rows sizes frames →
+pub is_ready : (chain : Chain) (a s t b : ShelfState) (sizes : InputSizes) (rows : List Row) (frames : ℕ) (leaves : List (Vec Bool Global)) → b.counts ≡ a.counts → Looks a s → AreSizes chain sizes s → Looks s t → HasRows chain t rows → AreEnough chain rows sizes frames →
     Looks t b → AreLeaves chain sizes b leaves → IsReady chain a b sizes rows frames leaves
-is_ready chain a s t b sizes rows frames leaves first sizes_are second rows_are enough third leaves_are = record {
+is_ready chain a s t b sizes rows frames leaves same first sizes_are second rows_are enough third leaves_are = record {
   looks = looks_then a t b (looks_then a s t first second) third;
+  same = same;
   sizes_are = sizes_since chain sizes t b third (sizes_since chain sizes s t second sizes_are);
   rows_are = of_inputs_since chain _ t b third rows_are;
   enough = enough;
@@ -63,12 +65,16 @@ runs_to chain files rows few scheduled long =
     let test : nat_lt 16384 (frames_in rows) ≡ false = grind (arith, nat_tests) in
     rw (test, scheduled, no_short_leaf chain files rows long) refl
 
+enough_comes : (chain : Chain) (a : ShelfState) (sizes : InputSizes) (rows : List Row) (frames : ℕ) (files : Files) → AreSizes chain sizes a → HasRows chain a rows → AreEnough chain rows sizes frames → AreTold (Mux chain) a.told files →
+    comes_to (Mux chain) files ≡ run_answer chain rows
+enough_comes chain a sizes rows frames files sizes_are rows_are enough told =
+    comes_muxed chain a rows files (all_are_held chain sizes a sizes_are) rows_are told
+    ∙ runs_to chain files rows (let e = enough.frames_are in omega (arith, enough.few)) enough.scheduled (λ i h. long_enough chain sizes a rows files i h sizes_are told (enough.long i h))
+
 ready_comes : (chain : Chain) (a b : ShelfState) (sizes : InputSizes) (rows : List Row) (frames : ℕ) (leaves : List (Vec Bool Global)) (files : Files) → IsReady chain a b sizes rows frames leaves → AreTold (Mux chain) a.told files →
     comes_to (Mux chain) files ≡ run_answer chain rows
 ready_comes chain a b sizes rows frames leaves files ready told =
-    let now = told_now chain a b files ready.looks told in
-    comes_muxed chain b rows files (all_are_held chain sizes b ready.sizes_are) ready.rows_are now
-    ∙ runs_to chain files rows (let e = ready.enough.frames_are in omega (arith, ready.enough.few)) ready.enough.scheduled (λ i h. long_enough chain sizes b rows files i h ready.sizes_are now (ready.enough.long i h))
+    enough_comes chain b sizes rows frames files ready.sizes_are ready.rows_are ready.enough (told_now chain a b files ready.looks told)
 
 kind_reaches : (kind : Kind) (place : Place) → reaches_outputs (Err (stop_of_kind kind place)) ≡ true
 kind_reaches StoreOverflow place = refl
@@ -77,6 +83,11 @@ kind_reaches StoreUnderflow place = refl
 reaches : (chain : Chain) (event : Option Event) (n : ℕ) → reaches_outputs (option_map_or (λ event. Err (stop_of_event event)) event (Ok (Muxed chain n))) ≡ true
 reaches chain None n = refl
 reaches chain (Some event) n = kind_reaches event.kind (place_of event)
+
+-- what the steps before the leaves have found comes to no refusal
+pub enough_goes_on : (chain : Chain) (a : ShelfState) (sizes : InputSizes) (rows : List Row) (frames : ℕ) → AreSizes chain sizes a → HasRows chain a rows → AreEnough chain rows sizes frames → GoesOn (Mux chain) a
+enough_goes_on chain a sizes rows frames sizes_are rows_are enough files told =
+    ap reaches_outputs (enough_comes chain a sizes rows frames files sizes_are rows_are enough told) ∙ reaches chain (event_of chain rows) (frames_in rows)
 
 ready_goes_on : (chain : Chain) (a b : ShelfState) (sizes : InputSizes) (rows : List Row) (frames : ℕ) (leaves : List (Vec Bool Global)) → IsReady chain a b sizes rows frames leaves → GoesOn (Mux chain) a
 ready_goes_on chain a b sizes rows frames leaves ready files told = ap reaches_outputs (ready_comes chain a b sizes rows frames leaves files ready told) ∙ reaches chain (event_of chain rows) (frames_in rows)
@@ -107,6 +118,7 @@ ready_writes : (chain : Chain) (a b : ShelfState) (sizes : InputSizes) (rows : L
     bytes ≡ made.bytes.items → Writes (Mux chain) a b bytes
 ready_writes chain a b sizes rows frames leaves made bytes ready is same = record {
   looks = ready.looks;
+  same = ready.same;
   goes_on = ready_goes_on chain a b sizes rows frames leaves ready;
   content = λ files told. same ∙ ready_line chain a b sizes rows frames leaves made files ready is told;
 }
@@ -114,7 +126,7 @@ ready_writes chain a b sizes rows frames leaves made bytes ready is same = recor
 pub mux_start_refused : (chain : Chain) (a b c : ShelfState) (sizes : InputSizes) (rows : List Row) (frames : ℕ) (leaves : List (Vec Bool Global)) (stop : Stop) → IsReady chain a b sizes rows frames leaves → Touches line_name b c →
     IsStartStop Line b c stop → Performs (Mux chain) a c (Err stop)
 mux_start_refused chain a b c sizes rows frames leaves stop ready touches cause =
-    start_refused (Mux chain) Line a b c stop (mux_output chain) ready.looks (ready_goes_on chain a b sizes rows frames leaves ready) touches cause
+    start_refused (Mux chain) Line a b c stop (mux_output chain) ready.looks ready.same (ready_goes_on chain a b sizes rows frames leaves ready) touches cause
 
 pub mux_append_refused : (chain : Chain) (a b c d : ShelfState) (sizes : InputSizes) (rows : List Row) (frames : ℕ) (leaves : List (Vec Bool Global)) (made : Made) (bytes : List ℕ) (stop : Stop) → IsReady chain a b sizes rows frames leaves →
     IsMade chain rows leaves made → bytes ≡ made.bytes.items → Touches line_name b c → Starts line_name b c → Touches line_name c d → IsAppendStop Line bytes c d stop → Performs (Mux chain) a d (Err stop)
@@ -132,9 +144,9 @@ mux_done chain a b c d sizes rows frames leaves made bytes ready is same starts 
     no_event (Some event) end e f = absurd (let wrong : Some (stop_of_event event) ≡ None = sym e ∙ f in cc)
 
 -- an event of a store ends the command behind its output
-event_performs : (chain : Chain) (a d : ShelfState) (kind : Kind) (place : Place) → Comes (Mux chain) a (Err (stop_of_kind kind place)) → AreWhole (Mux chain) a d → ChangesOnly (IsOutput (Mux chain)) a d → Performs (Mux chain) a d (Err (stop_of_kind kind place))
-event_performs chain a d StoreOverflow place comes are changes = record { cause = comes; outputs = are; others = changes }
-event_performs chain a d StoreUnderflow place comes are changes = record { cause = comes; outputs = are; others = changes }
+event_performs : (chain : Chain) (a d : ShelfState) (kind : Kind) (place : Place) → Comes (Mux chain) a (Err (stop_of_kind kind place)) → AreWhole (Mux chain) a d → ChangesOnly (IsOutput (Mux chain)) a d → d.counts ≡ a.counts → Performs (Mux chain) a d (Err (stop_of_kind kind place))
+event_performs chain a d StoreOverflow place comes are changes counted = record { cause = comes; outputs = are; others = changes; counted = counted }
+event_performs chain a d StoreUnderflow place comes are changes counted = record { cause = comes; outputs = are; others = changes; counted = counted }
 
 pub event_ends : (chain : Chain) (a b c d : ShelfState) (sizes : InputSizes) (rows : List Row) (frames : ℕ) (leaves : List (Vec Bool Global)) (made : Made) (bytes : List ℕ) (stop : Stop) → IsReady chain a b sizes rows frames leaves → IsMade chain rows leaves made →
     bytes ≡ made.bytes.items → Touches line_name b c → Starts line_name b c → Touches line_name c d → Appends line_name bytes c d → made.end ≡ Some stop → Performs (Mux chain) a d (Err stop)
@@ -149,4 +161,4 @@ event_ends chain a b c d sizes rows frames leaves made bytes stop ready is same 
         let writes = ready_writes chain a b sizes rows frames leaves made bytes ready is same in
         subst (λ stop. Performs (Mux chain) a d (Err stop)) (sym is_stop) (event_performs chain a d event.kind (place_of event)
         (λ files told. sym (ready_comes chain a b sizes rows frames leaves files ready told ∙ ap (λ (o : Option Event). option_map_or (λ event. Err (stop_of_event event)) o (Ok (Muxed chain (frames_in rows)))) e))
-        (whole (Mux chain) Line a b c d bytes (mux_output chain) writes started appends) (others (Mux chain) Line a b d (mux_output chain) ready.looks (touches_again line_name b c d starts touches)))
+        (whole (Mux chain) Line a b c d bytes (mux_output chain) writes started appends) (others (Mux chain) Line a b d (mux_output chain) ready.looks (touches_again line_name b c d starts touches)) (appends.succeeds.counts ∙ started.succeeds.counts ∙ ready.same))

@@ -1,8 +1,9 @@
 -- After status 0 the line gives each leaf's bits back in order.
-use Rattle.std.proofs.Common.{◌≡◌, ℕ, ◌*◌, ◌%◌, ◌<◌, ◌≤◌, nat_lt, List, [], Bool, true, false, cond, All, Option, None, Some, Result, Ok, Err, length, take, slice_index_or, refl, ap, sym, subst, ◌∙◌, inl, inr, arith, lit<}
+use Rattle.std.proofs.Common.{◌≡◌, ℕ, ◌*◌, ◌%◌, ◌<◌, ◌≤◌, nat_lt, List, [], ◌++◌, Bool, true, false, cond, All, Option, None, Some, Result, Ok, Err, length, take, drop, slice_index_or, refl, ap, sym, subst, ◌∙◌, inl, inr, arith, lit<}
 use Rattle.std.specs.Option.{option_map_or}
 use Rattle.std.specs.Result.{result_unwrap_or}
 use Rattle.std.proofs.lemmas.Bool.{cases_lt}
+use Rattle.std.proofs.lemmas.List.{take-append-drop}
 use Rattle.std.proofs.lemmas.Bool.Decides.{nat_tests}
 use Rattle.std.proofs.Math.Nat.{mul-le-mul_left, mul-le-mul_right, mul-suc, mul_comm, mul_left_comm}
 use Rattle.pdh_bits.specs.Bits.{bits_of, bytes_of}
@@ -31,7 +32,8 @@ use Rattle.pdh_ops.specs.Schedules.{Files, bytes_in, rows_of, rows_or_stop, rows
 use Rattle.pdh_ops.specs.Mux.{mux_inputs, all_held, line_len, short_node, leaf_bits, bits_held, bits_needed, short_leaf, event_of, stop_of_event, stop_of_shortage, muxed, frames_made, mux_line, line_bytes}
 use Rattle.pdh_ops.specs.Commands.{comes_to}
 use Rattle.pdh_ops.specs.Run.{Performs, IsTold, Runs}
-use Rattle.pdh_ops.specs.GivesBack.{IsPrefix, GivesBack}
+use Rattle.pdh_edge.specs.Ports.{IsPrefix}
+use Rattle.pdh_ops.specs.GivesBack.{GivesBack}
 use Rattle.pdh_words.specs.declared.commands.Command.{Command}
 use Rattle.pdh_words.specs.declared.commands.Command.TheVariants.{Demux, Mux, ClockCheck, ClockMake}
 use Rattle.pdh_ops.specs.declared.answer.Done.{Done}
@@ -142,25 +144,27 @@ rows_sound chain text rows h = schedule_of_sound (levels_of chain) text rows (ju
     judged (Ok found) e = cc
     judged (Err fault) e = absurd (cc)
 
+prefix_of : (front bits : List Bool) (m : ℕ) → front ≡ take m bits → IsPrefix front bits
+prefix_of front bits m e = (drop m bits, sym (ap (λ f. f ++ drop m bits) e ∙ take-append-drop m bits))
+
 gives : (chain : Chain) (files : Files) (line : List ℕ) (leaf n : ℕ) → DidMux chain files → line ≡ line_bytes chain files (rows_in chain files) → leaf < leaves_of chain → top_len (shapes_of chain) * n ≤ length (bits_of line) →
     IsPrefix (far (shapes_of chain) (take (n * top_len (shapes_of chain)) (bits_of line)) leaf) (leaf_bits files leaf)
 unfolding event_of
 gives chain files line leaf n did is low few =
     let rows : List Row = rows_in chain files in
     let there = frames_there chain files rows line n did.done is few in
-    let quiet = events_below-none_first (shapes_of chain) (counts rows) (frames_in rows) did.done.none in (
-      _,
-      ap (λ bits. far (shapes_of chain) bits leaf) (line_front chain files rows line n did.done is there)
-          ∙ far-prefix (shapes_of chain) (counts rows) (λ leaf i. slice_index_or (leaf_bits files leaf) i false) (leaf_bits files) (λ n. idle) (frames_in rows) n leaf (are_frames chain) (λ k i. refl)
-          (arrive_singly chain rows (line_len chain rows) (rows_sound chain (bytes_in files schedule_name) rows did.rows)) quiet (long_there chain files rows leaf did.done low) there (subst (λ n. leaf < n) (leaves-are chain) low),
-    )
+    let quiet = events_below-none_first (shapes_of chain) (counts rows) (frames_in rows) did.done.none in
+    prefix_of _ (leaf_bits files leaf) _
+    (ap (λ bits. far (shapes_of chain) bits leaf) (line_front chain files rows line n did.done is there)
+    ∙ far-prefix (shapes_of chain) (counts rows) (λ leaf i. slice_index_or (leaf_bits files leaf) i false) (leaf_bits files) (λ n. idle) (frames_in rows) n leaf (are_frames chain) (λ k i. refl)
+    (arrive_singly chain rows (line_len chain rows) (rows_sound chain (bytes_in files schedule_name) rows did.rows)) quiet (long_there chain files rows leaf did.done low) there (subst (λ n. leaf < n) (leaves-are chain) low))
 
 -- ---- the run
 
 answer_gives_back : (chain : Chain) (a b : ShelfState) (k l : SinkState) (status : ℕ) (answer : Answer) → Performs (Mux chain) a b answer → IsTold answer k l status → GivesBack (Some (Mux chain)) a b status
 answer_gives_back chain a b k l status (Err stop) performs tells files line leaf n told now status_is low few = absurd (omega (arith, tells.0, stop_status stop))
 answer_gives_back chain a b k l status (Ok done) performs tells files line leaf n told now status_is low few =
-    let same : Some line ≡ Some (line_bytes chain files (rows_in chain files)) = performs.outputs files 0 told (lit< tt) (Some line) now in
+    let same : Some line ≡ Some (line_bytes chain files (rows_in chain files)) = performs.outputs 0 (lit< tt) files told (Some line) now in
     let is : line ≡ line_bytes chain files (rows_in chain files) = cc in
     gives chain files line leaf n (mux_done chain files done (performs.cause files told)) is low few
 

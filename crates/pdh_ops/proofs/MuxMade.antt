@@ -18,12 +18,12 @@ use Rattle.pdh_line.proofs.SameLines.{frame-is}
 use Rattle.pdh_nesting.specs.Chains.{width, top_len}
 use Rattle.pdh_nesting.specs.Events.{events_in, first_event}
 use Rattle.pdh_nesting.proofs.EventParts.{events_below-none, events_below-each, events_below-none_first}
-use Rattle.pdh_clock.specs.Contents.{counts}
+use Rattle.pdh_clock.specs.Contents.{counts, frame_count}
 use Rattle.pdh_chain.specs.Chains.{shapes_of, leaves_of}
 use Rattle.pdh_chain.specs.Muxes.{PutsFrames, Muxes, StopsAtEvent, frames_of_line, is_overflow, place_of}
 use Rattle.pdh_ops.specs.Schedules.{frames_in}
 use Rattle.pdh_ops.specs.Mux.{line_len, event_of, has_event, frames_made, stop_of_kind}
-use Rattle.pdh_ops.specs.MuxSteps.{AreBits, IsMade}
+use Rattle.pdh_ops.specs.MuxSteps.{AreBits, IsSent, IsMade}
 use Rattle.pdh_ops.proofs.Levels.{leaves-are, some_bits}
 use Rattle.pdh_edge.specs.MemLists.{inputs_of, outputs_of, items_of}
 use Rattle.pdh_ops.specs.declared.answer.Stop.{Stop}
@@ -110,7 +110,7 @@ frames_before chain rows made whole event first met quiet begun within =
 
 -- the whole line
 pub made_whole : (chain : Chain) (rows : List Row) (leaves : List (Vec Bool Global)) (inputs inputs_now : Inputs) (outputs outputs_now : Outputs) (line : List Bool) (bytes : Vec ℕ Global) (n : ℕ) → n ≡ frames_in rows → IsOpened chain leaves inputs outputs → outputs_now.told 0 ≡ Some line
-    → Muxes (shapes_of chain) (counts rows) n inputs inputs_now outputs outputs_now → bytes.items ≡ bytes_of line → IsMade chain rows leaves (record { bytes = bytes; end = None })
+    → Muxes (shapes_of chain) (counts rows) (frame_count rows) n inputs inputs_now outputs outputs_now → bytes.items ≡ bytes_of line → IsMade chain rows leaves (record { bytes = bytes; end = None })
 unfolding event_of
 made_whole chain rows leaves inputs inputs_now outputs outputs_now line bytes n frames is now muxes made =
     let none : first_event (shapes_of chain) (counts rows) (frames_in rows) ≡ None = subst (λ n. first_event (shapes_of chain) (counts rows) n ≡ None) frames muxes.no_event in
@@ -127,7 +127,7 @@ kind_ends StoreUnderflow place = refl
 
 -- the line up to its first event
 pub made_until : (chain : Chain) (rows : List Row) (leaves : List (Vec Bool Global)) (inputs inputs_now : Inputs) (outputs outputs_now : Outputs) (line : List Bool) (bytes : Vec ℕ Global) (n : ℕ) (over : Bool) (place : Place) (stop : Stop) → n ≡ frames_in rows → IsOpened chain leaves inputs outputs → outputs_now.told 0 ≡ Some line
-    → StopsAtEvent (shapes_of chain) (counts rows) n over place inputs inputs_now outputs outputs_now → bytes.items ≡ bytes_of line
+    → StopsAtEvent (shapes_of chain) (counts rows) (frame_count rows) n over place inputs inputs_now outputs outputs_now → bytes.items ≡ bytes_of line
     → stop ≡ cond over (Overflow place) (Underflow place) → IsMade chain rows leaves (record { bytes = bytes; end = Some stop })
 unfolding event_of
 made_until chain rows leaves inputs inputs_now outputs outputs_now line bytes n over place stop frames is now stops made ends =
@@ -139,3 +139,11 @@ made_until chain rows leaves inputs inputs_now outputs outputs_now line bytes n 
       bytes = λ lists bits. made ∙ ap bytes_of (put_line chain rows leaves inputs inputs_now outputs outputs_now line stops.whole lists is stops.line now bits) ∙ ap (λ n. bytes_of (frames_of_line (shapes_of chain) (counts rows) lists n)) (sym whole);
       end = rw some (ap Some how);
     }
+
+-- what was sent, and the bytes of what was put
+pub sent_made : (chain : Chain) (rows : List Row) (leaves : List (Vec Bool Global)) (inputs inputs_now : Inputs) (outputs outputs_now : Outputs) (line : List Bool) (bytes : Vec ℕ Global) (n : ℕ) (end : Option Stop) → n ≡ frames_in rows → IsOpened chain leaves inputs outputs
+    → outputs_now.told 0 ≡ Some line → IsSent chain rows n inputs inputs_now outputs outputs_now end → bytes.items ≡ bytes_of line → IsMade chain rows leaves (record { bytes = bytes; end = end })
+sent_made chain rows leaves inputs inputs_now outputs outputs_now line bytes n None frames is now sent made =
+    made_whole chain rows leaves inputs inputs_now outputs outputs_now line bytes n frames is now sent made
+sent_made chain rows leaves inputs inputs_now outputs outputs_now line bytes n (Some stop) frames is now sent made =
+    made_until chain rows leaves inputs inputs_now outputs outputs_now line bytes n sent.0 sent.1 stop frames is now sent.3 made sent.2

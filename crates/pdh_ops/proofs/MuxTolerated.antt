@@ -143,7 +143,7 @@ behind chain files line leaf n did is low few within =
 answer_delayed : (chain : Chain) (a b : ShelfState) (k l : SinkState) (status : ℕ) (answer : Answer) → Performs (Mux chain) a b answer → IsTold answer k l status → IsDelayed (Some (Mux chain)) a b status
 answer_delayed chain a b k l status (Err stop) performs tells files line leaf n told within now status_is low few = absurd (omega (arith, tells.0, stop_status stop))
 answer_delayed chain a b k l status (Ok done) performs tells files line leaf n told within now status_is low few =
-    let same : Some line ≡ Some (line_bytes chain files (rows_in chain files)) = performs.outputs files 0 told (lit< tt) (Some line) now in
+    let same : Some line ≡ Some (line_bytes chain files (rows_in chain files)) = performs.outputs 0 (lit< tt) files told (Some line) now in
     let is : line ≡ line_bytes chain files (rows_in chain files) = cc in
     behind chain files line leaf n (mux_done chain files done (performs.cause files told)) is low few within
 

@@ -1,6 +1,7 @@
 -- How a command with one output leaves the files.
 use Rattle.std.proofs.Common.{◌≡◌, ◌⊎◌, ℕ, zero, suc, ◌<◌, List, [], Some, Ok, Err, refl, ap, sym, subst, ◌∙◌, inl, inr, arith, lit<}
-use Rattle.pdh_edge.specs.Files.{ShelfState, Told, Looks, Touches, Holds, HoldsPrefix, Starts, Appends}
+use Rattle.pdh_edge.specs.declared.shelf.Call.TheVariants.{Start as StartCall, Append as AppendCall}
+use Rattle.pdh_edge.specs.Files.{ShelfState, Told, Looks, Touches, Holds, HoldsPrefix, Starts, Appends, FailsToWrite, with_write_fault}
 use Rattle.pdh_edge.specs.Files.Told.{Known}
 use Rattle.pdh_words.specs.declared.commands.Command.{Command}
 use Rattle.pdh_ops.specs.Names.{name_of}
@@ -11,7 +12,7 @@ use Rattle.pdh_ops.specs.Run.{Comes, AreWhole, ChangesOnly, Performs, GoesOn}
 use Rattle.pdh_ops.specs.declared.file.File.{File}
 use Rattle.pdh_ops.specs.declared.answer.Done.{Done}
 use Rattle.pdh_ops.specs.declared.answer.Stop.{Stop}
-use Rattle.pdh_ops.proofs.Touching.{fails_since, touches_then}
+use Rattle.pdh_ops.proofs.Touching.{write_fails_since, touches_then}
 use Rattle.pdh_ops.proofs.DemuxFiles.{grows_holds, grows_part_holds}
 
 -- the file is the one output
@@ -22,6 +23,7 @@ pub record HasOutput (command : Command) (file : File) : Type 0 where
 -- the steps before the output have looked at the files, none refuses, and these are the bytes to write
 pub record Writes (command : Command) (a b : ShelfState) (bytes : List ℕ) : Type 0 where
   pub looks : Looks a b
+  pub same : b.counts ≡ a.counts
   pub goes_on : GoesOn command a
   pub content : (files : Files) → AreTold command a.told files → bytes ≡ output_bytes command files 0
 
@@ -33,45 +35,53 @@ pub touches_again : (name : List ℕ) (b c d : ShelfState) → Touches name b c 
 touches_again name b c d first then_ = touches_then (λ other. other ≡ name) name b c d refl first then_
 
 pub others : (command : Command) (file : File) (a b d : ShelfState) → HasOutput command file → Looks a b → Touches (name_of file) b d → ChangesOnly (IsOutput command) a d
-others command file a b d output looks touches = record {
-  told = λ name out. touches.told name (λ e. out (0, subst (λ n. 0 < n) (sym output.count) (lit< tt), e ∙ sym output.name)) ∙ ap (λ (t : List ℕ → Told). t name) looks.told;
-  read_faults = omega (arith, looks.read_faults, touches.read_faults);
-  write_faults = omega (arith, looks.write_faults, touches.write_faults);
-  misses = omega (arith, looks.misses, touches.misses);
-}
+others command file a b d output looks touches name out =
+    touches.told name (λ e. out (0, subst (λ n. 0 < n) (sym output.count) (lit< tt), e ∙ sym output.name)) ∙ ap (λ (t : List ℕ → Told). t name) looks.told
 
-pub start_refused : (command : Command) (file : File) (a b c : ShelfState) (stop : Stop) → HasOutput command file → Looks a b → GoesOn command a → Touches (name_of file) b c → IsStartStop file b c stop → Performs command a c (Err stop)
-start_refused command file a b c stop output looks goes_on touches cause = subst (λ stop. Performs command a c (Err stop)) (sym cause.0) (record {
-  cause = (fails_since (name_of file) a b c (let e = looks.write_faults in omega arith) cause.1.fails, goes_on);
+pub start_refused : (command : Command) (file : File) (a b c : ShelfState) (stop : Stop) → HasOutput command file → Looks a b → b.counts ≡ a.counts → GoesOn command a → Touches (name_of file) b c → IsStartStop file b c stop → Performs command a c (Err stop)
+start_refused command file a b c stop output looks same goes_on touches cause = subst (λ stop. Performs command a c (Err stop)) (sym cause.0) (record {
+  cause = goes_on;
   outputs = record {
-    started = 0;
-    begun = λ files i told lt low. absurd (omega arith);
-    next = λ low. subst (λ name. (c.told name ≡ a.told name) ⊎ (c.told name ≡ Known (Some []))) (sym output.name)
-        (elim cause.1.told [ inl same ↦ inl (same ∙ ap (λ (t : List ℕ → Told). t (name_of file)) looks.told) | inr empty ↦ inr empty ]);
-    later = λ i lt low. absurd (let one = output.count in omega arith);
+    at = 0;
+    known = subst (λ n. 0 < n) (sym output.count) (lit< tt);
+    named = sym output.name;
+    how = inl (record {
+      fails = subst (λ name. FailsToWrite StartCall name a c) (sym output.name) (write_fails_since StartCall (name_of file) a b c same cause.1.fails);
+      before = λ i lt. absurd (omega arith);
+      here = subst (λ name. (c.told name ≡ a.told name) ⊎ (c.told name ≡ Known (Some []))) (sym output.name)
+          (elim cause.1.told [ inl still ↦ inl (still ∙ ap (λ (t : List ℕ → Told). t (name_of file)) looks.told) | inr empty ↦ inr empty ]);
+      later = λ i lt low. absurd (let one = output.count in omega arith);
+    });
   };
   others = others command file a b c output looks touches;
+  counted = cause.1.fails.counts ∙ ap with_write_fault same;
 })
 
 pub append_refused : (command : Command) (file : File) (a b c d : ShelfState) (bytes : List ℕ) (stop : Stop) → HasOutput command file → Writes command a b bytes → Touches (name_of file) b c → Starts (name_of file) b c →
     Touches (name_of file) c d → IsAppendStop file bytes c d stop → Performs command a d (Err stop)
-append_refused command file a b c d bytes stop output writes starts started appends cause = subst (λ stop. Performs command a d (Err stop)) (sym cause.0) (record {
-  cause = (fails_since (name_of file) a c d (let e = writes.looks.write_faults in let f = starts.write_faults in omega arith) cause.1.fails, writes.goes_on);
-  outputs = record {
-    started = 1;
-    begun = λ files i told lt low.
-        let first : i ≡ 0 = first_output i lt in
-        subst (λ i. HoldsPrefix (d.told ((outputs command).name i)) (output_bytes command files i)) (sym first)
-        (subst (λ name. HoldsPrefix (d.told name) (output_bytes command files 0)) (sym output.name) (subst (HoldsPrefix (d.told (name_of file))) (writes.content files told) (grows_part_holds _ _ bytes cause.1.told started.told)));
-    next = λ low. absurd (let one = output.count in omega arith);
-    later = λ i lt low. absurd (let one = output.count in omega arith);
-  };
-  others = others command file a b d output writes.looks (touches_again (name_of file) b c d starts appends);
-})
+append_refused command file a b c d bytes stop output writes starts started appends cause =
+    let same : c.counts ≡ a.counts = started.succeeds.counts ∙ writes.same in
+    subst (λ stop. Performs command a d (Err stop)) (sym cause.0) (record {
+      cause = writes.goes_on;
+      outputs = record {
+        at = 0;
+        known = subst (λ n. 0 < n) (sym output.count) (lit< tt);
+        named = sym output.name;
+        how = inr (record {
+          fails = subst (λ name. FailsToWrite AppendCall name a d) (sym output.name) (write_fails_since AppendCall (name_of file) a c d same cause.1.fails);
+          before = λ i lt. absurd (omega arith);
+          here = λ files told.
+              subst (λ name. HoldsPrefix (d.told name) (output_bytes command files 0)) (sym output.name) (subst (HoldsPrefix (d.told (name_of file))) (writes.content files told) (grows_part_holds _ _ bytes cause.1.told started.told));
+          later = λ i lt low. absurd (let one = output.count in omega arith);
+        });
+      };
+      others = others command file a b d output writes.looks (touches_again (name_of file) b c d starts appends);
+      counted = cause.1.fails.counts ∙ ap with_write_fault same;
+    })
 
 -- the whole output stands
 pub whole : (command : Command) (file : File) (a b c d : ShelfState) (bytes : List ℕ) → HasOutput command file → Writes command a b bytes → Starts (name_of file) b c → Appends (name_of file) bytes c d → AreWhole command a d
-whole command file a b c d bytes output writes started appends files i told low =
+whole command file a b c d bytes output writes started appends i low files told =
     let first : i ≡ 0 = first_output i (subst (λ n. i < n) output.count low) in
     subst (λ i. Holds (d.told ((outputs command).name i)) (output_bytes command files i)) (sym first)
     (subst (λ name. Holds (d.told name) (output_bytes command files 0)) (sym output.name) (subst (Holds (d.told (name_of file))) (writes.content files told) (grows_holds _ _ bytes [] appends.told started.told)))
@@ -82,4 +92,5 @@ writing_done command file a b c d bytes done output writes starts started touche
   cause = comes;
   outputs = whole command file a b c d bytes output writes started appends;
   others = others command file a b d output writes.looks (touches_again (name_of file) b c d starts touches);
+  counted = appends.succeeds.counts ∙ started.succeeds.counts ∙ writes.same;
 }

@@ -1,17 +1,19 @@
 -- What taking a line apart gives.
-use Rattle.std.proofs.Common.{◌≡◌, ℕ, zero, suc, ◌<◌, nat_lt, List, [], ◌∷◌, ◌++◌, Bool, true, Option, None, Some, length, take, replicate, refl, ap, sym, ◌∙◌, subst, arith}
+use Rattle.std.proofs.Common.{◌≡◌, ℕ, zero, suc, ◌/◌, ◌<◌, nat_lt, List, [], ◌∷◌, ◌++◌, Bool, true, Option, None, Some, length, take, replicate, refl, ap, sym, ◌∙◌, subst, arith}
 use Rattle.std.specs.Prelude.{IsTrue, slice_get}
 use Rattle.std.proofs.Math.Seq.{take-length, take-append_seam}
-use Rattle.std.proofs.lemmas.Bool.{lt-ltb}
+use Rattle.std.proofs.lemmas.Bool.{lt-ltb, ltb-true}
 use Rattle.std.proofs.lemmas.List.{length-replicate}
 use Rattle.pdh_bits.specs.Bits.{bits_of, bytes_of}
 use Rattle.pdh_edge.specs.Ports.{Inputs, Outputs, before, after}
-use Rattle.pdh_edge.specs.MemLists.{inputs_of, outputs_of}
+use Rattle.pdh_edge.specs.MemLists.{inputs_of, outputs_of, length_of, bits_held}
 use Rattle.pdh_nesting.specs.Chains.{width}
 use Rattle.pdh_nesting.specs.Receiving.{far}
 use Rattle.pdh_chain.specs.declared.chain.Chain.{Chain}
 use Rattle.pdh_chain.specs.Chains.{shapes_of, leaves_of}
-use Rattle.pdh_chain.specs.Demuxes.{Demuxes, received_of, top_delivered}
+use Rattle.pdh_chain.specs.Demuxes.{Demuxes, DemuxesPart, received_of, top_delivered}
+use Rattle.pdh_chain.proofs.ChainLaws.{are_frames}
+use Rattle.pdh_chain.proofs.ShortLists.{demux_short}
 use Rattle.pdh_ops.specs.Demux.{output_of}
 use Rattle.pdh_ops.specs.Steps.{AreBytes, IsReceived}
 use Rattle.pdh_ops.proofs.Levels.{leaves-are}
@@ -28,6 +30,18 @@ empty_list : (n k : ℕ) → k < n → ◌≡◌ {A = Option (List Bool)} (slice
 empty_list zero k low = absurd (omega arith)
 empty_list (suc n) zero low = refl
 empty_list (suc n) (suc k) low = empty_list n k (omega arith)
+
+-- it has room for a leaf's share of the line
+pub shares_in_room : (chain : Chain) (bits k : ℕ) (room : ℕ → ℕ) (inputs inputs_now : Inputs) (outputs outputs_now : Outputs) → outputs ≡ outputs_of (replicate (leaves_of chain) []) → outputs_now.holds ≡ outputs.holds
+    → ((k : ℕ) → k < leaves_of chain → bits / leaves_of chain < room k) → DemuxesPart (shapes_of chain) bits inputs inputs_now outputs outputs_now → IsTrue (outputs_now.holds k) → bits_held outputs_now k < room k
+shares_in_room chain bits k room inputs inputs_now outputs outputs_now opened holds enough put held =
+    let is : IsTrue (nat_lt k (length (replicate (leaves_of chain) []))) = subst IsTrue (ap (λ h. h k) holds ∙ ap (λ (o : Outputs). o.holds k) opened) held in
+    let less : k < length (replicate {A = List Bool} (leaves_of chain) []) = ltb-true _ _ is in
+    let low : k < leaves_of chain = omega (arith, less, length-replicate {A = List Bool} (leaves_of chain) []) in
+    let empty : bits_held outputs k ≡ 0 = ap (λ (o : Outputs). bits_held o k) opened ∙ ap length_of (empty_list (leaves_of chain) k low) in
+    let most = demux_short (shapes_of chain) bits inputs inputs_now outputs outputs_now (are_frames chain) put k in
+    let share : bits / width (shapes_of chain) ≡ bits / leaves_of chain = ap (λ n. bits / n) (sym (leaves-are chain)) in
+    omega (arith, most, empty, share, enough k low)
 
 -- ---- the line
 

@@ -1,20 +1,23 @@
 -- What the step that reads a schedule finds, and the commands that begin with it.
-use Rattle.std.proofs.Common.{◌≡◌, ℕ, ◌<◌, nat_lt, List, [], Option, Some, Ok, Err, true, length, refl, ap, sym, ◌∙◌, subst, arith}
+use Rattle.std.proofs.Common.{◌≡◌, ℕ, ◌<◌, ◌≤◌, nat_lt, List, [], Option, None, Some, Ok, Err, true, length, refl, ap, sym, ◌∙◌, subst, inl, inr, arith}
+use Rattle.std.specs.Option.{option_map}
 use Rattle.std.specs.Prelude.{unwrap_or, Result}
 use Rattle.std.proofs.lemmas.Bool.Decides.{nat_tests}
-use Rattle.pdh_edge.specs.Files.{ShelfState, Holds, FailsToRead}
+use Rattle.pdh_edge.specs.declared.shelf.Call.TheVariants.{Read as ReadCall}
+use Rattle.pdh_edge.specs.Files.{ShelfState, WhereTold, Holds, FailsToRead}
 use Rattle.pdh_edge.specs.Files.Told.{Known}
 use Rattle.pdh_clock.specs.Row.{Row}
 use Rattle.pdh_clock.specs.Judged.{schedule_of, Fails}
 use Rattle.pdh_clock.specs.declared.fault.ScheduleFault.{ScheduleFault}
 use Rattle.pdh_clock.specs.declared.fault.ScheduleFault.TheVariants.{TooLong, BadRow as RowIsBad, UnknownNode as NodeIsUnknown, CountOver as CountIsOver, Memory as NoMemory}
 use Rattle.pdh_words.specs.declared.commands.Command.{Command}
-use Rattle.pdh_ops.specs.Names.{schedule_name, name_of}
+use Rattle.pdh_ops.specs.Names.{schedule_name}
 use Rattle.pdh_ops.specs.Answer.{Answer, and_then}
 use Rattle.pdh_ops.specs.Reading.{HasLength, IsReadStop}
 use Rattle.pdh_ops.specs.Schedules.{Files, rows_of, rows_or_stop, stop_of_fault}
-use Rattle.pdh_ops.specs.Commands.{AreTold, comes_to}
-use Rattle.pdh_ops.specs.Run.{Comes}
+use Rattle.pdh_ops.specs.Commands.{AreTold, OfInputs, inputs, comes_to, AreHeld}
+use Rattle.pdh_ops.specs.Run.{Comes, FailsInTurn}
+use Rattle.pdh_ops.proofs.Refusing.{read_stop}
 use Rattle.pdh_ops.specs.Refusing.{Refuses}
 use Rattle.pdh_ops.specs.ScheduleSteps.{RowsAre, IsScheduleStop}
 use Rattle.pdh_ops.specs.declared.file.File.TheVariants.{Schedule}
@@ -29,28 +32,21 @@ long_rows : (chain : Chain) (text : List ℕ) → 33554432 < length text → row
 unfolding rows_of schedule_of
 long_rows chain text h = let test : nat_lt 33554432 (length text) ≡ true = grind (arith, nat_tests) in rw test refl
 
+short_text : (held : Option (List ℕ)) (bytes : ℕ) → Some bytes ≡ option_map length held → bytes ≤ 33554432 → length (unwrap_or held []) ≤ 33554432
+short_text None bytes e few = absurd (cc)
+short_text (Some text) bytes e few = let same : bytes ≡ length text = cc in omega arith
+
 pub long_stops : (chain : Chain) (a : ShelfState) (bytes : ℕ) → HasLength schedule_name bytes a → 33554432 < bytes → RowsAre chain a (Err LongSchedule)
 long_stops chain a bytes known long text told =
     let e : Some bytes ≡ Some (length text) = known.told (Some text) told in
     let same : bytes ≡ length text = cc in
     long_rows chain text (subst (λ n. 33554432 < n) same long)
 
-pub read_stops : (chain : Chain) (a b : ShelfState) (stop : Stop) → IsReadStop Schedule a b stop → IsScheduleStop chain a b stop
-read_stops chain a b Memory cause = tt
-read_stops chain a b (Read failed) cause = subst (λ f. FailsToRead (name_of f) a b) (sym cause.0) cause.1
-read_stops chain a b (Missing f) cause = absurd cause
-read_stops chain a b Usage cause = absurd cause
-read_stops chain a b (Write f) cause = absurd cause
-read_stops chain a b LongSchedule cause = absurd cause
-read_stops chain a b (BadRow l) cause = absurd cause
-read_stops chain a b (UnknownNode l) cause = absurd cause
-read_stops chain a b (CountOver l n m) cause = absurd cause
-read_stops chain a b (ShortNode p h n) cause = absurd cause
-read_stops chain a b (Short f h n) cause = absurd cause
-read_stops chain a b (Overflow p) cause = absurd cause
-read_stops chain a b (Underflow p) cause = absurd cause
-read_stops chain a b (ManyFrames n) cause = absurd cause
-read_stops chain a b (NoAlignment n) cause = absurd cause
+pub read_stops : (chain : Chain) (a b : ShelfState) (bytes : ℕ) (stop : Stop) → HasLength schedule_name bytes a → bytes ≤ 33554432 → IsReadStop Schedule a b stop → IsScheduleStop chain a b stop
+read_stops chain a b bytes stop known few cause = elim (read_stop Schedule a b stop cause) [
+  | inl none ↦ subst (IsScheduleStop chain a b) (sym none) tt
+  | inr fails ↦ subst (IsScheduleStop chain a b) (sym fails.0) (refl, fails.1, λ held told. short_text held bytes (known.told held told) few)
+]
 
 -- the text that was read is the schedule's
 text_is : (a : ShelfState) (read text : List ℕ) → Holds (a.told schedule_name) read → a.told schedule_name ≡ Known (Some text) → text ≡ read
@@ -79,6 +75,21 @@ fault_stops chain a b read (CountIsOver line count most) holds said = fault_read
 
 -- ---- a command that begins with the schedule
 
+-- input k is the schedule, and all inputs are held
+pub record HasSchedule (command : Command) (k : ℕ) (a : ShelfState) : Type 0 where
+  pub known : k < (inputs command).count
+  pub named : (inputs command).name k ≡ schedule_name
+  pub held : OfInputs command a (AreHeld command (inputs command).count)
+
+-- a call for its text failed in its turn
+text_fails : (command : Command) (k : ℕ) (a b : ShelfState) → HasSchedule command k a → FailsToRead ReadCall schedule_name a b → WhereTold (a.told schedule_name) (λ held. length (unwrap_or held []) ≤ 33554432) → FailsInTurn command Schedule a b
+text_fails command k a b has fails short = record {
+  at = k;
+  known = has.known;
+  named = sym has.named;
+  how = inr (fails, λ files told. (has.held files told, short (files schedule_name) (subst (λ name. a.told name ≡ Known (files name)) has.named (told k has.known))));
+}
+
 -- the text of the schedule is told, and the command comes to what its rows come to, or stops as they do
 abbrev pub Begins : (chain : Chain) → Command → (Files → List Row → Answer) → ShelfState → Type 0
 Begins chain command next a =
@@ -90,22 +101,22 @@ comes chain command next a stop begins are files told =
     let t = begins files told in
     sym (t.2 ∙ ap (λ (r : Result (List Row) Stop). and_then r (next files)) (are t.0 t.1))
 
-pub schedule_refuses : (chain : Chain) (command : Command) (next : Files → List Row → Answer) (a b : ShelfState) (stop : Stop) → Begins chain command next a → IsScheduleStop chain a b stop → Refuses command a b stop
-schedule_refuses chain command next a b Memory begins cause = tt
-schedule_refuses chain command next a b (Read file) begins cause = cause
-schedule_refuses chain command next a b LongSchedule begins cause = comes chain command next a LongSchedule begins cause
-schedule_refuses chain command next a b (BadRow l) begins cause = comes chain command next a (BadRow l) begins cause
-schedule_refuses chain command next a b (UnknownNode l) begins cause = comes chain command next a (UnknownNode l) begins cause
-schedule_refuses chain command next a b (CountOver l n m) begins cause = comes chain command next a (CountOver l n m) begins cause
-schedule_refuses chain command next a b (Missing f) begins cause = absurd cause
-schedule_refuses chain command next a b Usage begins cause = absurd cause
-schedule_refuses chain command next a b (Write f) begins cause = absurd cause
-schedule_refuses chain command next a b (ShortNode p h n) begins cause = absurd cause
-schedule_refuses chain command next a b (Short f h n) begins cause = absurd cause
-schedule_refuses chain command next a b (Overflow p) begins cause = absurd cause
-schedule_refuses chain command next a b (Underflow p) begins cause = absurd cause
-schedule_refuses chain command next a b (ManyFrames n) begins cause = absurd cause
-schedule_refuses chain command next a b (NoAlignment n) begins cause = absurd cause
+pub schedule_refuses : (chain : Chain) (command : Command) (next : Files → List Row → Answer) (k : ℕ) (a b : ShelfState) (stop : Stop) → Begins chain command next a → HasSchedule command k a → IsScheduleStop chain a b stop → Refuses command a b stop
+schedule_refuses chain command next k a b Memory begins has cause = tt
+schedule_refuses chain command next k a b (Read file) begins has cause = subst (λ f. FailsInTurn command f a b) (sym cause.0) (text_fails command k a b has cause.1 cause.2)
+schedule_refuses chain command next k a b LongSchedule begins has cause = comes chain command next a LongSchedule begins cause
+schedule_refuses chain command next k a b (BadRow l) begins has cause = comes chain command next a (BadRow l) begins cause
+schedule_refuses chain command next k a b (UnknownNode l) begins has cause = comes chain command next a (UnknownNode l) begins cause
+schedule_refuses chain command next k a b (CountOver l n m) begins has cause = comes chain command next a (CountOver l n m) begins cause
+schedule_refuses chain command next k a b (Missing f) begins has cause = absurd cause
+schedule_refuses chain command next k a b Usage begins has cause = absurd cause
+schedule_refuses chain command next k a b (Write f) begins has cause = absurd cause
+schedule_refuses chain command next k a b (ShortNode p h n) begins has cause = absurd cause
+schedule_refuses chain command next k a b (Short f h n) begins has cause = absurd cause
+schedule_refuses chain command next k a b (Overflow p) begins has cause = absurd cause
+schedule_refuses chain command next k a b (Underflow p) begins has cause = absurd cause
+schedule_refuses chain command next k a b (ManyFrames n) begins has cause = absurd cause
+schedule_refuses chain command next k a b (NoAlignment n) begins has cause = absurd cause
 
 -- and with rows it comes to what they come to
 pub comes_on : (chain : Chain) (command : Command) (next : Files → List Row → Answer) (a : ShelfState) (rows : List Row) (files : Files) → Begins chain command next a → RowsAre chain a (Ok rows) → AreTold command a.told files →

@@ -1,15 +1,18 @@
 -- Calls that follow each other.
-use Rattle.std.proofs.Common.{◌≡◌, ℕ, List, Some, true, refl, ap, sym, subst, ◌∙◌, ◌≤◌, arith}
-use Rattle.pdh_edge.specs.Files.{ShelfState, Told, Looks, HasSize, TouchesOnly, Touches, FailsToWrite}
+use Rattle.std.proofs.Common.{◌≡◌, ℕ, List, Some, true, refl, ap, sym, subst, ◌∙◌, inl, inr}
+use Rattle.pdh_edge.specs.declared.shelf.Call.{Call}
+use Rattle.pdh_edge.specs.declared.shelf.Call.TheVariants.{Start as StartCall}
+use Rattle.pdh_edge.specs.Files.{ShelfState, Counts, Told, Looks, HasSize, TouchesOnly, Touches, FailsToRead, FailsToWrite, with_read_fault, with_write_fault}
+use Rattle.pdh_words.specs.declared.commands.Command.{Command}
+use Rattle.pdh_ops.specs.Commands.{outputs}
+use Rattle.pdh_ops.specs.Run.{with_stop, StopsAtStart}
+use Rattle.pdh_ops.specs.declared.answer.Stop.{Stop}
 use Rattle.pdh_ops.specs.Reading.{HasLength}
 
 pub touches_none : (P : List ℕ → Type 0) (a : ShelfState) → TouchesOnly P a a
 touches_none P a = record {
   told = λ name out. refl;
   readable = λ name at len out was. was;
-  read_faults = refl;
-  write_faults = omega arith;
-  misses = refl;
   tells_name = refl;
 }
 
@@ -17,15 +20,29 @@ pub touches_then : (P : List ℕ → Type 0) (name : List ℕ) (a b c : ShelfSta
 touches_then P name a b c may first then_ = record {
   told = λ other out. then_.told other (λ e. out (subst P (sym e) may)) ∙ first.told other out;
   readable = λ other at len out was. then_.readable other at len (λ e. out (subst P (sym e) may)) (first.readable other at len out was);
-  read_faults = then_.read_faults ∙ first.read_faults;
-  write_faults = omega arith;
-  misses = then_.misses ∙ first.misses;
   tells_name = then_.tells_name ∙ first.tells_name;
 }
 
--- a failure to write, since an earlier state
-pub fails_since : (name : List ℕ) (a b c : ShelfState) → a.write_faults ≤ b.write_faults → FailsToWrite name b c → FailsToWrite name a c
-fails_since name a b c le fails = record { rose = omega arith; last = fails.last }
+-- a failure to write, since an earlier state with the same counts
+pub write_fails_since : (call : Call) (name : List ℕ) (a b c : ShelfState) → b.counts ≡ a.counts → FailsToWrite call name b c → FailsToWrite call name a c
+write_fails_since call name a b c same fails = record { counts = fails.counts ∙ ap with_write_fault same; last = fails.last }
+
+-- a failure to read, since an earlier state with the same counts
+pub read_fails_since : (call : Call) (name : List ℕ) (a b c : ShelfState) → b.counts ≡ a.counts → FailsToRead call name b c → FailsToRead call name a c
+read_fails_since call name a b c same fails = record { counts = fails.counts ∙ ap with_read_fault same; last = fails.last }
+
+-- what a step counted that stopped, since an earlier state with the same counts
+pub counted_since : (x y z : Counts) (stop : Stop) → y ≡ x → z ≡ with_stop stop y → z ≡ with_stop stop x
+counted_since x y z stop same counted = counted ∙ ap (with_stop stop) same
+
+-- an output of which the start failed, since an earlier state with the same files and counts
+pub starts_since : (command : Command) (k : ℕ) (a b c : ShelfState) → Looks a b → b.counts ≡ a.counts → StopsAtStart command k b c → StopsAtStart command k a c
+starts_since command k a b c looks same cut = record {
+  fails = write_fails_since StartCall ((outputs command).name k) a b c same cut.fails;
+  before = cut.before;
+  here = elim cut.here [ inl still ↦ inl (still ∙ ap (λ (t : List ℕ → Told). t ((outputs command).name k)) looks.told) | inr none ↦ inr none ];
+  later = λ i lt low. cut.later i lt low ∙ ap (λ (t : List ℕ → Told). t ((outputs command).name i)) looks.told;
+}
 
 pub looks_same : (a b : ShelfState) (name : List ℕ) → Looks a b → b.told name ≡ a.told name
 looks_same a b name looks = ap (λ (t : List ℕ → Told). t name) looks.told
@@ -48,11 +65,8 @@ pub looks_then : (a b c : ShelfState) → Looks a b → Looks b c → Looks a c
 looks_then a b c first then_ = record {
   told = then_.told ∙ first.told;
   readable = λ name at len any was. then_.readable name at len any (first.readable name at len any was);
-  read_faults = omega arith;
-  write_faults = then_.write_faults ∙ first.write_faults;
-  misses = omega arith;
   tells_name = then_.tells_name ∙ first.tells_name;
 }
 
 pub looks_none : (a : ShelfState) → Looks a a
-looks_none a = record { told = refl; readable = λ name at len any was. was; read_faults = omega arith; write_faults = refl; misses = omega arith; tells_name = refl }
+looks_none a = record { told = refl; readable = λ name at len any was. was; tells_name = refl }

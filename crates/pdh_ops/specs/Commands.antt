@@ -1,7 +1,7 @@
 -- The commands: what they read and write, and what they come to. Each definition has one equation for
 -- each command.
-use Rattle.std.specs.Prelude.{◌≡◌, ℕ, zero, suc, ◌<◌, List, [], Ok}
-use Rattle.pdh_edge.specs.Files.{Told}
+use Rattle.std.specs.Prelude.{◌≡◌, ℕ, zero, suc, ◌<◌, ◌≤◌, List, [], length, Bool, true, false, is_none, Ok, Err}
+use Rattle.pdh_edge.specs.Files.{Told, ShelfState}
 use Rattle.pdh_edge.specs.Files.Told.{Known}
 use Rattle.pdh_chain.specs.Chains.{leaves_of}
 use Rattle.pdh_ops.specs.Names.{line_name, schedule_name, leaf_name, output_name}
@@ -12,6 +12,9 @@ use Rattle.pdh_ops.specs.Mux.{mux_inputs, all_held, muxed, line_bytes}
 use Rattle.pdh_ops.specs.Clock.{check_inputs, checked, made_text, clock_made}
 use Rattle.pdh_words.specs.declared.commands.Command.{Command}
 use Rattle.pdh_words.specs.declared.commands.Command.TheVariants.{Demux, Mux, ClockCheck, ClockMake}
+use Rattle.pdh_ops.specs.declared.file.File.{File}
+use Rattle.pdh_ops.specs.declared.file.File.TheVariants.{Schedule}
+use Rattle.pdh_ops.specs.declared.answer.Stop.TheVariants.{Overflow, Underflow, NoAlignment}
 
 -- so many names, in order
 pub record Names : Type 0 where
@@ -55,6 +58,31 @@ comes_to (ClockMake chain frames bias) files = clock_made chain frames bias
 abbrev pub AreTold : Command → (List ℕ → Told) → Files → Type 0
 AreTold command told files = (i : ℕ) → i < (inputs command).count → told ((inputs command).name i) ≡ Known (files ((inputs command).name i))
 
+-- where its inputs are told, this holds of them
+abbrev pub OfInputs : Command → ShelfState → (Files → Type 0) → Type 0
+OfInputs command state P = (files : Files) → AreTold command state.told files → P files
+
 -- the name is that of an output of the command
 abbrev pub IsOutput : Command → List ℕ → Type 0
 IsOutput command name = (i : ℕ) × (i < (outputs command).count) × (name ≡ (outputs command).name i)
+
+-- ---- when a step is due
+
+-- no step before the outputs refuses the inputs; an event of a store, and a line without an alignment, are told behind the
+-- start of the outputs
+abbrev pub reaches_outputs : Answer → Bool
+reaches_outputs (Ok done) = true
+reaches_outputs (Err (Overflow place)) = true
+reaches_outputs (Err (Underflow place)) = true
+reaches_outputs (Err (NoAlignment bits)) = true
+reaches_outputs (Err stop) = false
+
+-- the first k inputs are held
+abbrev pub AreHeld : Command → ℕ → Files → Type 0
+AreHeld command k files = (i : ℕ) → i < k → is_none (files ((inputs command).name i)) ≡ false
+
+-- The bytes of an input are read where no step before refuses the inputs: those of the schedule where all inputs are held
+-- and its text isn't too long, and those of any other file where nothing refuses before the outputs.
+abbrev pub IsReadDue : Command → File → Files → Type 0
+IsReadDue command Schedule files = AreHeld command (inputs command).count files × (length (bytes_in files schedule_name) ≤ 33554432)
+IsReadDue command file files = reaches_outputs (comes_to command files) ≡ true

@@ -1,8 +1,9 @@
 -- What `mux` wrote, `demux` gives back in order.
-use Rattle.std.specs.Prelude.{◌≡◌, ℕ, ◌*◌, ◌<◌, ◌≤◌, List, ⊤, Bool, Option, Some, length, take}
+use Rattle.std.specs.Prelude.{◌≡◌, ℕ, ◌*◌, ◌<◌, ◌≤◌, List, ⊤, Option, Some, length, take}
 use Rattle.pdh_bits.specs.Bits.{bits_of}
 use Rattle.pdh_edge.specs.Files.{ShelfState}
 use Rattle.pdh_edge.specs.Files.Told.{Known}
+use Rattle.pdh_edge.specs.Ports.{IsPrefix}
 use Rattle.pdh_nesting.specs.Chains.{top_len}
 use Rattle.pdh_nesting.specs.Receiving.{far}
 use Rattle.pdh_chain.specs.Chains.{shapes_of, leaves_of}
@@ -12,10 +13,6 @@ use Rattle.pdh_ops.specs.Mux.{leaf_bits}
 use Rattle.pdh_ops.specs.Commands.{AreTold}
 use Rattle.pdh_words.specs.declared.commands.Command.{Command}
 use Rattle.pdh_words.specs.declared.commands.Command.TheVariants.{Mux}
-
--- the one list is a prefix of the other
-abbrev pub IsPrefix : List Bool → List Bool → Type 0
-IsPrefix front bits = (m : ℕ) × (front ≡ take m bits)
 
 -- After status 0 of `mux`, of whose line a receiver has the first n frames: what it received of each leaf is a prefix of
 -- the bits of that leaf's file.

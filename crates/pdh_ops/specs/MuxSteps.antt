@@ -1,31 +1,29 @@
 -- The steps of `mux`: what each finds, and why it stops.
-use Rattle.std.specs.Prelude.{◌≡◌, ℕ, ◌*◌, ◌<◌, ◌≤◌, List, Bool, Option, Some, None, Ok, length, Vec, slice_index, slice_index_or}
+use Rattle.std.specs.Prelude.{◌≡◌, ℕ, ◌*◌, ◌<◌, ◌≤◌, List, Bool, Option, Some, None, Ok, if◌then◌else◌, IsTrue, length, Vec, slice_index, slice_index_or}
 use Rattle.std.specs.Option.{option_map}
 use Rattle.std.specs.declared.alloc.Global.{Global}
 use Rattle.pdh_bits.specs.Bits.{bytes_of}
 use Rattle.pdh_edge.specs.Files.{ShelfState}
+use Rattle.pdh_edge.specs.Ports.{Inputs, Outputs}
 use Rattle.pdh_shape.specs.declared.place.Path.{Path}
+use Rattle.pdh_shape.specs.declared.place.Place.{Place}
 use Rattle.pdh_chain.specs.Chains.{shapes_of, leaves_of}
 use Rattle.pdh_chain.specs.declared.chain.Chain.{Chain}
 use Rattle.pdh_line.specs.Events.{Event}
-use Rattle.pdh_chain.specs.Muxes.{frames_of_line}
+use Rattle.pdh_chain.specs.Muxes.{frames_of_line, Muxes, StopsAtEvent}
 use Rattle.pdh_clock.specs.Row.{Row}
-use Rattle.pdh_clock.specs.Contents.{counts}
+use Rattle.pdh_clock.specs.Contents.{counts, frame_count}
 use Rattle.pdh_ops.specs.Names.{schedule_name, leaf_name}
 use Rattle.pdh_ops.specs.Reading.{HasLength}
 use Rattle.pdh_ops.specs.Schedules.{Files, bytes_in, rows_of, frames_in}
 use Rattle.pdh_ops.specs.Mux.{mux_inputs, all_held, leaf_bits, short_node, stop_of_shortage, bits_needed, event_of, frames_made, stop_of_event}
-use Rattle.pdh_ops.specs.Commands.{AreTold}
+use Rattle.pdh_ops.specs.Commands.{OfInputs}
 use Rattle.pdh_words.specs.declared.commands.Command.TheVariants.{Mux}
 use Rattle.pdh_ops.specs.declared.file.File.TheVariants.{Leaf}
 use Rattle.pdh_ops.specs.declared.mux.InputSizes.{InputSizes}
 use Rattle.pdh_ops.specs.declared.mux.Made.{Made}
 use Rattle.pdh_ops.specs.declared.answer.Stop.{Stop}
-use Rattle.pdh_ops.specs.declared.answer.Stop.TheVariants.{ShortNode, Short, ManyFrames}
-
--- where the inputs of `mux` are told, this holds of them
-abbrev pub OfInputs : Chain → ShelfState → (Files → Type 0) → Type 0
-OfInputs chain state P = (files : Files) → AreTold (Mux chain) state.told files → P files
+use Rattle.pdh_ops.specs.declared.answer.Stop.TheVariants.{ShortNode, Short, Overflow, Underflow, ManyFrames}
 
 -- the sizes of the inputs
 pub record AreSizes (chain : Chain) (sizes : InputSizes) (state : ShelfState) : Type 0 where
@@ -33,12 +31,12 @@ pub record AreSizes (chain : Chain) (sizes : InputSizes) (state : ShelfState) : 
   pub leaf : (k : ℕ) → k < leaves_of chain → HasLength (leaf_name k) (slice_index sizes.leaves k) state
 
 -- all inputs are held
-abbrev pub AreHeld : Chain → ShelfState → Type 0
-AreHeld chain state = OfInputs chain state (λ files. all_held (mux_inputs chain) files ≡ Ok tt)
+abbrev pub AllHeld : Chain → ShelfState → Type 0
+AllHeld chain state = OfInputs (Mux chain) state (λ files. all_held (mux_inputs chain) files ≡ Ok tt)
 
 -- the schedule has these rows
 abbrev pub HasRows : Chain → ShelfState → List Row → Type 0
-HasRows chain state rows = OfInputs chain state (λ files. rows_of chain (bytes_in files schedule_name) ≡ Ok rows)
+HasRows chain state rows = OfInputs (Mux chain) state (λ files. rows_of chain (bytes_in files schedule_name) ≡ Ok rows)
 
 -- leaf k has as many bits as must enter, at least
 abbrev pub IsLong : Chain → List Row → InputSizes → ℕ → Type 0
@@ -77,7 +75,21 @@ IsEnoughStop chain rows sizes _ = ⊥
 pub record AreLeaves (chain : Chain) (sizes : InputSizes) (state : ShelfState) (leaves : List (Vec Bool Global)) : Type 0 where
   pub count : length leaves ≡ leaves_of chain
   pub len : (k : ℕ) (d : Vec Bool Global) → k < leaves_of chain → length (slice_index_or leaves k d).items ≡ 8 * slice_index sizes.leaves k
-  pub bits : (k : ℕ) (d : Vec Bool Global) → k < leaves_of chain → OfInputs chain state (λ files. (slice_index_or leaves k d).items ≡ leaf_bits files k)
+  pub bits : (k : ℕ) (d : Vec Bool Global) → k < leaves_of chain → OfInputs (Mux chain) state (λ files. (slice_index_or leaves k d).items ≡ leaf_bits files k)
+
+-- A port can send so many frames of the line: they are those of the schedule, each node has those that it begins, and each
+-- leaf's list has as many bits as must enter.
+pub record CanSend (chain : Chain) (rows : List Row) (frames : ℕ) (inputs : Inputs) : Type 0 where
+  pub frames_are : frames ≡ frames_in rows
+  pub scheduled : short_node chain rows ≡ None
+  pub holds : (k : ℕ) → k < leaves_of chain → IsTrue (inputs.holds k)
+  pub long : (k : ℕ) → k < leaves_of chain → bits_needed chain rows k ≤ inputs.left k
+
+-- so many frames of the line were put; or the first event ends the command so, and the whole frames before it were put
+abbrev pub IsSent : Chain → List Row → ℕ → Inputs → Inputs → Outputs → Outputs → Option Stop → Type 0
+IsSent chain rows frames inputs inputs_now outputs outputs_now None = Muxes (shapes_of chain) (counts rows) (frame_count rows) frames inputs inputs_now outputs outputs_now
+IsSent chain rows frames inputs inputs_now outputs outputs_now (Some stop) =
+    (over : Bool) × (place : Place) × (stop ≡ (if over then Overflow place else Underflow place)) × StopsAtEvent (shapes_of chain) (counts rows) (frame_count rows) frames over place inputs inputs_now outputs outputs_now
 
 -- how an event ends the command, if there is one
 abbrev pub IsEnd : Option Event → Option Stop → Type 0

@@ -1,7 +1,8 @@
 -- The steps that read an input: what they find, and why they stop.
 use Rattle.std.specs.Prelude.{◌≡◌, ℕ, ◌+◌, ◌≤◌, List, true, ⊤, Some, None, length}
 use Rattle.std.specs.Option.{option_map}
-use Rattle.pdh_edge.specs.Files.{ShelfState, WhereTold, Rose, FailsToRead}
+use Rattle.pdh_edge.specs.Files.{ShelfState, WhereTold, FailsToRead}
+use Rattle.pdh_edge.specs.declared.shelf.Call.TheVariants.{Size as SizeCall, Read as ReadCall}
 use Rattle.pdh_ops.specs.Names.{name_of}
 use Rattle.pdh_ops.specs.declared.file.File.{File}
 use Rattle.pdh_ops.specs.declared.answer.Stop.{Stop}
@@ -14,12 +15,12 @@ pub record HasLength (name : List ℕ) (bytes : ℕ) (state : ShelfState) : Type
 
 -- why a file's size isn't known: it isn't held, or the call failed
 abbrev pub IsSizeStop : File → ShelfState → ShelfState → Stop → Type 0
-IsSizeStop file old new (Missing missed) = (missed ≡ file) × Rose old.misses new.misses × WhereTold (old.told (name_of file)) (λ held. held ≡ None)
-IsSizeStop file old new (Read failed) = (failed ≡ file) × FailsToRead (name_of file) old new
+IsSizeStop file old new (Missing missed) = (missed ≡ file) × WhereTold (old.told (name_of file)) (λ held. held ≡ None)
+IsSizeStop file old new (Read failed) = (failed ≡ file) × FailsToRead SizeCall (name_of file) old new
 IsSizeStop file old new _ = ⊥
 
 -- why its bytes aren't read: memory is wanting, or the call failed
 abbrev pub IsReadStop : File → ShelfState → ShelfState → Stop → Type 0
 IsReadStop file old new Memory = ⊤
-IsReadStop file old new (Read failed) = (failed ≡ file) × FailsToRead (name_of file) old new
+IsReadStop file old new (Read failed) = (failed ≡ file) × FailsToRead ReadCall (name_of file) old new
 IsReadStop file old new _ = ⊥

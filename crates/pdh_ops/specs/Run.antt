@@ -1,12 +1,14 @@
 -- What a run does, whatever its command.
-use Rattle.std.specs.Prelude.{◌≡◌, ◌⊎◌, ℕ, ◌<◌, ◌≤◌, List, [], ⊤, Bool, true, false, Option, Some, None, Ok, Err}
-use Rattle.pdh_edge.specs.Files.{ShelfState, SinkState, Rose, FailsToRead, FailsToWrite, Holds, HoldsPrefix, Sends, FailsToSend}
+use Rattle.std.specs.Prelude.{◌≡◌, ◌⊎◌, ℕ, ◌<◌, List, [], ⊤, true, Option, Some, None, Result, Ok, Err}
+use Rattle.pdh_edge.specs.Files.{ShelfState, Counts, with_read_fault, with_write_fault, with_miss, SinkState, Rose, FailsToRead, FailsToWrite, Holds, HoldsPrefix, Sends, FailsToSend}
 use Rattle.pdh_edge.specs.Files.Told.{Known}
+use Rattle.pdh_edge.specs.declared.shelf.Call.TheVariants.{Size as SizeCall, Read as ReadCall, Start as StartCall, Append as AppendCall}
 use Rattle.pdh_ops.specs.Names.{name_of}
 use Rattle.pdh_ops.specs.Schedules.{Files}
 use Rattle.pdh_ops.specs.Answer.{Answer, status_of, done_text, stop_text}
-use Rattle.pdh_ops.specs.Commands.{outputs, output_bytes, comes_to, AreTold, IsOutput}
+use Rattle.pdh_ops.specs.Commands.{inputs, outputs, output_bytes, comes_to, AreTold, OfInputs, IsOutput, reaches_outputs, AreHeld, IsReadDue}
 use Rattle.pdh_words.specs.declared.commands.Command.{Command}
+use Rattle.pdh_ops.specs.declared.file.File.{File}
 use Rattle.pdh_ops.specs.declared.answer.Stop.{Stop}
 use Rattle.pdh_ops.specs.declared.answer.Stop.TheVariants.{Memory, Usage, Read, Write, Missing, Overflow, Underflow, NoAlignment}
 
@@ -14,83 +16,114 @@ use Rattle.pdh_ops.specs.declared.answer.Stop.TheVariants.{Memory, Usage, Read, 
 
 -- where its inputs are told, this is what the command comes to
 abbrev pub Comes : Command → ShelfState → Answer → Type 0
-Comes command old answer = (files : Files) → AreTold command old.told files → answer ≡ comes_to command files
+Comes command old answer = OfInputs command old (λ files. answer ≡ comes_to command files)
 
--- no step before the outputs refuses the inputs; an event of a store, and a line without an alignment, are told behind the
--- start of the outputs
-abbrev pub reaches_outputs : Answer → Bool
-reaches_outputs (Ok done) = true
-reaches_outputs (Err (Overflow place)) = true
-reaches_outputs (Err (Underflow place)) = true
-reaches_outputs (Err (NoAlignment bits)) = true
-reaches_outputs (Err stop) = false
-
+-- no step before the outputs refuses the inputs
 abbrev pub GoesOn : Command → ShelfState → Type 0
-GoesOn command old = (files : Files) → AreTold command old.told files → reaches_outputs (comes_to command files) ≡ true
+GoesOn command old = OfInputs command old (λ files. reaches_outputs (comes_to command files) ≡ true)
 
--- Why a command stops. Want of memory has no cause here; a fault of the shelf has risen in its count, and the name is
--- that of the call which failed; every other stop is what the inputs come to.
+-- A call for a file failed to read in its turn: the file is an input of the command; where the call asked for its size, the
+-- inputs before it are held, and where it asked for its bytes, they were due.
+pub record FailsInTurn (command : Command) (file : File) (old new : ShelfState) : Type 0 where
+  pub at : ℕ
+  pub known : at < (inputs command).count
+  pub named : name_of file ≡ (inputs command).name at
+  pub how : (FailsToRead SizeCall (name_of file) old new × OfInputs command old (AreHeld command at)) ⊎ (FailsToRead ReadCall (name_of file) old new × OfInputs command old (IsReadDue command file))
+
+-- Why a command stops. Want of memory has no cause here; a call that failed to read did so in its turn; one that failed to
+-- write did so behind all steps that refuse the inputs; every other stop is what the inputs come to.
 abbrev pub IsCause : Command → ShelfState → ShelfState → Stop → Type 0
 IsCause command old new Memory = ⊤
 IsCause command old new Usage = ⊥
-IsCause command old new (Read file) = FailsToRead (name_of file) old new
-IsCause command old new (Write file) = FailsToWrite (name_of file) old new × GoesOn command old
-IsCause command old new (Missing file) = Rose old.misses new.misses × Comes command old (Err (Missing file))
+IsCause command old new (Read file) = FailsInTurn command file old new
+IsCause command old new (Write file) = GoesOn command old
 IsCause command old new stop = Comes command old (Err stop)
 
 abbrev pub HasCause : Command → ShelfState → ShelfState → Answer → Type 0
 HasCause command old new (Ok done) = Comes command old (Ok done)
 HasCause command old new (Err stop) = IsCause command old new stop
 
+-- ---- what is counted
+
+-- one fault or one miss where the command stops by it, and else nothing
+abbrev pub with_stop : Stop → Counts → Counts
+with_stop (Read file) counts = with_read_fault counts
+with_stop (Write file) counts = with_write_fault counts
+with_stop (Missing file) counts = with_miss counts
+with_stop stop counts = counts
+
+abbrev pub counts_after : {T : Type 0} → Result T Stop → Counts → Counts
+counts_after (Ok x) counts = counts
+counts_after (Err stop) counts = with_stop stop counts
+
+-- a step, or a command, counted that
+abbrev pub IsCounted : {T : Type 0} → ShelfState → ShelfState → Result T Stop → Type 0
+IsCounted old new result = new.counts ≡ counts_after result old.counts
+
 -- ---- what it leaves of the files
 
--- each output has all its bytes
-abbrev pub AreWhole : Command → ShelfState → ShelfState → Type 0
-AreWhole command old new =
-    (files : Files) (i : ℕ) → AreTold command old.told files → i < (outputs command).count
-    → Holds (new.told ((outputs command).name i)) (output_bytes command files i)
+-- output i has all its bytes
+abbrev pub IsWhole : Command → ShelfState → ShelfState → ℕ → Type 0
+IsWhole command old new i = OfInputs command old (λ files. Holds (new.told ((outputs command).name i)) (output_bytes command files i))
 
--- of the outputs the first so many have a prefix of their bytes
-abbrev pub AreBegun : ℕ → Command → ShelfState → ShelfState → Type 0
-AreBegun started command old new =
-    (files : Files) (i : ℕ) → AreTold command old.told files → i < started → i < (outputs command).count
-    → HoldsPrefix (new.told ((outputs command).name i)) (output_bytes command files i)
+-- it has a prefix of its bytes
+abbrev pub IsBegun : Command → ShelfState → ShelfState → ℕ → Type 0
+IsBegun command old new i = OfInputs command old (λ files. HoldsPrefix (new.told ((outputs command).name i)) (output_bytes command files i))
 
--- an output is as before
+-- it is empty
+abbrev pub IsEmpty : Command → ShelfState → ℕ → Type 0
+IsEmpty command new i = Holds (new.told ((outputs command).name i)) []
+
+-- it is as before
 abbrev pub IsSame : Command → ShelfState → ShelfState → ℕ → Type 0
 IsSame command old new i = new.told ((outputs command).name i) ≡ old.told ((outputs command).name i)
 
--- so many outputs were begun; the next is as before or empty, since its start may have failed; the later ones are as before
-pub record AreCut (command : Command) (old new : ShelfState) : Type 0 where
-  pub started : ℕ
-  pub begun : AreBegun started command old new
-  pub next : started < (outputs command).count → IsSame command old new started ⊎ (new.told ((outputs command).name started) ≡ Known (Some []))
-  pub later : (i : ℕ) → started < i → i < (outputs command).count → IsSame command old new i
+-- each output has all its bytes
+abbrev pub AreWhole : Command → ShelfState → ShelfState → Type 0
+AreWhole command old new = (i : ℕ) → i < (outputs command).count → IsWhole command old new i
 
--- How an answer leaves the files. What was done, an event of a store and a line without an alignment leave whole outputs;
--- what refuses before the first start leaves the files as they were; a read may fail before that, or after all outputs are
--- started.
+-- the start of output k failed: those before it are empty, it is as before or empty, and the later ones are as before
+pub record StopsAtStart (command : Command) (k : ℕ) (old new : ShelfState) : Type 0 where
+  pub fails : FailsToWrite StartCall ((outputs command).name k) old new
+  pub before : (i : ℕ) → i < k → IsEmpty command new i
+  pub here : IsSame command old new k ⊎ (new.told ((outputs command).name k) ≡ Known (Some []))
+  pub later : (i : ℕ) → k < i → i < (outputs command).count → IsSame command old new i
+
+-- an append to output k failed: those before it are whole, it has a prefix of its bytes, and the later ones are empty
+pub record StopsAtAppend (command : Command) (k : ℕ) (old new : ShelfState) : Type 0 where
+  pub fails : FailsToWrite AppendCall ((outputs command).name k) old new
+  pub before : (i : ℕ) → i < k → IsWhole command old new i
+  pub here : IsBegun command old new k
+  pub later : (i : ℕ) → k < i → i < (outputs command).count → IsEmpty command new i
+
+-- a call failed to write to a file, which is an output of the command
+pub record AreCut (command : Command) (file : File) (old new : ShelfState) : Type 0 where
+  pub at : ℕ
+  pub known : at < (outputs command).count
+  pub named : name_of file ≡ (outputs command).name at
+  pub how : StopsAtStart command at old new ⊎ StopsAtAppend command at old new
+
+-- How an answer leaves the files. What was done, an event of a store and a line without an alignment leave whole outputs; a
+-- call that failed to write leaves them cut; every other stop, a call that failed to read among them, leaves the files as
+-- they were.
 abbrev pub AreLeft : Command → ShelfState → ShelfState → Answer → Type 0
 AreLeft command old new (Ok done) = AreWhole command old new
 AreLeft command old new (Err (Overflow place)) = AreWhole command old new
 AreLeft command old new (Err (Underflow place)) = AreWhole command old new
 AreLeft command old new (Err (NoAlignment bits)) = AreWhole command old new
-AreLeft command old new (Err (Read file)) = (new.told ≡ old.told) ⊎ AreBegun (outputs command).count command old new
-AreLeft command old new (Err (Write file)) = AreCut command old new
+AreLeft command old new (Err (Write file)) = AreCut command file old new
 AreLeft command old new (Err stop) = new.told ≡ old.told
 
--- no count falls, and all files but those with such names are told as before
-pub record ChangesOnly (may : List ℕ → Type 0) (old new : ShelfState) : Type 0 where
-  pub told : (name : List ℕ) → ¬ may name → new.told name ≡ old.told name
-  pub read_faults : old.read_faults ≤ new.read_faults
-  pub write_faults : old.write_faults ≤ new.write_faults
-  pub misses : old.misses ≤ new.misses
+-- all files but those with such names are told as before
+abbrev pub ChangesOnly : (List ℕ → Type 0) → ShelfState → ShelfState → Type 0
+ChangesOnly may old new = (name : List ℕ) → ¬ may name → new.told name ≡ old.told name
 
 -- what a command does to the shelf
 pub record Performs (command : Command) (old new : ShelfState) (answer : Answer) : Type 0 where
   pub cause : HasCause command old new answer
   pub outputs : AreLeft command old new answer
   pub others : ChangesOnly (IsOutput command) old new
+  pub counted : IsCounted old new answer
 
 -- words that are no row of the table are refused, and then nothing happens
 abbrev pub Does : Option Command → ShelfState → ShelfState → Answer → Type 0
@@ -115,5 +148,5 @@ pub record Runs (command : Option Command) (old new : ShelfState) (before after 
 abbrev pub Completes : Option Command → ShelfState → ShelfState → SinkState → SinkState → ℕ → Type 0
 Completes None old new before after status = ⊤
 Completes (Some command) old new before after status =
-    (files : Files) → AreTold command old.told files → ¬ Rose old.read_faults new.read_faults → ¬ Rose old.write_faults new.write_faults
+    (files : Files) → AreTold command old.told files → ¬ Rose old.counts.read_faults new.counts.read_faults → ¬ Rose old.counts.write_faults new.counts.write_faults
     → IsTold (Err Memory) before after status ⊎ IsTold (comes_to command files) before after status

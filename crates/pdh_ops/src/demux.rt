@@ -1,15 +1,16 @@
-ghost use Rattle.std.specs.Prelude.{◌≡◌, ◌<◌, ℕ, [], ◌∷◌, length, replicate, IsTrue, IfOk, OnOk, OnErr, IfErr, Some, Ok, Vec, slice_index_or};
+ghost use Rattle.std.specs.Prelude.{◌≡◌, ◌<◌, ◌/◌, ◌^◌, ℕ, [], ◌∷◌, length, replicate, IsTrue, IfOk, OnOk, OnErr, IfErr, Some, Ok, Vec, slice_index_or};
 ghost use Rattle.std.specs.declared.alloc.Global.{Global};
 ghost use Rattle.pdh_edge.specs.Files.{TouchesOnly, Holds, HoldsPrefix};
-ghost use Rattle.pdh_edge.specs.MemLists.{inputs_of, outputs_of};
-ghost use Rattle.pdh_chain.specs.Chains.{leaves_of};
+ghost use Rattle.pdh_edge.specs.MemLists.{inputs_of, outputs_of, room_of};
+ghost use Rattle.pdh_chain.specs.Chains.{shapes_of, leaves_of};
+ghost use Rattle.pdh_chain.specs.Demuxes.{Demuxes};
 ghost use Rattle.pdh_ops.specs.Names.{output_name};
 ghost use Rattle.pdh_ops.specs.Demux.{line_of};
 ghost use Rattle.pdh_ops.specs.Commands.{IsOutput};
-ghost use Rattle.pdh_ops.specs.Run.{AreCut, Performs};
+ghost use Rattle.pdh_ops.specs.Run.{Performs, IsCounted};
 ghost use Rattle.pdh_words.specs.declared.commands.Command.TheVariants.{Demux};
-ghost use Rattle.pdh_ops.specs.Steps.{AreBytes, IsReceived};
-ghost use Rattle.pdh_ops.specs.Writing.{IsWriteStop};
+ghost use Rattle.pdh_ops.specs.Steps.{AreBytes, HasLine, IsReceived};
+ghost use Rattle.pdh_ops.specs.Writing.{AreEmpty, HoldsAll, StopsStarting, StopsAppending};
 
 use crate::answer::{Done, Stop};
 use crate::file::File;
@@ -17,7 +18,7 @@ use crate::files::{append, start};
 use crate::leaf::leaf_count;
 use crate::line::read_line;
 use pdh_bits::{bits_of, bytes_of};
-use pdh_chain::{Chain, leaves};
+use pdh_chain::{Chain, DemuxStop, leaves};
 use pdh_edge::{Drain, Feed, MemPort, Port, Shelf};
 use pdh_watch::Quiet;
 use std::alloc::{AllocError, Global};
@@ -29,26 +30,32 @@ struct Received {
     frames: u64,
 }
 
-// Makes room for so many bits in the list of each leaf.
+// Makes room for more than so many bits in the list of each leaf, so that none is ever full.
 fn make_room(port: &mut MemPort, leaves: u32, bits: usize) -> Result<(), AllocError>
-    requires { (k : ℕ) → k < leaves → IsTrue ((⟦<MemPort as Drain>⟧.outputs port.old).holds k) }
+    requires held { (k : ℕ) → k < leaves → IsTrue ((⟦<MemPort as Drain>⟧.outputs port.old).holds k) }
+    requires few { bits < 2 ^ 62 }
     ensures inputs { ⟦<MemPort as Feed>⟧.inputs port.new ≡ ⟦<MemPort as Feed>⟧.inputs port.old }
     ensures outputs { ⟦<MemPort as Drain>⟧.outputs port.new ≡ ⟦<MemPort as Drain>⟧.outputs port.old }
     ensures fresh { ⟦<MemPort as Port>⟧.fresh port.old → ⟦<MemPort as Port>⟧.fresh port.new }
+    ensures faults { ⟦<MemPort as Drain>⟧.drain_faults port.new ≡ ⟦<MemPort as Drain>⟧.drain_faults port.old }
+    ensures room { OnOk result ((k : ℕ) → k < leaves → bits < room_of port.new k) }
 {
     for leaf in 0..leaves {
-        port.room(leaf, bits)?;
+        port.room(leaf, bits + 1)?;
     }
     Ok(())
 }
 
-// A port that gives a line and takes what its leaves receive. There is room for all of that: a line
-// carries no more bits of its leaves than it has.
+// A port that gives a line and takes what its leaves receive, with room for all of that: a leaf
+// receives no more than its share of the line's bits.
 fn port_of(alloc: Global, line: Vec<bool>, leaves: u32) -> Result<MemPort, AllocError>
-    requires { 0 < leaves }
+    requires some { 0 < leaves }
+    requires few { length line.items < 2 ^ 62 }
     ensures inputs { IfOk result (λ port. ⟦<MemPort as Feed>⟧.inputs port ≡ inputs_of (line.items ∷ [])) }
     ensures outputs { IfOk result (λ port. ⟦<MemPort as Drain>⟧.outputs port ≡ outputs_of (replicate leaves [])) }
     ensures fresh { IfOk result ⟦<MemPort as Port>⟧.fresh }
+    ensures faults { IfOk result (λ port. ⟦<MemPort as Drain>⟧.drain_faults port ≡ 0) }
+    ensures room { IfOk result (λ port. (k : ℕ) → k < leaves → length line.items / leaves < room_of port k) }
 {
     let bits = line.len() / leaves as usize;
     let mut inputs = Vec::new(alloc);
@@ -56,6 +63,29 @@ fn port_of(alloc: Global, line: Vec<bool>, leaves: u32) -> Result<MemPort, Alloc
     let mut port = MemPort::open(alloc, inputs, leaves)?;
     make_room(&mut port, leaves, bits)?;
     Ok(port)
+}
+
+// Gives the receivers of a chain the line's bits, so many, and answers how many frames are delivered.
+// Where memory is wanting the port isn't started.
+fn deliver(alloc: Global, chain: Chain, bits: u64, port: &mut MemPort) -> Result<u64, AllocError>
+    requires few { bits < 2 ^ 63 }
+    requires line { HasLine bits (⟦<MemPort as Feed>⟧.inputs port.old) }
+    requires outputs { ⟦<MemPort as Drain>⟧.outputs port.old ≡ outputs_of (replicate (leaves_of chain) []) }
+    requires fresh { ⟦<MemPort as Port>⟧.fresh port.old }
+    requires faults { ⟦<MemPort as Drain>⟧.drain_faults port.old ≡ 0 }
+    requires room { (k : ℕ) → k < leaves_of chain → bits / leaves_of chain < room_of port.old k }
+    ensures ok { IfOk result (λ frames. Demuxes (shapes_of chain) bits frames (⟦<MemPort as Feed>⟧.inputs port.old) (⟦<MemPort as Feed>⟧.inputs port.new) (⟦<MemPort as Drain>⟧.outputs port.old) (⟦<MemPort as Drain>⟧.outputs port.new)) }
+    ensures err { OnErr result (⟦<MemPort as Port>⟧.fresh port.new) }
+    ensures leaves { (k : ℕ) → k < leaves_of chain → IsTrue ((⟦<MemPort as Drain>⟧.outputs port.new).holds k) }
+{
+    match pdh_chain::demux(alloc, chain, bits, port, &mut Quiet) {
+        Ok(frames) => Ok(frames),
+        Err(DemuxStop::Memory) => Err(AllocError),
+        // The line has its bits; the port gives them, and has room.
+        Err(DemuxStop::Ended) => unreachable!(),
+        Err(DemuxStop::ReadFailed) => unreachable!(),
+        Err(DemuxStop::WriteFailed) => unreachable!(),
+    }
 }
 
 // The whole bytes of the list of each leaf.
@@ -71,19 +101,15 @@ fn leaf_bytes(alloc: Global, port: &MemPort, leaves: u32) -> Result<Vec<Vec<u8>>
 }
 
 // What a line gives.
-fn receive(alloc: Global, chain: Chain, line: &[u8]) -> Result<Received, Stop>
-    ensures ok { IfOk result (IsReceived chain line.now) }
-    ensures err { IfErr result (λ stop. stop ≡ Stop.Memory) }
+fn receive(alloc: Global, chain: Chain, line: &[u8]) -> Result<Received, AllocError>
+    requires { length line.now < 2 ^ 59 }
+    ensures { IfOk result (IsReceived chain line.now) }
 {
     let bits = bits_of(alloc, line)?;
     let count = bits.len() as u64;
     let leaves = leaves(chain);
     let mut port = port_of(alloc, bits, leaves)?;
-    let frames = match pdh_chain::demux(alloc, chain, count, &mut port, &mut Quiet) {
-        Ok(frames) => frames,
-        // The line has its bits, and the port its memory.
-        Err(_) => return Err(Stop::Memory),
-    };
+    let frames = deliver(alloc, chain, count, &mut port)?;
     let outputs = leaf_bytes(alloc, &port, leaves)?;
     Ok(Received { outputs, frames })
 }
@@ -91,9 +117,9 @@ fn receive(alloc: Global, chain: Chain, line: &[u8]) -> Result<Received, Stop>
 // Makes the outputs empty, in order.
 fn start_all<S: Shelf>(chain: Chain, shelf: &mut S) -> Result<(), Stop>
     ensures kept { TouchesOnly (IsOutput (Demux chain)) (S.state shelf.old) (S.state shelf.new) }
-    ensures ok { OnOk result ((leaf : ℕ) → leaf < leaves_of chain → Holds ((S.state shelf.new).told (output_name leaf)) []) }
-    ensures err { IfErr result (IsWriteStop (S.state shelf.old) (S.state shelf.new)) }
-    ensures cut { OnErr result (AreCut (Demux chain) (S.state shelf.old) (S.state shelf.new)) }
+    ensures ok { OnOk result (AreEmpty (Demux chain) (S.state shelf.new)) }
+    ensures err { IfErr result (StopsStarting (Demux chain) (S.state shelf.old) (S.state shelf.new)) }
+    ensures counted { IsCounted (S.state shelf.old) (S.state shelf.new) result }
 {
     for leaf in 0..leaf_count(chain) {
         start(shelf, File::Output(leaf))?;
@@ -104,13 +130,11 @@ fn start_all<S: Shelf>(chain: Chain, shelf: &mut S) -> Result<(), Stop>
 // Adds the bytes of the outputs, in order.
 fn append_all<S: Shelf>(chain: Chain, shelf: &mut S, outputs: &[Vec<u8>]) -> Result<(), Stop>
     requires all { length outputs.now ≡ leaves_of chain }
-    requires started { (leaf : ℕ) → leaf < leaves_of chain → Holds ((S.state shelf.old).told (output_name leaf)) [] }
+    requires started { AreEmpty (Demux chain) (S.state shelf.old) }
     ensures kept { TouchesOnly (IsOutput (Demux chain)) (S.state shelf.old) (S.state shelf.new) }
-    ensures ok { OnOk result ((leaf : ℕ) (d : Vec ℕ Global) → leaf < leaves_of chain
-        → Holds ((S.state shelf.new).told (output_name leaf)) (slice_index_or outputs.now leaf d).items) }
-    ensures err { IfErr result (IsWriteStop (S.state shelf.old) (S.state shelf.new)) }
-    ensures cut { OnErr result ((leaf : ℕ) (d : Vec ℕ Global) → leaf < leaves_of chain
-        → HoldsPrefix ((S.state shelf.new).told (output_name leaf)) (slice_index_or outputs.now leaf d).items) }
+    ensures ok { OnOk result ((leaf : ℕ) → leaf < leaves_of chain → HoldsAll (Demux chain) (S.state shelf.new) outputs.now leaf) }
+    ensures err { IfErr result (StopsAppending (Demux chain) outputs.now (S.state shelf.old) (S.state shelf.new)) }
+    ensures counted { IsCounted (S.state shelf.old) (S.state shelf.new) result }
 {
     for leaf in 0..leaf_count(chain) {
         append(shelf, File::Output(leaf), &outputs[leaf as usize])?;

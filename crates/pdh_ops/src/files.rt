@@ -2,6 +2,7 @@ ghost use Rattle.std.specs.Prelude.{◌≡◌, length, IfOk, OnOk, IfErr};
 ghost use Rattle.pdh_edge.specs.Files.{Looks, Touches, Starts, FailsToStart, Appends, FailsToAppend, Holds};
 ghost use Rattle.pdh_ops.specs.Names.{name_of};
 ghost use Rattle.pdh_ops.specs.Reading.{HasLength, IsSizeStop, IsReadStop};
+ghost use Rattle.pdh_ops.specs.Run.{IsCounted};
 ghost use Rattle.pdh_ops.specs.Writing.{IsStartStop, IsAppendStop};
 
 use crate::answer::Stop;
@@ -14,6 +15,7 @@ pub fn size<S: Shelf>(shelf: &mut S, file: File) -> Result<u64, Stop>
     ensures looks { Looks (S.state shelf.old) (S.state shelf.new) }
     ensures ok { IfOk result (λ bytes. HasLength (name_of file) bytes (S.state shelf.new)) }
     ensures err { IfErr result (IsSizeStop file (S.state shelf.old) (S.state shelf.new)) }
+    ensures counted { IsCounted (S.state shelf.old) (S.state shelf.new) result }
 {
     match shelf.size(file.name().as_str()) {
         Ok(Some(bytes)) => Ok(bytes),
@@ -29,6 +31,7 @@ pub fn read<S: Shelf>(alloc: Global, shelf: &mut S, file: File, bytes: u64) -> R
     ensures ok { IfOk result (λ content. Holds ((S.state shelf.old).told (name_of file)) content.items) }
     ensures len { IfOk result (λ content. length content.items ≡ bytes) }
     ensures err { IfErr result (IsReadStop file (S.state shelf.old) (S.state shelf.new)) }
+    ensures counted { IsCounted (S.state shelf.old) (S.state shelf.new) result }
 {
     let mut content = vec![in alloc; 0u8; bytes as usize]?;
     match shelf.read_at(file.name().as_str(), 0, &mut content) {
@@ -42,6 +45,7 @@ pub fn start<S: Shelf>(shelf: &mut S, file: File) -> Result<(), Stop>
     ensures kept { Touches (name_of file) (S.state shelf.old) (S.state shelf.new) }
     ensures ok { OnOk result (Starts (name_of file) (S.state shelf.old) (S.state shelf.new)) }
     ensures err { IfErr result (IsStartStop file (S.state shelf.old) (S.state shelf.new)) }
+    ensures counted { IsCounted (S.state shelf.old) (S.state shelf.new) result }
 {
     match shelf.start(file.name().as_str()) {
         Ok(()) => Ok(()),
@@ -54,6 +58,7 @@ pub fn append<S: Shelf>(shelf: &mut S, file: File, bytes: &[u8]) -> Result<(), S
     ensures kept { Touches (name_of file) (S.state shelf.old) (S.state shelf.new) }
     ensures ok { OnOk result (Appends (name_of file) bytes.now (S.state shelf.old) (S.state shelf.new)) }
     ensures err { IfErr result (IsAppendStop file bytes.now (S.state shelf.old) (S.state shelf.new)) }
+    ensures counted { IsCounted (S.state shelf.old) (S.state shelf.new) result }
 {
     match shelf.append(file.name().as_str(), bytes) {
         Ok(()) => Ok(()),

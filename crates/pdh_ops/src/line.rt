@@ -3,6 +3,7 @@ ghost use Rattle.pdh_edge.specs.Files.{Looks, Holds};
 ghost use Rattle.pdh_ops.specs.Names.{line_name};
 ghost use Rattle.pdh_ops.specs.Demux.{line_of};
 ghost use Rattle.pdh_ops.specs.Steps.{IsLineCause};
+ghost use Rattle.pdh_ops.specs.Run.{IsCounted};
 
 use crate::answer::Stop;
 use crate::file::File;
@@ -18,6 +19,7 @@ pub fn read_line<S: Shelf>(alloc: Global, chain: Chain, shelf: &mut S) -> Result
     ensures line { IfOk result (λ line. Holds ((S.state shelf.old).told line_name) line.items) }
     ensures served { IfOk result (λ line. line_of chain (Some line.items) ≡ Ok line.items) }
     ensures err { IfErr result (IsLineCause chain (S.state shelf.old) (S.state shelf.new)) }
+    ensures counted { IsCounted (S.state shelf.old) (S.state shelf.new) result }
 {
     let bytes = size(shelf, File::Line)?;
     let frames = bytes / u64::from(frame_bytes(chain));

@@ -1,16 +1,18 @@
-ghost use Rattle.std.specs.Prelude.{if◌then◌else◌, ◌≡◌, ℕ, Bool, [], ◌∷◌, Vec, ◌^◌, ◌<◌, ◌≤◌, length, slice_index_or, IfOk, OnOk, IfErr, All, None};
+ghost use Rattle.std.specs.Prelude.{if◌then◌else◌, ◌≡◌, ℕ, ◌*◌, Bool, [], ◌∷◌, map, Vec, ◌^◌, ◌<◌, ◌≤◌, length, slice_index_or, IsTrue, IfOk, OnOk, OnErr, IfErr, All, None};
 ghost use Rattle.std.specs.declared.alloc.Global.{Global};
 ghost use Rattle.pdh_edge.specs.Files.{Looks};
+ghost use Rattle.pdh_edge.specs.MemLists.{inputs_of, outputs_of, items_of, room_of};
+ghost use Rattle.pdh_nesting.specs.Chains.{top_len};
 ghost use Rattle.pdh_clock.specs.Contents.{IsRowOf};
 ghost use Rattle.pdh_ops.specs.Names.{schedule_name};
 ghost use Rattle.pdh_ops.specs.Reading.{HasLength};
-ghost use Rattle.pdh_chain.specs.Chains.{levels_of, leaves_of};
+ghost use Rattle.pdh_chain.specs.Chains.{shapes_of, levels_of, leaves_of};
 ghost use Rattle.pdh_ops.specs.Schedules.{frames_in};
 ghost use Rattle.pdh_ops.specs.Mux.{bits_needed, short_node};
-ghost use Rattle.pdh_ops.specs.Run.{Performs};
+ghost use Rattle.pdh_ops.specs.Run.{Performs, GoesOn, IsCounted};
 ghost use Rattle.pdh_ops.specs.Refusing.{Refuses};
 ghost use Rattle.pdh_ops.specs.declared.answer.Stop.TheVariants.{Overflow, Underflow};
-ghost use Rattle.pdh_ops.specs.MuxSteps.{AreSizes, AreHeld, HasRows, AreEnough, IsEnoughStop, AreLeaves, IsMade};
+ghost use Rattle.pdh_ops.specs.MuxSteps.{AreSizes, AllHeld, HasRows, AreEnough, IsEnoughStop, AreLeaves, CanSend, IsSent, IsMade};
 ghost use Rattle.pdh_words.specs.declared.commands.Command.TheVariants.{Mux};
 
 use crate::answer::{Done, Stop};
@@ -23,9 +25,9 @@ use crate::top::{MOST_FRAMES, TOP};
 use pdh_bits::{bits_of, bytes_of};
 use pdh_chain::{Chain, MuxStop, frame_bytes};
 use pdh_clock::Schedule;
-use pdh_edge::{MemPort, Shelf};
+use pdh_edge::{Drain, Feed, MemPort, Port, Shelf};
 use pdh_shape::Place;
-use std::alloc::Global;
+use std::alloc::{AllocError, Global};
 
 // The sizes of the inputs, in bytes. Where a chain has fewer leaves than 64, the rest is 0.
 #[derive(Clone, Copy)]
@@ -45,8 +47,9 @@ struct Made {
 fn read_sizes<S: Shelf>(chain: Chain, shelf: &mut S) -> Result<InputSizes, Stop>
     ensures looks { Looks (S.state shelf.old) (S.state shelf.new) }
     ensures ok { IfOk result (λ sizes. AreSizes chain sizes (S.state shelf.new)) }
-    ensures held { OnOk result (AreHeld chain (S.state shelf.new)) }
+    ensures held { OnOk result (AllHeld chain (S.state shelf.new)) }
     ensures err { IfErr result (Refuses (Mux chain) (S.state shelf.old) (S.state shelf.new)) }
+    ensures counted { IsCounted (S.state shelf.old) (S.state shelf.new) result }
 {
     let schedule = size(shelf, File::Schedule)?;
     let mut leaves = [0u64; 64];
@@ -101,17 +104,19 @@ fn frames(chain: Chain, clock: &Schedule, sizes: &InputSizes) -> Result<u64, Sto
     Ok(frames)
 }
 
-// The bits of the leaves.
+// The bits of the leaves, where no step refuses the inputs.
 fn read_leaves<S: Shelf>(
     alloc: Global,
     chain: Chain,
     shelf: &mut S,
     sizes: &InputSizes,
 ) -> Result<Vec<Vec<bool>>, Stop>
-    requires { AreSizes chain sizes.now (S.state shelf.old) }
+    requires sizes { AreSizes chain sizes.now (S.state shelf.old) }
+    requires due { GoesOn (Mux chain) (S.state shelf.old) }
     ensures looks { Looks (S.state shelf.old) (S.state shelf.new) }
     ensures ok { IfOk result (λ leaves. AreLeaves chain sizes.now (S.state shelf.new) leaves.items) }
     ensures err { IfErr result (Refuses (Mux chain) (S.state shelf.old) (S.state shelf.new)) }
+    ensures counted { IsCounted (S.state shelf.old) (S.state shelf.new) result }
 {
     let mut leaves = Vec::new(alloc);
     for leaf in 0..leaf_count(chain) {
@@ -135,31 +140,71 @@ fn stop_of(over: bool, place: Place) -> Stop
     }
 }
 
-// Makes the line, whole frames up to the first event.
+// A port that gives the leaves' bits and has room for a line of so many bits.
+fn port_for(alloc: Global, leaves: Vec<Vec<bool>>, bits: usize) -> Result<MemPort, AllocError>
+    requires { bits < 2 ^ 32 }
+    ensures inputs { IfOk result (λ port. ⟦<MemPort as Feed>⟧.inputs port ≡ inputs_of (map items_of leaves.items)) }
+    ensures outputs { IfOk result (λ port. ⟦<MemPort as Drain>⟧.outputs port ≡ outputs_of ([] ∷ [])) }
+    ensures fresh { IfOk result ⟦<MemPort as Port>⟧.fresh }
+    ensures faults { IfOk result (λ port. ⟦<MemPort as Drain>⟧.drain_faults port ≡ 0) }
+    ensures room { IfOk result (λ port. bits < room_of port 0) }
+{
+    let mut port = MemPort::open(alloc, leaves, 1)?;
+    // One more than is ever put, so that the list is never full.
+    port.room(0, bits + 1)?;
+    Ok(port)
+}
+
+// Makes the line into the port's list, whole frames up to the first event, and answers how that event
+// ends the command. Where memory is wanting the port isn't started.
+fn send(
+    alloc: Global,
+    chain: Chain,
+    clock: &Schedule,
+    frames: u64,
+    port: &mut MemPort,
+) -> Result<Option<Stop>, AllocError>
+    requires levels { clock.now.levels ≡ levels_of chain }
+    requires enough { CanSend chain clock.now.rows frames (⟦<MemPort as Feed>⟧.inputs port.old) }
+    requires outputs { ⟦<MemPort as Drain>⟧.outputs port.old ≡ outputs_of ([] ∷ []) }
+    requires fresh { ⟦<MemPort as Port>⟧.fresh port.old }
+    requires faults { ⟦<MemPort as Drain>⟧.drain_faults port.old ≡ 0 }
+    requires room { frames * top_len (shapes_of chain) < room_of port.old 0 }
+    ensures ok { IfOk result (λ end. IsSent chain clock.now.rows frames (⟦<MemPort as Feed>⟧.inputs port.old) (⟦<MemPort as Feed>⟧.inputs port.new) (⟦<MemPort as Drain>⟧.outputs port.old) (⟦<MemPort as Drain>⟧.outputs port.new) end) }
+    ensures err { OnErr result (⟦<MemPort as Port>⟧.fresh port.new) }
+    ensures line { IsTrue ((⟦<MemPort as Drain>⟧.outputs port.new).holds 0) }
+{
+    match pdh_chain::mux(alloc, chain, clock, frames, port) {
+        Ok(()) => Ok(None),
+        Err(MuxStop::Event { over, place }) => Ok(Some(stop_of(over, place))),
+        Err(MuxStop::Memory) => Err(AllocError),
+        // The schedule and the leaves are long enough; the port gives its bits, and has room.
+        Err(MuxStop::NoFrame { .. }) => unreachable!(),
+        Err(MuxStop::Ended { .. }) => unreachable!(),
+        Err(MuxStop::ReadFailed) => unreachable!(),
+        Err(MuxStop::WriteFailed) => unreachable!(),
+    }
+}
+
+// The bytes of the line, whole frames up to the first event.
 fn make(
     alloc: Global,
     chain: Chain,
     clock: &Schedule,
     frames: u64,
     leaves: Vec<Vec<bool>>,
-) -> Result<Made, Stop>
+) -> Result<Made, AllocError>
     requires levels { clock.now.levels ≡ levels_of chain }
     requires frames { frames ≡ frames_in clock.now.rows }
     requires few { frames ≤ 16384 }
+    requires scheduled { short_node chain clock.now.rows ≡ None }
     requires count { length leaves.items ≡ leaves_of chain }
     requires long { (k : ℕ) (d : Vec Bool Global) → k < leaves_of chain → bits_needed chain clock.now.rows k ≤ length (slice_index_or leaves.items k d).items }
-    ensures ok { IfOk result (IsMade chain clock.now.rows leaves.items) }
-    ensures err { IfErr result (λ stop. stop ≡ Stop.Memory) }
+    ensures { IfOk result (IsMade chain clock.now.rows leaves.items) }
 {
     let bits = 8 * frames as usize * frame_bytes(chain) as usize;
-    let mut port = MemPort::open(alloc, leaves, 1)?;
-    port.room(0, bits)?;
-    let end = match pdh_chain::mux(alloc, chain, clock, frames, &mut port) {
-        Ok(()) => None,
-        Err(MuxStop::Event { over, place }) => Some(stop_of(over, place)),
-        // The schedule and the leaves are long enough, and the port has its memory.
-        Err(_) => return Err(Stop::Memory),
-    };
+    let mut port = port_for(alloc, leaves, bits)?;
+    let end = send(alloc, chain, clock, frames, &mut port)?;
     let bytes = bytes_of(alloc, port.output(0))?;
     Ok(Made { bytes, end })
 }

@@ -3,6 +3,7 @@ ghost use Rattle.pdh_edge.specs.Files.{Looks};
 ghost use Rattle.pdh_clock.specs.Contents.{IsRowOf};
 ghost use Rattle.pdh_ops.specs.Names.{schedule_name};
 ghost use Rattle.pdh_ops.specs.Reading.{HasLength};
+ghost use Rattle.pdh_ops.specs.Run.{IsCounted};
 ghost use Rattle.pdh_chain.specs.Chains.{levels_of};
 ghost use Rattle.pdh_ops.specs.ScheduleSteps.{RowsAre, IsScheduleStop};
 
@@ -27,6 +28,7 @@ pub fn read_schedule<S: Shelf>(
     ensures levels { IfOk result (λ clock. clock.levels ≡ levels_of chain) }
     ensures sound { IfOk result (λ clock. All (IsRowOf (levels_of chain)) clock.rows) }
     ensures err { IfErr result (IsScheduleStop chain (S.state shelf.old) (S.state shelf.new)) }
+    ensures counted { IsCounted (S.state shelf.old) (S.state shelf.new) result }
 {
     if bytes > MOST_BYTES as u64 {
         return Err(Stop::LongSchedule);

@@ -3,16 +3,33 @@ use Rattle.std.proofs.lemmas.Result.{err_from_is_err_and}
 use Rattle.pdh_edge.specs.Files.{Holds}
 use Rattle.pdh_chain.specs.Chains.{leaves_of}
 use Rattle.pdh_ops.specs.Names.{output_name}
-use Rattle.pdh_ops.proofs.Touching.{touches_then}
+use Rattle.pdh_ops.specs.declared.file.File.TheVariants.{Output}
+use Rattle.pdh_ops.proofs.Touching.{touches_none, touches_then, counted_since}
 use Rattle.pdh_ops.proofs.DemuxFiles.{start_fails, other_same}
 use Rattle.pdh_ops.proofs.demux.start_all.Goals as goal
 
-pub returns-in_err-start-clause-cut : goal.returns-in_err-start-clause-cut
-returns-in_err-start-clause-cut g c =
+pub loop-leaf-init : goal.loop-leaf-init
+loop-leaf-init g c = record { same = refl; kept = touches_none _ _; empty = λ k h. absurd (omega arith); later = λ k from low. refl }
+
+pub returns-in_err-start-clause-err : goal.returns-in_err-start-clause-err
+returns-in_err-start-clause-err g c =
     let here : c.loop-leaf.leaf < leaves_of c.args.chain = omega (arith, c.leaf_count-leaf-end.ensures.value) in
     let p = err_from_is_err_and c.from_residual.result c.from_residual.ensures.1 in
     let inv = c.loop-leaf.invariant in
-    rw p.1 (start_fails c.args.chain _ (g.S.Shelf.state c.loop-leaf.shelf) _ c.loop-leaf.leaf here inv.empty inv.later c.start.ensures.kept c.in_err-start.ensures.err.1)
+    let stops = c.in_err-start.ensures.err in
+    rw (p.1, p.2) (record {
+      file = Output c.loop-leaf.leaf;
+      is = stops.0;
+      at = c.loop-leaf.leaf;
+      known = here;
+      named = refl;
+      cut = start_fails c.args.chain _ (g.S.Shelf.state c.loop-leaf.shelf) _ c.loop-leaf.leaf here inv.same inv.empty inv.later c.start.ensures.kept stops.1;
+    })
+
+pub returns-in_err-start-clause-counted : goal.returns-in_err-start-clause-counted
+returns-in_err-start-clause-counted g c =
+    let p = err_from_is_err_and c.from_residual.result c.from_residual.ensures.1 in
+    rw (p.1, p.2) (counted_since _ _ _ _ c.loop-leaf.invariant.same c.in_err-start.ensures.counted)
 
 pub loop-leaf-preserved : goal.loop-leaf-preserved
 loop-leaf-preserved g c =
@@ -21,6 +38,7 @@ loop-leaf-preserved g c =
     let old = g.S.Shelf.state c.loop-leaf.shelf in
     let new = g.S.Shelf.state c.start.new.shelf in
     record {
+      same = c.in_ok-start.ensures.counted ∙ inv.same;
       kept = touches_then _ (output_name c.loop-leaf.leaf) _ old new (c.loop-leaf.leaf, here, refl) inv.kept c.start.ensures.kept;
       empty = below_more _ _
           (λ k h.

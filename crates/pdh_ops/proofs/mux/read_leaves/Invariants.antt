@@ -3,7 +3,8 @@ use Rattle.std.specs.Prelude.{slice_index, slice_index_or}
 use Rattle.std.specs.declared.alloc.Global.{Global}
 use Rattle.pdh_edge.specs.Files.{Looks}
 use Rattle.pdh_ops.specs.Mux.{leaf_bits}
-use Rattle.pdh_ops.specs.MuxSteps.{OfInputs}
+use Rattle.pdh_ops.specs.Commands.{OfInputs}
+use Rattle.pdh_words.specs.declared.commands.Command.TheVariants.{Mux}
 use Rattle.pdh_ops.proofs.mux.read_leaves.Given as goal
 
 abbrev pub invariant-loop-leaf : goal.invariant-loop-leaf
@@ -12,7 +13,8 @@ invariant-loop-leaf g l =
     let new = g.S.Shelf.state l.shelf in
     record {
       looks : Looks old new;
+      same : new.counts ≡ old.counts;
       count : length l.leaves.items ≡ l.leaf;
       len : (k : ℕ) (d : Vec Bool Global) → k < l.leaf → length (slice_index_or l.leaves.items k d).items ≡ 8 * slice_index l.sizes.leaves k;
-      bits : (k : ℕ) (d : Vec Bool Global) → k < l.leaf → OfInputs l.fn.chain old (λ files. (slice_index_or l.leaves.items k d).items ≡ leaf_bits files k);
+      bits : (k : ℕ) (d : Vec Bool Global) → k < l.leaf → OfInputs (Mux l.fn.chain) old (λ files. (slice_index_or l.leaves.items k d).items ≡ leaf_bits files k);
     }

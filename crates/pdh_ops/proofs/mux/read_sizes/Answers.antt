@@ -6,18 +6,26 @@ use Rattle.pdh_chain.specs.Chains.{leaves_of}
 use Rattle.pdh_ops.specs.Names.{schedule_name, leaf_name}
 use Rattle.pdh_ops.specs.Reading.{HasLength}
 use Rattle.pdh_words.specs.declared.commands.Command.TheVariants.{Mux}
-use Rattle.pdh_ops.proofs.Touching.{has_length_still, looks_then, looks_none}
+use Rattle.pdh_ops.proofs.Touching.{has_length_still, looks_then, looks_none, counted_since}
 use Rattle.pdh_ops.proofs.Refusing.{refuses_since}
 use Rattle.pdh_ops.proofs.MuxComes.{schedule_size_refuses, leaf_size_refuses, all_are_held}
 use Rattle.pdh_ops.proofs.mux.read_sizes.Goals as goal
 
 pub loop-leaf-init : goal.loop-leaf-init
-loop-leaf-init g c = record { looks = looks_none _; schedule = c.in_ok-schedule.ensures.ok; all = refl; leaf = λ k h. absurd (omega arith) }
+loop-leaf-init g c = record { looks = looks_none _; same = refl; schedule = c.in_ok-schedule.ensures.ok; all = refl; leaf = λ k h. absurd (omega arith) }
 
 pub returns-in_err-schedule-clause-err : goal.returns-in_err-schedule-clause-err
 returns-in_err-schedule-clause-err g c =
     let p = err_from_is_err_and c.from_residual.result c.from_residual.ensures.1 in
     rw (p.1, p.2) (schedule_size_refuses c.args.chain _ _ _ c.in_err-schedule.ensures.err)
+
+pub returns-in_err-leaves-clause-counted : goal.returns-in_err-leaves-clause-counted
+returns-in_err-leaves-clause-counted g c =
+    let p = err_from_is_err_and c.from_residual-in_err-leaves.result c.from_residual-in_err-leaves.ensures.1 in
+    rw (p.1, p.2) (counted_since _ _ _ _ (c.loop-leaf.invariant.same ∙ c.in_ok-schedule.ensures.counted) c.in_err-leaves.ensures.counted)
+
+pub returns-clause-counted : goal.returns-clause-counted
+returns-clause-counted g c = c.loop-leaf.invariant.same ∙ c.in_ok-schedule.ensures.counted
 
 pub returns-in_err-leaves-clause-looks : goal.returns-in_err-leaves-clause-looks
 returns-in_err-leaves-clause-looks g c = looks_then _ _ _ c.size.ensures.looks (looks_then _ _ _ c.loop-leaf.invariant.looks c.size-in-loop-leaf.ensures.looks)
@@ -27,7 +35,7 @@ returns-in_err-leaves-clause-err g c =
     let p = err_from_is_err_and c.from_residual-in_err-leaves.result c.from_residual-in_err-leaves.ensures.1 in
     let inv = c.loop-leaf.invariant in
     let here : c.loop-leaf.leaf < leaves_of c.args.chain = omega (arith, c.leaf_count-leaf-end.ensures.value) in
-    rw (p.1, p.2) (refuses_since (Mux c.args.chain) _ (g.S.Shelf.state c.loop-leaf.shelf) _ _ (looks_then _ _ _ c.size.ensures.looks inv.looks)
+    rw (p.1, p.2) (refuses_since (Mux c.args.chain) _ (g.S.Shelf.state c.loop-leaf.shelf) _ _ (looks_then _ _ _ c.size.ensures.looks inv.looks) (inv.same ∙ c.in_ok-schedule.ensures.counted)
     (leaf_size_refuses c.args.chain _ _ c.in_ok-schedule.schedule c.loop-leaf.leaf (slice_index c.loop-leaf.leaves) _ here inv.schedule inv.leaf c.in_err-leaves.ensures.err))
 
 pub loop-leaf-preserved : goal.loop-leaf-preserved
@@ -41,6 +49,7 @@ loop-leaf-preserved g c =
     let here : c.loop-leaf.leaf < length leaves = omega (arith, inv.all, c.leaf_count-leaf-end.ensures.few) in
     record {
       looks = looks_then _ old new inv.looks looks;
+      same = c.in_ok-leaves.ensures.counted ∙ inv.same;
       schedule = has_length_still schedule_name old new _ looks inv.schedule;
       all = length-set leaves c.loop-leaf.leaf size ∙ inv.all;
       leaf = below_more _ _

@@ -11,6 +11,7 @@ invariant-loop-leaf g l =
     let new = g.S.Shelf.state l.shelf in
     record {
       looks : Looks old new;
+      same : new.counts ≡ old.counts;
       schedule : HasLength schedule_name l.schedule new;
       all : length l.leaves ≡ 64;
       leaf : (k : ℕ) → k < l.leaf → HasLength (leaf_name k) (slice_index l.leaves k) new;

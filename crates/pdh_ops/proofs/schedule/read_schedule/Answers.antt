@@ -1,12 +1,17 @@
-use Rattle.std.proofs.Common.{sym, subst}
+use Rattle.std.proofs.Common.{sym, subst, ◌≤◌, arith}
 use Rattle.std.proofs.lemmas.Result.{err_from_is_err_and}
 use Rattle.pdh_edge.specs.Files.{Holds}
 use Rattle.pdh_ops.specs.Names.{schedule_name}
-use Rattle.pdh_ops.proofs.ScheduleComes.{long_stops, fault_stops, rows_read}
+use Rattle.pdh_ops.proofs.ScheduleComes.{long_stops, read_stops, fault_stops, rows_read}
 use Rattle.pdh_ops.proofs.schedule.read_schedule.Goals as goal
 
 pub returns-then-bytes-clause-err : goal.returns-then-bytes-clause-err
 returns-then-bytes-clause-err g c = long_stops c.args.chain _ c.args.bytes c.requires c.if-bytes.true
+
+pub returns-in_err-text-clause-err : goal.returns-in_err-text-clause-err
+returns-in_err-text-clause-err g c =
+    let p = err_from_is_err_and c.from_residual.result c.from_residual.ensures.1 in
+    rw (p.1, p.2) (read_stops c.args.chain _ _ c.args.bytes _ c.requires (omega (arith, c.if-bytes.false)) c.in_err-text.ensures.err)
 
 pub returns-in_err-read-clause-err : goal.returns-in_err-read-clause-err
 returns-in_err-read-clause-err g c =

@@ -1,0 +1,11 @@
+//! The running of worked cases: each by the program's own call, over files and an output in memory.
+#![tactic(auto)]
+
+mod running;
+mod suite;
+mod sweep;
+mod trial;
+mod watched;
+
+pub use suite::judge_all;
+pub use trial::judge_case;
