@@ -1,0 +1,5 @@
+pub mod Bits
+pub mod CBits
+pub mod Fields
+pub mod Feac
+pub mod Channel

@@ -1,0 +1,14 @@
+//! The C bits of DS3 frames with C-bit parity (ANSI T1.107): their fields, and the words of the far
+//! end alarm and control channel.
+#![tactic(auto)]
+
+mod feac;
+mod fields;
+mod laws;
+
+pub use feac::{FeacReceiver, FeacSender};
+pub use fields::Fields;
+pub use laws::answered_codes;
+
+#[cfg(test)]
+mod tests;

@@ -1,0 +1,5 @@
+pub mod Below
+pub mod CrcLaws
+pub mod OctetLaws
+pub mod WordLaws
+pub mod PackingLaws

@@ -1,0 +1,3 @@
+pub mod Crc4
+pub mod Multiframe
+pub mod Codec

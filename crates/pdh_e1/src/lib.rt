@@ -1,0 +1,16 @@
+//! Framed 2048 kbit/s streams in multiframes with CRC-4 (G.704, 2.3).
+//!
+//! A frame has 32 octets, and a multiframe has 16 frames. The first octet of a frame carries alignment signals, the bits
+//! of CRC-4 words and service bits; the 31 others are payload.
+#![tactic(auto)]
+
+mod codec;
+mod crc;
+mod fault;
+mod multiframe;
+#[cfg(test)]
+mod tests;
+
+pub use codec::{pack, packed_is_given_back, unpack};
+pub use crc::crc4;
+pub use fault::{PackFault, UnpackFault};
