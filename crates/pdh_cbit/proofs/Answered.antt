@@ -7,7 +7,7 @@ use Rattle.std.proofs.lemmas.Slice.Eq.{ends_is}
 use Rattle.std.specs.Cmp.{booleans_Decides}
 use Rattle.std.specs.Bool.{beq, Decides}
 use Rattle.std.specs.List.{repeat, ends_with, find, range_with_len}
-use Rattle.pdh_cbit.specs.Bits.{number_of}
+use Rattle.pdh_bits.specs.Bits.{number_of}
 use Rattle.pdh_cbit.specs.Feac.{word_of, ten_words, word_earlier, answers, answer_of, EndsInTen, AnswersCode}
 use Rattle.pdh_cbit.specs.Channel.{Receiving, HasReceived, TellsCode, latest_first, repeated_in}
 use Rattle.pdh_cbit.proofs.Words.{reversed_word, length-reversed_word, number_of-reversed_word, word_from_number, same_code}

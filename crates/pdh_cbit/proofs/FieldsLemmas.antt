@@ -1,7 +1,7 @@
 -- The fields of C bits, as parts of the number that the C bits are.
 use Rattle.std.proofs.Common.{◌≡◌, ℕ, ◌+◌, ◌*◌, ◌/◌, ◌%◌, ◌^◌, ◌<◌, Bool, ◌∷◌, ◌++◌, refl, sym, ◌∙◌, ap, arith}
 use Rattle.pdh_cbit.specs.declared.fields.Fields.{Fields}
-use Rattle.pdh_cbit.specs.Bits.{bit, bit_value, number_of}
+use Rattle.pdh_bits.specs.Bits.{bit, bit_value, number_of}
 use Rattle.pdh_cbit.specs.CBits.{c_bit, of_subframe}
 use Rattle.pdh_cbit.specs.Fields.{fields_of, IsInRange}
 use Rattle.pdh_cbit.proofs.Numbers.{bit_value_le, bit_value-bit, bit_is}

@@ -3,7 +3,7 @@ use Rattle.std.proofs.Common.{◌≡◌, ℕ, zero, suc, ◌+◌, ◌*◌, ◌/�
 use Rattle.std.proofs.lemmas.List.{reverse-append}
 use Rattle.std.proofs.Math.Nat.{pow-suc}
 use Rattle.std.specs.List.{fold}
-use Rattle.pdh_cbit.specs.Bits.{bit, bit_value, with_bit, number_of}
+use Rattle.pdh_bits.specs.Bits.{bit, bit_value, with_bit, number_of}
 
 -- a bit is worth at most 1
 pub bit_value_le : (b : Bool) → bit_value b ≤ 1

@@ -3,7 +3,7 @@ use Rattle.std.proofs.Common.{◌≡◌, ℕ, zero, suc, ◌+◌, ◌*◌, ◌/�
 use Rattle.std.proofs.lemmas.List.{reverse-append, length-reverse, length-take-le, take_more, drop_more}
 use Rattle.std.specs.Bool.{beq}
 use Rattle.std.specs.List.{common_prefix_len}
-use Rattle.pdh_cbit.specs.Bits.{bit, bit_value, with_bit, number_of}
+use Rattle.pdh_bits.specs.Bits.{bit, bit_value, with_bit, number_of}
 use Rattle.pdh_cbit.specs.Channel.{Receiving, HasReceived, latest_first, repeated_in}
 use Rattle.pdh_cbit.proofs.Numbers.{value_of, value_of_lt, value_of-push, number_of-reverse, bit_value_le, bit_is}
 

@@ -1,7 +1,8 @@
 -- The words of codes, bit by bit and as numbers.
 use Rattle.std.proofs.Common.{◌≡◌, ℕ, zero, suc, ◌+◌, ◌-◌, ◌*◌, ◌/◌, ◌%◌, ◌^◌, ◌<◌, ◌≤◌, Bool, true, false, List, [], ◌∷◌, ◌++◌, length, reverse, replicate, get_or, refl, sym, ◌∙◌, ap, arith}
 use Rattle.std.proofs.lemmas.List.{get_or_append_left, get_or-append_right, get_or-replicate, length-replicate, reverse-reverse}
-use Rattle.pdh_cbit.specs.Bits.{bit, bits_of, bit_value, number_of}
+use Rattle.pdh_bits.specs.Bits.{bit, bit_value, number_of}
+use Rattle.pdh_cbit.specs.Bits.{bits_of}
 use Rattle.pdh_cbit.specs.Feac.{word_of, feac_bit}
 use Rattle.pdh_cbit.proofs.Numbers.{bit_value-bit, number_of-reverse, same_bits, value_of}
 

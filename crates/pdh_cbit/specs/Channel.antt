@@ -2,7 +2,7 @@
 use Rattle.std.specs.Prelude.{◌≡◌, ℕ, ◌%◌, ◌<◌, ◌≤◌, Bool, false, List, ◌++◌, reverse, take, drop, replicate, min}
 use Rattle.std.specs.Bool.{beq}
 use Rattle.std.specs.List.{common_prefix_len}
-use Rattle.pdh_cbit.specs.Bits.{number_of}
+use Rattle.pdh_bits.specs.Bits.{number_of}
 use Rattle.pdh_cbit.specs.Feac.{word_of}
 
 -- a sender's code, and the place in the code's word of the bit to come

@@ -1,7 +1,7 @@
 -- The fields of C-bit parity (ANSI T1.107), by the C bits that make them.
 use Rattle.std.specs.Prelude.{ℕ, ◌^◌, ◌<◌, ◌∷◌, ◌++◌}
 use Rattle.pdh_cbit.specs.declared.fields.Fields.{Fields}
-use Rattle.pdh_cbit.specs.Bits.{number_of}
+use Rattle.pdh_bits.specs.Bits.{number_of}
 use Rattle.pdh_cbit.specs.CBits.{c_bit, of_subframe}
 
 -- the fields of 21 C bits

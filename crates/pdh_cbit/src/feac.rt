@@ -1,5 +1,5 @@
 ghost use Rattle.std.specs.Prelude.{◌≡◌, ℕ, ◌+◌, ◌*◌, ◌%◌, ◌^◌, ◌<◌, ◌≤◌, ◌↔◌, min, if◌then◌else◌, Bool, List, [], ◌∷◌, ◌++◌};
-ghost use Rattle.pdh_cbit.specs.Bits.{bit, with_bit, number_of};
+ghost use Rattle.pdh_bits.specs.Bits.{bit, with_bit, number_of};
 ghost use Rattle.pdh_cbit.specs.Feac.{word_of, feac_bit, answer_of};
 ghost use Rattle.pdh_cbit.specs.Channel.{HasSent, HasReceived, TellsCode};
 

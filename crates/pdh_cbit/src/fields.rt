@@ -1,5 +1,5 @@
 ghost use Rattle.std.specs.Prelude.{◌≡◌, ℕ, ◌+◌, ◌*◌, ◌^◌, ◌<◌, ◌≤◌};
-ghost use Rattle.pdh_cbit.specs.Bits.{number_of};
+ghost use Rattle.pdh_bits.specs.Bits.{number_of};
 ghost use Rattle.pdh_cbit.specs.CBits.{c_bit, of_subframe};
 
 /// What the 21 C bits of a frame say. The bits of a number stand in the frame's order, the first most

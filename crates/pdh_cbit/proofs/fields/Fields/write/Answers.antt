@@ -1,6 +1,6 @@
 use Rattle.std.proofs.Common.{◌≡◌, arith}
 use Rattle.std.proofs.lemmas.Grind.{common_steps}
-use Rattle.pdh_cbit.specs.Bits.{bit_value}
+use Rattle.pdh_bits.specs.Bits.{bit_value}
 use Rattle.pdh_cbit.proofs.FieldsLemmas.{fields_of-number}
 use Rattle.pdh_cbit.proofs.fields.Fields.write.Goals as goal
 

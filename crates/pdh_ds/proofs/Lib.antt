@@ -1,0 +1,4 @@
+pub mod BlockLaws
+pub mod LossLaws
+pub mod Worked
+pub mod WorkedSlots

@@ -1,0 +1,17 @@
+//! The frames DS2 and DS3 of ANSI T1.107, and the parity of bits.
+#![tactic(auto)]
+
+mod block_frame;
+mod block_plan;
+mod blocks;
+mod loss;
+mod ones;
+mod plans;
+#[cfg(test)]
+mod tests;
+
+pub use block_frame::{BlockFrame, Ds2, Ds3};
+pub use block_plan::{BlockPlan, InBlocks};
+pub use loss::LossRule;
+pub use ones::parity;
+pub use plans::{Ds2Plan, Ds3Plan};

@@ -1,0 +1,176 @@
+ghost use Rattle.std.specs.Prelude.{◌≡◌, not};
+ghost use Rattle.std.specs.List.{slice_index_or};
+ghost use Rattle.pdh_shape.specs.declared.role.Role.TheVariants.{Service as ServiceSlot};
+ghost use Rattle.pdh_ds.specs.Plans.{ds2_firsts, ds3_firsts};
+
+use crate::{BlockPlan, InBlocks, LossRule};
+use pdh_shape::{Duty, Role, Service};
+
+/// The plan of the DS2 frame of ANSI T1.107, of the M12 multiplexer.
+pub struct Ds2Plan;
+
+impl InBlocks for Ds2Plan {
+    ghost use Rattle.pdh_ds.specs.Plans.{ds2_plan, ds2_overhead, ds2_inverted, ds2_duty, ds2_service};
+    ghost use Rattle.pdh_ds.specs.laws.Ds2Laws.{ds2_is_plan, ds2_keeps_laws};
+
+    ghost PLAN = { ds2_plan };
+
+    const PLAN: BlockPlan = BlockPlan {
+        len: 1176,
+        subframe: 294,
+        blocks: 6,
+        block: 49,
+        tribs: 4,
+        copies: 3,
+        low: 287,
+        loss: LossRule {
+            framing: 8,
+            window: 4,
+            wrong: 2,
+        },
+    };
+
+    ghost overhead = { ds2_overhead };
+
+    fn overhead(subframe: u8, block: u8) -> Role {
+        match block {
+            0 => ds2_first(subframe),
+            1 => Role::Control(subframe, 0),
+            2 => Role::Align(false),
+            3 => Role::Control(subframe, 1),
+            4 => Role::Control(subframe, 2),
+            _ => Role::Align(true),
+        }
+    }
+
+    ghost inverted = { ds2_inverted };
+
+    fn inverted(trib: u8) -> bool {
+        trib % 2 == 1
+    }
+
+    ghost duty = { ds2_duty };
+
+    fn duty(number: u8) -> Duty {
+        match number {
+            0 => Duty::Alarm,
+            _ => Duty::Other,
+        }
+    }
+
+    ghost service = { ds2_service };
+
+    fn service(number: u8, say: &Service, _odd: bool) -> bool {
+        match number {
+            0 => x_bit(say),
+            _ => true,
+        }
+    }
+
+    ghost is_plan = { ds2_is_plan };
+
+    ghost lawful = { ds2_keeps_laws };
+}
+
+/// The first overhead slot of a DS2 subframe: M1 to M3, and X.
+fn ds2_first(subframe: u8) -> Role
+    ensures { result ≡ slice_index_or ds2_firsts subframe (ServiceSlot 0) }
+{
+    match subframe {
+        0 => Role::Align(false),
+        1 | 2 => Role::Align(true),
+        _ => Role::Service(0),
+    }
+}
+
+/// The plan of the DS3 frame of ANSI T1.107, in the M23 application.
+pub struct Ds3Plan;
+
+impl InBlocks for Ds3Plan {
+    ghost use Rattle.std.specs.Prelude.{false};
+    ghost use Rattle.pdh_ds.specs.Plans.{ds3_plan, ds3_overhead, ds3_duty, ds3_service};
+    ghost use Rattle.pdh_ds.specs.laws.Ds3Laws.{ds3_is_plan, ds3_keeps_laws};
+
+    ghost PLAN = { ds3_plan };
+
+    const PLAN: BlockPlan = BlockPlan {
+        len: 4760,
+        subframe: 680,
+        blocks: 8,
+        block: 85,
+        tribs: 7,
+        copies: 3,
+        low: 671,
+        loss: LossRule {
+            framing: 28,
+            window: 16,
+            wrong: 3,
+        },
+    };
+
+    ghost overhead = { ds3_overhead };
+
+    fn overhead(subframe: u8, block: u8) -> Role {
+        match block {
+            0 => ds3_first(subframe),
+            1 => Role::Align(true),
+            2 => Role::Control(subframe, 0),
+            3 => Role::Align(false),
+            4 => Role::Control(subframe, 1),
+            5 => Role::Align(false),
+            6 => Role::Control(subframe, 2),
+            _ => Role::Align(true),
+        }
+    }
+
+    ghost inverted = { λ j. false };
+
+    fn inverted(_trib: u8) -> bool {
+        false
+    }
+
+    ghost duty = { ds3_duty };
+
+    fn duty(number: u8) -> Duty {
+        match number {
+            0 => Duty::Alarm,
+            1 => Duty::Parity,
+            _ => Duty::Other,
+        }
+    }
+
+    ghost service = { ds3_service };
+
+    fn service(number: u8, say: &Service, odd: bool) -> bool {
+        match number {
+            0 => x_bit(say),
+            1 => odd,
+            _ => true,
+        }
+    }
+
+    ghost is_plan = { ds3_is_plan };
+
+    ghost lawful = { ds3_keeps_laws };
+}
+
+/// The first overhead slot of a DS3 subframe: X twice, P twice, and M1 to M3.
+fn ds3_first(subframe: u8) -> Role
+    ensures { result ≡ slice_index_or ds3_firsts subframe (ServiceSlot 0) }
+{
+    match subframe {
+        0 | 1 => Role::Service(0),
+        2 | 3 => Role::Service(1),
+        4 => Role::Align(false),
+        5 => Role::Align(true),
+        6 => Role::Align(false),
+        _ => Role::Service(0),
+    }
+}
+
+/// The X bit: 1 without alarm.
+fn x_bit(say: &Service) -> bool
+    ensures { result ≡ not say.now.alarm }
+{
+    !say.alarm
+}
