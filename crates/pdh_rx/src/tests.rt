@@ -129,3 +129,43 @@ fn lines_and_leaves(rt: HostRuntime) -> Result<(), Fail> {
     }
     Ok(())
 }
+
+// How many bits each of the leaves 0 to 3 has got.
+fn counts(port: &MemPort) -> [usize; 4]
+    requires { (k : ℕ) → k < 4 → IsTrue ((⟦<MemPort as Drain>⟧.outputs port.now).holds k) }
+{
+    [
+        port.output(0).len(),
+        port.output(1).len(),
+        port.output(2).len(),
+        port.output(3).len(),
+    ]
+}
+
+// How many bits each leaf has got of a line, and whether a put failed, where the lists have room for so many.
+fn run_in_room(
+    alloc: Global,
+    line: &[bool],
+    rooms: [usize; 4],
+) -> Result<([usize; 4], bool), Fail> {
+    let mut node = node(alloc)?;
+    let mut port = MemPort::open(alloc, Vec::new(alloc), 4)?;
+    for leaf in 0..4 {
+        port.room(leaf, rooms[leaf as usize])?;
+    }
+    let failed = receive(&mut node, line, &mut port).is_err();
+    Ok((counts(&port), failed))
+}
+
+// The ones of a gap go to the leaves in rounds, one bit to each in turn: a leaf before the one whose list is full has got
+// one more, and one behind it as many.
+#[test]
+fn ones_of_a_gap_go_in_rounds(rt: HostRuntime) -> Result<(), Fail> {
+    let alloc = rt.alloc();
+    let line = line(alloc, 8480, &[])?;
+    let last_full = run_in_room(alloc, &line, [2000, 2000, 2000, 300])?;
+    assert_eq!(rt; last_full, ([301, 301, 301, 300], true));
+    let second_full = run_in_room(alloc, &line, [2000, 300, 2000, 2000])?;
+    assert_eq!(rt; second_full, ([301, 300, 300, 300], true));
+    Ok(())
+}
