@@ -1,194 +1,177 @@
--- What holds of every chain.
-use Rattle.std.proofs.Common.{◌≡◌, ℕ, [], ◌*◌, ◌<◌, refl, lit<, lit≤}
-use Rattle.pdh_shape.specs.Frame.{IsFrame}
-use Rattle.pdh_shape.specs.Tributary.{HasTributaries, ReadsEvenly}
-use Rattle.pdh_shape.specs.laws.E2Laws.{e2_is_frame, e2_has_tributaries, e2_reads_evenly}
-use Rattle.pdh_shape.specs.laws.E3Laws.{e3_is_frame, e3_has_tributaries, e3_reads_evenly}
-use Rattle.pdh_shape.specs.laws.E4Laws.{e4_is_frame, e4_has_tributaries, e4_reads_evenly}
-use Rattle.pdh_line.proofs.SendingLaws.{HasStores}
-use Rattle.pdh_clock.specs.Chain.{IsLevel, stores_at, len_at, low_at}
+-- What holds of every chain, by the tests that its stages and its entry in the list have passed.
+use Rattle.std.proofs.Common.{◌≡◌, ◌*◌, ◌/◌, ◌%◌, ◌<◌, ◌≤◌, leb-true, List, [], ◌∷◌, length, map, All, refl, sym, ap, ◌∙◌, arith}
+use Rattle.std.proofs.lemmas.Bool.{and_parts, eqb-true, ltb-true, not-true}
+use Rattle.std.proofs.lemmas.Nat.{div-add-mod'}
+use Rattle.std.proofs.Math.Nat.{mul-le-mul}
+use Rattle.std.proofs.lemmas.List.Elements.{All-nil, All-cons}
+use Rattle.std.proofs.lemmas.List.{length-map}
+use Rattle.pdh_shape.specs.declared.place.Level.{Level}
+use Rattle.pdh_shape.specs.laws.LawsOfTest.{laws-is_frame, laws-has_tributaries, laws-reads_evenly}
+use Rattle.pdh_line.specs.Sending.{HasStores, shape_numbers}
+use Rattle.pdh_levels.specs.Levels.{IsLevel, AreLevels, level_numbers, numbers_of as numbers_in}
 use Rattle.pdh_clock.specs.Made.{IsRated}
-use Rattle.pdh_nesting.specs.Chains.{width, top_len as frame_len, AreFrames, HaveStores}
-use Rattle.pdh_nesting.specs.Sending.{delay_below}
-use Rattle.pdh_nesting.proofs.KnownChains.{e2_frames, e3_frames, e3_e2_frames, e4_e3_frames, e4_e3_e2_frames, e2_stores, e3_stores, e3_e2_stores, e4_e3_stores, e4_e3_e2_stores}
-use Rattle.pdh_chain.specs.Chains.{shapes_of, shape_of, frame_bytes_of, leaves_of, level_of, levels_of, delay_of}
+use Rattle.pdh_nesting.specs.Chains.{numbers_of, width, top_len, AreFrames, ReadEvenly, AllStores}
+use Rattle.pdh_chain.specs.Stages.{Stage, level_of, frames_of}
+use Rattle.pdh_line.specs.Nodes.{width as width_of, top_len as top_len_of, delay_of as delay_by}
+use Rattle.pdh_chain.specs.Chains.{listed, name_of, shapes_of, levels_of, leaves_of, frame_bytes_of, delay_of}
+use Rattle.pdh_chain.specs.Trees.{AreLevelsOf}
 use Rattle.pdh_chain.specs.declared.chain.Chain.{Chain}
-use Rattle.pdh_chain.specs.declared.chain.Chain.TheVariants.{E12, E23, E34, E13, E24, E14}
 
--- ---- the frame
+-- ---- a stage
 
-pub is_frame : (chain : Chain) → IsFrame (shape_of chain)
-is_frame E12 = e2_is_frame
-is_frame E23 = e3_is_frame
-is_frame E34 = e4_is_frame
-is_frame E13 = e3_is_frame
-is_frame E24 = e4_is_frame
-is_frame E14 = e4_is_frame
+-- a frame carries fewer bits of a tributary than it has slots
+abbrev pub IsLow : Level → Type 0
+IsLow level = level.low < level.len
 
-pub has_tributaries : (chain : Chain) → HasTributaries (shape_of chain)
-has_tributaries E12 = e2_has_tributaries
-has_tributaries E23 = e3_has_tributaries
-has_tributaries E34 = e4_has_tributaries
-has_tributaries E13 = e3_has_tributaries
-has_tributaries E24 = e4_has_tributaries
-has_tributaries E14 = e4_has_tributaries
+record StageNumbers (stage : Stage) : Type 0 where
+  level : IsLevel (level_of stage)
+  low : IsLow (level_of stage)
 
-pub reads_evenly : (chain : Chain) → ReadsEvenly (shape_of chain)
-reads_evenly E12 = e2_reads_evenly
-reads_evenly E23 = e3_reads_evenly
-reads_evenly E34 = e4_reads_evenly
-reads_evenly E13 = e3_reads_evenly
-reads_evenly E24 = e4_reads_evenly
-reads_evenly E14 = e4_reads_evenly
+stage_numbers : (stage : Stage) → StageNumbers stage
+stage_numbers stage =
+    let a = and_parts _ _ stage.numbers in
+    let b = and_parts _ _ a.1 in
+    let c = and_parts _ _ b.1 in
+    let d = and_parts _ _ c.1 in
+    let e = and_parts _ _ d.1 in
+    record {
+      level = record { shortest = leb-true _ _ b.0; longest = leb-true _ _ c.0; fewest = leb-true _ _ d.0; most = leb-true _ _ e.0; stores = not-true _ a.0 };
+      low = ltb-true _ _ e.1;
+    }
 
-pub has_stores : (chain : Chain) → HasStores (shape_of chain)
-has_stores E12 = refl
-has_stores E23 = refl
-has_stores E34 = refl
-has_stores E13 = refl
-has_stores E24 = refl
-has_stores E14 = refl
+stage_stores : (stage : Stage) → HasStores stage.frame
+stage_stores stage = (stage_numbers stage).level.stores
 
-pub four_tributaries : (chain : Chain) → (shape_of chain).tribs ≡ 4
-four_tributaries E12 = refl
-four_tributaries E23 = refl
-four_tributaries E34 = refl
-four_tributaries E13 = refl
-four_tributaries E24 = refl
-four_tributaries E14 = refl
+stage_rated : (stage : Stage) → IsRated (level_of stage)
+stage_rated stage =
+    let a = and_parts _ _ stage.rated in
+    let b = and_parts _ _ a.1 in
+    let c = and_parts _ _ b.1 in
+    let d = and_parts _ _ c.1 in
+    let e = and_parts _ _ d.1 in
+    let f = and_parts _ _ e.1 in
+    record {
+      some_rate = ltb-true _ _ a.0;
+      few = ltb-true _ _ b.0;
+      half = leb-true _ _ c.0;
+      offset = leb-true _ _ d.0;
+      trib_offset = leb-true _ _ e.0;
+      least = leb-true _ _ f.0;
+      most = leb-true _ _ f.1;
+    }
 
-pub whole_bytes : (chain : Chain) → (shape_of chain).len ≡ 8 * frame_bytes_of chain
-whole_bytes E12 = refl
-whole_bytes E23 = refl
-whole_bytes E34 = refl
-whole_bytes E13 = refl
-whole_bytes E24 = refl
-whole_bytes E14 = refl
+-- ---- the stages of a chain
 
-pub some_bytes : (chain : Chain) → 0 < frame_bytes_of chain
-some_bytes E12 = lit< tt
-some_bytes E23 = lit< tt
-some_bytes E34 = lit< tt
-some_bytes E13 = lit< tt
-some_bytes E24 = lit< tt
-some_bytes E14 = lit< tt
+frames_are : (stages : List Stage) → AreFrames (frames_of stages)
+frames_are [] = tt
+frames_are (stage ∷ below) = (laws-is_frame stage.frame stage.lawful, laws-has_tributaries stage.frame stage.lawful, frames_are below)
 
-pub some_leaves : (chain : Chain) → 0 < leaves_of chain
-some_leaves E12 = lit< tt
-some_leaves E23 = lit< tt
-some_leaves E34 = lit< tt
-some_leaves E13 = lit< tt
-some_leaves E24 = lit< tt
-some_leaves E14 = lit< tt
+frames_even : (stages : List Stage) → ReadEvenly (frames_of stages)
+frames_even [] = tt
+frames_even (stage ∷ below) = (λ stores. laws-reads_evenly stage.frame stage.lawful, frames_even below)
 
--- ---- the level
+frames_stores : (stages : List Stage) → AllStores (frames_of stages)
+frames_stores [] = tt
+frames_stores (stage ∷ below) = (stage_stores stage, frames_stores below)
 
-pub level_len : (chain : Chain) → (level_of chain).len ≡ (shape_of chain).len
-level_len E12 = refl
-level_len E23 = refl
-level_len E34 = refl
-level_len E13 = refl
-level_len E24 = refl
-level_len E14 = refl
+all_levels : (P : Level → Type 0) → ((stage : Stage) → P (level_of stage)) → (stages : List Stage) → All P (map level_of stages)
+all_levels P each [] = All-nil P
+all_levels P each (stage ∷ below) = All-cons P (level_of stage) (map level_of below) (each stage) (all_levels P each below)
 
-pub level_low : (chain : Chain) → (level_of chain).low ≡ (shape_of chain).low
-level_low E12 = refl
-level_low E23 = refl
-level_low E34 = refl
-level_low E13 = refl
-level_low E24 = refl
-level_low E14 = refl
+-- a level has the numbers of its frame
+same_numbers : (stages : List Stage) → AreLevelsOf (frames_of stages) (map level_of stages)
+same_numbers [] = refl
+same_numbers (stage ∷ below) =
+    let own : shape_numbers stage.frame ≡ level_numbers (level_of stage) = rw (stage_stores stage) refl in
+    ap (λ numbers. numbers ∷ numbers_of (frames_of below)) own ∙ ap (λ rest. level_numbers (level_of stage) ∷ rest) (same_numbers below)
 
-pub is_level : (chain : Chain) → IsLevel (level_of chain)
-is_level E12 = record { shortest = lit≤ tt; longest = lit≤ tt; fewest = lit≤ tt; most = lit≤ tt; stores = refl }
-is_level E23 = record { shortest = lit≤ tt; longest = lit≤ tt; fewest = lit≤ tt; most = lit≤ tt; stores = refl }
-is_level E34 = record { shortest = lit≤ tt; longest = lit≤ tt; fewest = lit≤ tt; most = lit≤ tt; stores = refl }
-is_level E13 = record { shortest = lit≤ tt; longest = lit≤ tt; fewest = lit≤ tt; most = lit≤ tt; stores = refl }
-is_level E24 = record { shortest = lit≤ tt; longest = lit≤ tt; fewest = lit≤ tt; most = lit≤ tt; stores = refl }
-is_level E14 = record { shortest = lit≤ tt; longest = lit≤ tt; fewest = lit≤ tt; most = lit≤ tt; stores = refl }
-
-pub is_rated : (chain : Chain) → IsRated (level_of chain)
-is_rated E12 = record { some_rate = lit< tt; few = lit< tt; half = lit≤ tt; offset = lit≤ tt; trib_offset = lit≤ tt; least = lit≤ tt; most = lit≤ tt }
-is_rated E23 = record { some_rate = lit< tt; few = lit< tt; half = lit≤ tt; offset = lit≤ tt; trib_offset = lit≤ tt; least = lit≤ tt; most = lit≤ tt }
-is_rated E34 = record { some_rate = lit< tt; few = lit< tt; half = lit≤ tt; offset = lit≤ tt; trib_offset = lit≤ tt; least = lit≤ tt; most = lit≤ tt }
-is_rated E13 = record { some_rate = lit< tt; few = lit< tt; half = lit≤ tt; offset = lit≤ tt; trib_offset = lit≤ tt; least = lit≤ tt; most = lit≤ tt }
-is_rated E24 = record { some_rate = lit< tt; few = lit< tt; half = lit≤ tt; offset = lit≤ tt; trib_offset = lit≤ tt; least = lit≤ tt; most = lit≤ tt }
-is_rated E14 = record { some_rate = lit< tt; few = lit< tt; half = lit≤ tt; offset = lit≤ tt; trib_offset = lit≤ tt; least = lit≤ tt; most = lit≤ tt }
-
-pub top_stores : (chain : Chain) → stores_at (levels_of chain) [] ≡ 4
-top_stores E12 = refl
-top_stores E23 = refl
-top_stores E34 = refl
-top_stores E13 = refl
-top_stores E24 = refl
-top_stores E14 = refl
-
-pub top_len : (chain : Chain) → len_at (levels_of chain) [] ≡ (shape_of chain).len
-top_len E12 = refl
-top_len E23 = refl
-top_len E34 = refl
-top_len E13 = refl
-top_len E24 = refl
-top_len E14 = refl
-
-pub top_low : (chain : Chain) → low_at (levels_of chain) [] ≡ (shape_of chain).low
-top_low E12 = refl
-top_low E23 = refl
-top_low E34 = refl
-top_low E13 = refl
-top_low E24 = refl
-top_low E14 = refl
-
--- ---- the levels below
+-- ---- every chain
 
 pub are_frames : (chain : Chain) → AreFrames (shapes_of chain)
-are_frames E12 = e2_frames
-are_frames E23 = e3_frames
-are_frames E34 = (e4_is_frame, e4_has_tributaries, tt)
-are_frames E13 = e3_e2_frames
-are_frames E24 = e4_e3_frames
-are_frames E14 = e4_e3_e2_frames
+are_frames chain = frames_are (listed chain).stages
 
-pub have_stores : (chain : Chain) → HaveStores (shapes_of chain)
-have_stores E12 = e2_stores
-have_stores E23 = e3_stores
-have_stores E34 = (refl, e4_reads_evenly, tt)
-have_stores E13 = e3_e2_stores
-have_stores E24 = e4_e3_stores
-have_stores E14 = e4_e3_e2_stores
+pub read_evenly : (chain : Chain) → ReadEvenly (shapes_of chain)
+read_evenly chain = frames_even (listed chain).stages
 
-pub leaf_count : (chain : Chain) → width (shapes_of chain) ≡ leaves_of chain
-leaf_count E12 = refl
-leaf_count E23 = refl
-leaf_count E34 = refl
-leaf_count E13 = refl
-leaf_count E24 = refl
-leaf_count E14 = refl
+pub all_stores : (chain : Chain) → AllStores (shapes_of chain)
+all_stores chain = frames_stores (listed chain).stages
 
-pub top_shape : (chain : Chain) → frame_len (shapes_of chain) ≡ (shape_of chain).len
-top_shape E12 = refl
-top_shape E23 = refl
-top_shape E34 = refl
-top_shape E13 = refl
-top_shape E24 = refl
-top_shape E14 = refl
+pub are_levels_of : (chain : Chain) → AreLevelsOf (shapes_of chain) (levels_of chain)
+are_levels_of chain = same_numbers (listed chain).stages
 
--- ---- the delays
+pub all_rated : (chain : Chain) → All IsRated (levels_of chain)
+all_rated chain = all_levels IsRated stage_rated (listed chain).stages
 
--- the delay of each chain as a number
-abbrev pub delay_number : Chain → ℕ
-delay_number E12 = 444
-delay_number E23 = 788
-delay_number E34 = 1478
-delay_number E13 = 856
-delay_number E24 = 1544
-delay_number E14 = 1062
+pub all_low : (chain : Chain) → All IsLow (levels_of chain)
+all_low chain = all_levels IsLow (λ stage. (stage_numbers stage).low) (listed chain).stages
 
-pub delay_is : (chain : Chain) → delay_of chain ≡ delay_number chain
-unfolding delay_below
-delay_is E12 = refl
-delay_is E23 = refl
-delay_is E34 = refl
-delay_is E13 = refl
-delay_is E24 = refl
-delay_is E14 = refl
+-- the parts of the test of its entry
+record Held (chain : Chain) : Type 0 where
+  short : length (name_of chain) ≡ 3
+  some : 1 ≤ length (listed chain).stages
+  few : length (listed chain).stages ≤ 3
+  leaves : leaves_of chain ≤ 64
+  whole : top_len (shapes_of chain) % 8 ≡ 0
+
+held : (chain : Chain) → Held chain
+held chain =
+    let a = and_parts _ _ (listed chain).held in
+    let b = and_parts _ _ a.1 in
+    let c = and_parts _ _ b.1 in
+    let d = and_parts _ _ c.1 in
+    record { short = eqb-true _ _ a.0; some = leb-true _ _ b.0; few = leb-true _ _ c.0; leaves = leb-true _ _ d.0; whole = eqb-true _ _ d.1 }
+
+pub name_short : (chain : Chain) → length (name_of chain) ≡ 3
+name_short chain = (held chain).short
+
+pub few_leaves : (chain : Chain) → leaves_of chain ≤ 64
+few_leaves chain = (held chain).leaves
+
+pub are_levels : (chain : Chain) → AreLevels (levels_of chain)
+are_levels chain =
+    let count : length (levels_of chain) ≡ length (listed chain).stages = length-map (listed chain).stages level_of in
+    record {
+      some = omega (arith, count, (held chain).some);
+      few = omega (arith, count, (held chain).few);
+      each = all_levels IsLevel (λ stage. (stage_numbers stage).level) (listed chain).stages;
+    }
+
+pub few_shapes : (chain : Chain) → length (shapes_of chain) ≤ 3
+few_shapes chain = omega (arith, length-map (listed chain).stages (λ (stage : Stage). stage.frame), (held chain).few)
+
+-- there is a leaf
+some_width : (stages : List Stage) → 0 < width (frames_of stages)
+some_width [] = omega arith
+some_width (stage ∷ below) =
+    let each : 4 ≤ stage.frame.tribs = (stage_numbers stage).level.fewest in
+    let rest : 1 ≤ width (frames_of below) = some_width below in
+    let least : 4 * 1 ≤ stage.frame.tribs * width (frames_of below) = mul-le-mul each rest in
+    omega arith
+
+pub some_leaves : (chain : Chain) → 0 < leaves_of chain
+some_leaves chain = some_width (listed chain).stages
+
+-- the top has a frame, which is whole bytes
+top_some : (stages : List Stage) → 1 ≤ length stages → 848 ≤ top_len (frames_of stages)
+top_some [] some = absurd (omega arith)
+top_some (stage ∷ below) some = (stage_numbers stage).level.shortest
+
+pub some_bits : (chain : Chain) → 0 < top_len (shapes_of chain)
+some_bits chain = omega (arith, top_some (listed chain).stages (held chain).some)
+
+pub whole_bytes : (chain : Chain) → top_len (shapes_of chain) ≡ 8 * frame_bytes_of chain
+whole_bytes chain = omega (arith, div-add-mod' (top_len (shapes_of chain)) 8, (held chain).whole)
+
+pub some_bytes : (chain : Chain) → 0 < frame_bytes_of chain
+some_bytes chain = omega (arith, whole_bytes chain, some_bits chain)
+
+-- ---- the same, by the numbers of its levels
+
+pub leaves-by_levels : (chain : Chain) (levels : List Level) → levels ≡ levels_of chain → width_of (numbers_in levels) ≡ leaves_of chain
+leaves-by_levels chain levels same = ap (λ ls. width_of (numbers_in ls)) same ∙ sym (ap width_of (are_levels_of chain))
+
+pub bytes-by_levels : (chain : Chain) (levels : List Level) → levels ≡ levels_of chain → top_len_of (numbers_in levels) / 8 ≡ frame_bytes_of chain
+bytes-by_levels chain levels same = ap (λ ls. top_len_of (numbers_in ls) / 8) same ∙ sym (ap (λ numbers. top_len_of numbers / 8) (are_levels_of chain))
+
+pub delay-by_levels : (chain : Chain) (levels : List Level) → levels ≡ levels_of chain → delay_by (numbers_in levels) ≡ delay_of chain
+delay-by_levels chain levels same = ap (λ ls. delay_by (numbers_in ls)) same ∙ sym (ap delay_by (are_levels_of chain))

@@ -6,7 +6,8 @@ use Rattle.pdh_shape.specs.Frame.{FrameShape}
 use Rattle.pdh_nesting.specs.Chains.{width, AreFrames}
 use Rattle.pdh_nesting.specs.Receiving.{far}
 use Rattle.pdh_rx.specs.Meaning.{Meaning, Gains, GainsPart}
-use Rattle.pdh_chain.specs.Trees.{top, receiver_of}
+use Rattle.pdh_line.specs.Paths.{top}
+use Rattle.pdh_chain.specs.Trees.{receiver_of}
 use Rattle.pdh_chain.specs.Muxing.{as_line}
 use Rattle.pdh_chain.specs.Demuxing.{Receives, ReceivesFewer, ReceivesPart, IsReceiveStop}
 use Rattle.pdh_chain.specs.Demuxes.{received_of, top_delivered, PutsReceived, Demuxes, DemuxesFewer, DemuxesPart, IsDemuxStop}

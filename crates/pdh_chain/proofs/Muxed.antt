@@ -10,13 +10,15 @@ use Rattle.pdh_shape.specs.declared.place.Path.{Path}
 use Rattle.pdh_shape.specs.declared.place.Place.{Place}
 use Rattle.pdh_shape.specs.declared.place.Level.{Level}
 use Rattle.pdh_shape.specs.Frame.{FrameShape, idle}
-use Rattle.pdh_line.specs.Sending.{front, taken}
+use Rattle.pdh_line.specs.Sending.{front, given}
 use Rattle.pdh_line.specs.Events.{Event, Kind}
 use Rattle.pdh_line.specs.Events.Kind.{Overflow as OverflowKind, Underflow as UnderflowKind}
 use Rattle.pdh_line.proofs.Ranges.{map-range_same_on}
-use Rattle.pdh_line.proofs.SameLines.{taken-grows, frame-is}
-use Rattle.pdh_nesting.specs.Chains.{width, child, top_len, AreFrames}
-use Rattle.pdh_nesting.specs.Sending.{Counts, given_below}
+use Rattle.pdh_line.proofs.SameLines.{frame-is}
+use Rattle.pdh_line.proofs.SendingLaws.{given-stores}
+use Rattle.pdh_nesting.specs.Chains.{width, top_len, AreFrames, AllStores}
+use Rattle.pdh_line.specs.Nodes.{child, Counts, given_at}
+use Rattle.pdh_nesting.specs.Sending.{given_below}
 use Rattle.pdh_nesting.specs.Events.{events_in, events_below, first_event}
 use Rattle.pdh_nesting.proofs.Nodes.{begun-suc}
 use Rattle.pdh_nesting.proofs.EventParts.{events_below-none}
@@ -24,15 +26,16 @@ use Rattle.pdh_tx.specs.declared.tx.TxStop.{TxStop}
 use Rattle.pdh_tx.specs.declared.tx.TxStop.TheVariants.{Overflow, Underflow, NoFrame, Failed, Ended}
 use Rattle.pdh_tx.specs.Meaning.{Plan, Supply, Meaning, IsNodeOf, HoldsAll, Fits, is_failed}
 use Rattle.pdh_chain.specs.declared.stop.MuxStop.{MuxStop}
+use Rattle.pdh_line.specs.Paths.{top}
 use Rattle.pdh_chain.specs.declared.stop.MuxStop.TheVariants.{Memory as MuxMemory, Event as MuxEvent, NoFrame as MuxNoFrame, Ended as MuxEnded, ReadFailed as MuxReadFailed, WriteFailed as MuxWriteFailed}
-use Rattle.pdh_chain.specs.Trees.{top, sender_of, AreLevelsOf}
+use Rattle.pdh_chain.specs.Trees.{sender_of, AreLevelsOf}
 use Rattle.pdh_chain.specs.Muxing.{as_line, Stood, IsFree, Sends, StopsSending, FailsToSend}
 use Rattle.pdh_chain.specs.Muxes.{plan_with, bits_of, frames_of_line, BeginWith, PutsFrames, PutsFewer, PutsPrefix, Muxes, StopsFirst, StopsAtEvent, LacksFrames, LacksBelow, IsMuxStop, is_overflow, place_of, stop_at, mux_stop}
 use Rattle.pdh_chain.proofs.Numbered.{IsAt}
 use Rattle.pdh_chain.proofs.TreeLeaves.{leaf_known, leaf_in, leaf_out}
 use Rattle.pdh_chain.proofs.Senders.{senders, line_is, given_is, nodes_in}
 use Rattle.pdh_chain.proofs.Stops.{stop_of_kind, IsFirst, Tells, first_get}
-use Rattle.pdh_chain.proofs.SenderStops.{Other, chain_tells, given_below-grows, lacks-grows}
+use Rattle.pdh_chain.proofs.SenderStops.{Other, chain_tells, given-more, given_below-grows, lacks-grows}
 
 -- the sender of a whole chain
 abbrev pub chain_sender : List FrameShape → Meaning
@@ -62,10 +65,13 @@ nodes_held shapes levels m same at are = subst (λ (m : Meaning). All (IsNodeOf 
 
 -- ---- the first event of so many bits
 
-none_before_first : (shapes : List FrameShape) (counts : Counts) (steps : List ℕ) (k : ℕ) → given_below shapes counts steps 0 k ≡ 0
-unfolding given_below
-none_before_first [] counts steps k = refl
-none_before_first (s ∷ below) counts steps k = none_before_first below counts (child steps (k / width below)) (k % width below)
+none_before_first : (shapes : List FrameShape) (counts : Counts) (steps : List ℕ) (k : ℕ) → AllStores shapes → given_below shapes counts steps 0 k ≡ 0
+unfolding given_at
+none_before_first [] counts steps k stores = refl
+none_before_first (s ∷ below) counts steps k stores =
+    let j : ℕ = k / width below in
+    ap (λ y. given_below below counts (child steps j) y (k % width below)) (given-stores s j (counts steps j) 0 stores.0)
+    ∙ none_before_first below counts (child steps j) (k % width below) stores.1
 
 first_of_range : (f : ℕ → List Event) (a n x : ℕ) (e : Event) → a ≤ x → x < a + n → ((y : ℕ) → a ≤ y → y < x → f y ≡ []) → slice_get (f x) 0 ≡ Some e → slice_get (flat_map f (range_with_len a n)) 0 ≡ Some e
 first_of_range f a zero x e l h none here = absurd (omega arith)
@@ -100,22 +106,22 @@ no_event_ended OverflowKind leaf at e = cc
 no_event_ended UnderflowKind leaf at e = cc
 
 -- the top has the frames that it begins, so a node that lacks a frame stands below it
-lacks_below : (shapes : List FrameShape) (counts : Counts) (scheduled : List ℕ → ℕ) (frames whole made : ℕ) (node : List ℕ) → AreFrames shapes → frames ≤ scheduled [] → whole < frames → whole * top_len shapes ≤ made → made < suc whole * top_len shapes
+lacks_below : (shapes : List FrameShape) (counts : Counts) (scheduled : List ℕ → ℕ) (frames whole made : ℕ) (node : List ℕ) → AreFrames shapes → AllStores shapes → frames ≤ scheduled [] → whole < frames → whole * top_len shapes ≤ made → made < suc whole * top_len shapes
     → LacksFrames shapes counts scheduled [] (suc made) node → LacksBelow shapes counts scheduled (frames * top_len shapes) node
 unfolding LacksFrames
-lacks_below [] counts scheduled frames whole made node are has fewer begins within lacks = lacks
-lacks_below (s ∷ below) counts scheduled frames whole made node are has fewer begins within lacks = elim lacks [
+lacks_below [] counts scheduled frames whole made node are stores has fewer begins within lacks = lacks
+lacks_below (s ∷ below) counts scheduled frames whole made node are stores has fewer begins within lacks = elim lacks [
   | inl here ↦ absurd (omega (arith, here.1, has, fewer, begun-suc s made are.0, frame-is s.len whole made begins within))
   | inr there ↦
       let j : ℕ = there.0 in
       let upto : suc made ≤ frames * s.len = omega (arith, mul-le-mul_right s.len fewer, within) in (
         j,
         there.1,
-        lacks-grows below counts scheduled (child [] j) (taken s (counts [] j) (suc made)) (taken s (counts [] j) (frames * s.len)) node are.2 (taken-grows s (counts [] j) (suc made) (frames * s.len) are.0 upto) there.2,
+        lacks-grows below counts scheduled (child [] j) (given s j (counts [] j) (suc made)) (given s j (counts [] j) (frames * s.len)) node are.2 stores.1 (given-more s j (counts [] j) (suc made) (frames * s.len) are.0 stores.0 upto) there.2,
       )
 ]
 
-module _ (shapes : List FrameShape) (counts : Counts) (scheduled : List ℕ → ℕ) (are : AreFrames shapes) (at : IsAt shapes top []) where
+module _ (shapes : List FrameShape) (counts : Counts) (scheduled : List ℕ → ℕ) (are : AreFrames shapes) (stores : AllStores shapes) (at : IsAt shapes top []) where
   abbrev m : Meaning
   m = chain_sender shapes
 
@@ -128,10 +134,10 @@ module _ (shapes : List FrameShape) (counts : Counts) (scheduled : List ℕ → 
   given-is : (x k : ℕ) → k < width shapes → m.given plan x k ≡ given_below shapes counts [] x k
   given-is x k known =
       let number : k ≡ 0 + k = omega arith in
-      ap (m.given plan x) number ∙ given_is scheduled counts shapes top [] 0 x k at known
+      ap (m.given plan x) number ∙ given_is scheduled counts shapes top [] 0 x k stores at known
 
   given-none : (k : ℕ) → k < width shapes → m.given plan 0 k ≡ 0
-  given-none k known = given-is 0 k known ∙ none_before_first shapes counts [] k
+  given-none k known = given-is 0 k known ∙ none_before_first shapes counts [] k stores
 
   fits : (inputs : Inputs) → Fits m plan 0 inputs inputs.left
   fits inputs k is = let none = given-none k (is_held shapes k is) in omega (arith, none)
@@ -147,7 +153,7 @@ module _ (shapes : List FrameShape) (counts : Counts) (scheduled : List ℕ → 
           begin k i known h ∙ ap (λ n. slice_index_or (lists k) n false) here
 
   tells : (size : ℕ → ℕ) (x : ℕ) (o : Option TxStop) → m.obstacle plan size x ≡ o → Tells (Other shapes counts scheduled size [] 0 (suc x)) o (events_in shapes counts [] x)
-  tells size x o is = subst (λ o. Tells (Other shapes counts scheduled size [] 0 (suc x)) o (events_in shapes counts [] x)) is (chain_tells shapes counts scheduled size top [] 0 x are at)
+  tells size x o is = subst (λ o. Tells (Other shapes counts scheduled size [] 0 (suc x)) o (events_in shapes counts [] x)) is (chain_tells shapes counts scheduled size top [] 0 x are stores at)
 
   quiet : (inputs : Inputs) (to y : ℕ) → IsFree m plan 0 to inputs → y < to → events_in shapes counts [] y ≡ []
   quiet inputs to y free h = tells inputs.left y None (free inputs.left (fits inputs) y (omega arith) h)
@@ -198,8 +204,8 @@ module _ (shapes : List FrameShape) (counts : Counts) (scheduled : List ℕ → 
       fewer = stops.fewer;
       line = whole_frames;
       gives = record {
-        no_fewer = λ k known. omega (arith, stops.at.no_fewer k (is_leaf shapes k known), given-none k known, given-is stops.made k known, given_below-grows shapes counts [] (stops.whole * top_len shapes) stops.made k are stops.begun);
-        no_more = λ k known. omega (arith, stops.at.no_more k (is_leaf shapes k known), given-none k known, given-is (suc stops.made) k known, given_below-grows shapes counts [] (suc stops.made) (suc stops.whole * top_len shapes) k are stops.within);
+        no_fewer = λ k known. omega (arith, stops.at.no_fewer k (is_leaf shapes k known), given-none k known, given-is stops.made k known, given_below-grows shapes counts [] (stops.whole * top_len shapes) stops.made k are stores stops.begun);
+        no_more = λ k known. omega (arith, stops.at.no_more k (is_leaf shapes k known), given-none k known, given-is (suc stops.made) k known, given_below-grows shapes counts [] (suc stops.made) (suc stops.whole * top_len shapes) k are stores stops.within);
       };
     }
 
@@ -254,7 +260,7 @@ module _ (shapes : List FrameShape) (counts : Counts) (scheduled : List ℕ → 
   stops_muxes old frames (NoFrame node) inputs inputs_now outputs outputs_now faults now writes writes_now has fresh stops = elim (met old frames (NoFrame node) inputs inputs_now outputs outputs_now faults now fresh stops refl) [
     | inl first ↦ absurd (no_event_missing first.event.kind node (place_of first.event) first.is)
     | inr lacks ↦ (
-      record { steps = lacks.0; node_is = lacks.1; lacks = lacks_below shapes counts scheduled frames stops.whole stops.made lacks.0 are has stops.fewer stops.begun stops.within lacks.2 },
+      record { steps = lacks.0; node_is = lacks.1; lacks = lacks_below shapes counts scheduled frames stops.whole stops.made lacks.0 are stores has stops.fewer stops.begun stops.within lacks.2 },
       stops_first old frames (NoFrame node) inputs inputs_now outputs outputs_now faults now fresh stops refl,
     )
   ]
@@ -264,7 +270,7 @@ module _ (shapes : List FrameShape) (counts : Counts) (scheduled : List ℕ → 
         let same : short.0 ≡ leaf = omega (arith, short.1) in
         let most : ℕ = frames * top_len shapes in
         let upto : suc stops.made ≤ most = made_inside old frames (Ended leaf) inputs inputs_now outputs outputs_now faults now fresh stops in
-        let less : inputs.left leaf < given_below shapes counts [] most short.0 = omega (arith, short.3, given_below-grows shapes counts [] (suc stops.made) most short.0 are upto) in (
+        let less : inputs.left leaf < given_below shapes counts [] most short.0 = omega (arith, short.3, given_below-grows shapes counts [] (suc stops.made) most short.0 are stores upto) in (
           record { known = omega (arith, short.2, same); short = subst (λ k. inputs.left leaf < given_below shapes counts [] most k) same less; used_up = stops.at.used_up },
           stops_first old frames (Ended leaf) inputs inputs_now outputs outputs_now faults now fresh stops refl,
         )
@@ -290,12 +296,12 @@ module _ (shapes : List FrameShape) (counts : Counts) (scheduled : List ℕ → 
 
 -- ---- the same of a meaning and a length that are known to be the chain's
 
-module _ (shapes : List FrameShape) (counts : Counts) (scheduled : List ℕ → ℕ) (are : AreFrames shapes) (at : IsAt shapes top []) (m : Meaning) (len : ℕ) (same : m ≡ chain_sender shapes) (whole : top_len shapes ≡ len) where
+module _ (shapes : List FrameShape) (counts : Counts) (scheduled : List ℕ → ℕ) (are : AreFrames shapes) (stores : AllStores shapes) (at : IsAt shapes top []) (m : Meaning) (len : ℕ) (same : m ≡ chain_sender shapes) (whole : top_len shapes ≡ len) where
   pub sent : (placed : ℕ → Type 0) (old new : Supply → ℕ → Type 0) (frames : ℕ) (inputs inputs_now : Inputs) (outputs outputs_now : Outputs) → ((supply : Supply) → old supply 0)
       → Sends m placed old new (plan_with scheduled counts) (frames * len) inputs inputs_now outputs outputs_now → Muxes shapes counts scheduled frames inputs inputs_now outputs outputs_now
   sent placed old new frames inputs inputs_now outputs outputs_now fresh sends =
       let plan : Plan = plan_with scheduled counts in
-      sends_muxes shapes counts scheduled are at placed old new frames inputs inputs_now outputs outputs_now fresh
+      sends_muxes shapes counts scheduled are stores at placed old new frames inputs inputs_now outputs outputs_now fresh
       (subst (λ m. Sends m placed old new plan (frames * top_len shapes) inputs inputs_now outputs outputs_now) same (subst (λ len. Sends m placed old new plan (frames * len) inputs inputs_now outputs outputs_now) (sym whole) sends))
 
   pub stopped : (old : Supply → ℕ → Type 0) (frames : ℕ) (stop : TxStop) (inputs inputs_now : Inputs) (outputs outputs_now : Outputs) (faults now writes writes_now : ℕ) → frames ≤ scheduled [] → ((supply : Supply) → old supply 0)
@@ -303,14 +309,14 @@ module _ (shapes : List FrameShape) (counts : Counts) (scheduled : List ℕ → 
       → IsMuxStop shapes counts scheduled frames inputs inputs_now outputs outputs_now faults now writes writes_now (mux_stop stop)
   stopped old frames stop inputs inputs_now outputs outputs_now faults now writes writes_now has fresh stops =
       let plan : Plan = plan_with scheduled counts in
-      stops_muxes shapes counts scheduled are at old frames stop inputs inputs_now outputs outputs_now faults now writes writes_now has fresh
+      stops_muxes shapes counts scheduled are stores at old frames stop inputs inputs_now outputs outputs_now faults now writes writes_now has fresh
       (subst (λ m. StopsSending m old plan (top_len shapes) frames stop inputs inputs_now outputs outputs_now faults now) same (subst (λ len. StopsSending m old plan len frames stop inputs inputs_now outputs outputs_now faults now) (sym whole) stops))
 
   pub failed : (old : Supply → ℕ → Type 0) (frames : ℕ) (inputs inputs_now : Inputs) (outputs outputs_now : Outputs) (writes writes_now : ℕ) → ((supply : Supply) → old supply 0)
       → FailsToSend m old (plan_with scheduled counts) len frames inputs inputs_now outputs outputs_now writes writes_now → Rose writes writes_now × PutsPrefix shapes counts frames inputs inputs_now outputs outputs_now
   failed old frames inputs inputs_now outputs outputs_now writes writes_now fresh fails =
       let plan : Plan = plan_with scheduled counts in
-      fails_muxes shapes counts scheduled are at old frames inputs inputs_now outputs outputs_now writes writes_now fresh
+      fails_muxes shapes counts scheduled are stores at old frames inputs inputs_now outputs outputs_now writes writes_now fresh
       (subst (λ m. FailsToSend m old plan (top_len shapes) frames inputs inputs_now outputs outputs_now writes writes_now) same (subst (λ len. FailsToSend m old plan len frames inputs inputs_now outputs outputs_now writes writes_now) (sym whole) fails))
 
 -- ---- a start that failed
@@ -323,8 +329,8 @@ nothing_before : (told : Option (List Bool)) → told ≡ before [] told
 nothing_before None = refl
 nothing_before (Some list) = refl
 
-pub nothing_put : (shapes : List FrameShape) (counts : Counts) (frames : ℕ) (inputs inputs_now : Inputs) (outputs outputs_now : Outputs) → inputs_now ≡ inputs → outputs_now ≡ outputs → PutsPrefix shapes counts frames inputs inputs_now outputs outputs_now
-nothing_put shapes counts frames inputs inputs_now outputs outputs_now same same' = record {
+pub nothing_put : (shapes : List FrameShape) (counts : Counts) (frames : ℕ) (inputs inputs_now : Inputs) (outputs outputs_now : Outputs) → AllStores shapes → inputs_now ≡ inputs → outputs_now ≡ outputs → PutsPrefix shapes counts frames inputs inputs_now outputs outputs_now
+nothing_put shapes counts frames inputs inputs_now outputs outputs_now stores same same' = record {
   made = 0;
   upto = omega arith;
   given = λ k. [];
@@ -333,7 +339,7 @@ nothing_put shapes counts frames inputs inputs_now outputs outputs_now same same
     bits = λ k. nothing_before (inputs.told k) ∙ ap (λ (i : Inputs). before [] (i.told k)) (sym same);
   };
   others = λ k other. refl;
-  exact = λ k known. (let none : 0 * top_len shapes ≡ 0 = omega arith in sym (ap (λ x. given_below shapes counts [] x k) none ∙ none_before_first shapes counts [] k));
+  exact = λ k known. (let none : 0 * top_len shapes ≡ 0 = omega arith in sym (ap (λ x. given_below shapes counts [] x k) none ∙ none_before_first shapes counts [] k stores));
   puts = λ lists begin k.
       subst (λ told. PrefixOf (as_line (frames_of_line shapes counts lists 0) k) (outputs.told k) told) (ap (λ (o : Outputs). o.told k) (sym same')) (prefix_same (as_line (frames_of_line shapes counts lists 0) k) (outputs.told k));
 }

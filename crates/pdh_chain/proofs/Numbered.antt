@@ -8,9 +8,9 @@ use Rattle.std.proofs.lemmas.List.{map-append}
 use Rattle.pdh_line.proofs.Ranges.{range_push}
 use Rattle.pdh_shape.specs.declared.place.Path.{Path}
 use Rattle.pdh_shape.specs.Frame.{FrameShape}
-use Rattle.pdh_nesting.specs.Chains.{child}
-use Rattle.pdh_clock.specs.Chain.{steps_of}
-use Rattle.pdh_chain.specs.Trees.{child_path, path_of}
+use Rattle.pdh_line.specs.Nodes.{child}
+use Rattle.pdh_line.specs.Paths.{steps_of, path_of}
+use Rattle.pdh_chain.specs.Trees.{child_path}
 
 -- ---- a list that is made of numbers
 
@@ -47,10 +47,6 @@ earlier first w i j h =
     let most : suc i * w ≤ j * w = mul-le-mul_right w h in
     let e : suc i * w ≡ i * w + w = omega arith in
     omega arith
-
--- a leaf's number, by the tributary below which it stands
-pub leaf_number : (first w k : ℕ) → first + k / w * w + k % w ≡ first + k
-leaf_number first w k = let whole : k / w * w + k % w ≡ k = div-add-mod' k w in omega arith
 
 -- no leaf is below two of them
 pub apart : (first w i j k : ℕ) → first + i * w ≤ k → k < first + i * w + w → first + j * w ≤ k → k < first + j * w + w → i ≡ j

@@ -8,14 +8,14 @@ use Rattle.pdh_line.specs.Receiving.{received}
 use Rattle.pdh_line.proofs.RightLines.{received-short}
 use Rattle.pdh_nesting.specs.Chains.{width, AreFrames}
 use Rattle.pdh_nesting.specs.Receiving.{far}
-use Rattle.pdh_nesting.proofs.RoundTrip.{leaf-tributary, leaf-below}
+use Rattle.pdh_line.proofs.LeafNumbers.{leaf-tributary, leaf-below, leaf-number}
 use Rattle.pdh_rx.specs.Meaning.{Meaning}
 use Rattle.pdh_rx.specs.Tail.{tail_meaning}
 use Rattle.pdh_rx.specs.Node.{EachStands, ArePlaced, any_leaf, got_by, received_lines, node_meaning}
 use Rattle.pdh_line.specs.Paths.{steps_of}
 use Rattle.pdh_rx.specs.laws.NodeLaws.{got_elsewhere}
 use Rattle.pdh_chain.specs.Trees.{child_path, receiver_of}
-use Rattle.pdh_chain.proofs.Numbered.{found_at, child_steps, leaf_number}
+use Rattle.pdh_chain.proofs.Numbered.{found_at, child_steps}
 use Rattle.pdh_chain.proofs.TreeLeaves.{Meanings, tributary, told_below}
 
 -- ---- a node's tributaries
@@ -71,7 +71,7 @@ got_far [] path first line k h = ap (λ b. cond b line []) (eq-eqb (first + k) f
 got_far (s ∷ below) path first line k h =
     let w : ℕ = width below in
     let j : ℕ = k / w in
-    let number : first + j * w + k % w ≡ first + k = leaf_number first w k in
+    let number : first + j * w + k % w ≡ first + k = leaf-number first w k in
     let low : k % w < w = leaf-below s.tribs w k h in
     told_below receivers (first + k) (λ m l. m.got l (first + k)) (λ ms lines. got_by ms lines (first + k)) (λ m ms lines. refl) s.tribs below path first j (k % w) (received_lines s line) (leaf-tributary s.tribs w k h) low number
     ∙ ap (λ i. (tributary receivers below path first j).got (received s j line) i) (sym number)

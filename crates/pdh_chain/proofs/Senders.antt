@@ -8,12 +8,16 @@ use Rattle.pdh_shape.specs.declared.place.Level.{Level}
 use Rattle.pdh_shape.specs.declared.place.Path.{Path}
 use Rattle.pdh_shape.specs.declared.role.Service.{Service}
 use Rattle.pdh_shape.specs.Frame.{FrameShape, idle}
-use Rattle.pdh_line.specs.Sending.{taken}
+use Rattle.pdh_line.specs.Progress.{FrameNumbers}
+use Rattle.pdh_line.specs.Sending.{taken, shape_numbers}
+use Rattle.pdh_line.proofs.SendingLaws.{given-stores}
 use Rattle.pdh_line.proofs.SameLines.{line_bit-same}
-use Rattle.pdh_nesting.specs.Chains.{width, child, AreFrames}
-use Rattle.pdh_nesting.specs.Sending.{Counts, chain_line, given_below}
-use Rattle.pdh_nesting.proofs.RoundTrip.{leaf-tributary, leaf-below}
-use Rattle.pdh_clock.specs.Chain.{steps_of, level_at}
+use Rattle.pdh_nesting.specs.Chains.{width, AreFrames, AllStores}
+use Rattle.pdh_line.specs.Nodes.{child, Counts, given_at}
+use Rattle.pdh_nesting.specs.Sending.{chain_line, given_below}
+use Rattle.pdh_line.specs.Paths.{steps_of}
+use Rattle.pdh_line.proofs.LeafNumbers.{leaf-tributary, leaf-below, leaf-number}
+use Rattle.pdh_levels.specs.Levels.{level_at, level_numbers}
 use Rattle.pdh_tx.specs.Meaning.{Plan, Supply, Meaning, NodeFrame, IsNodeOf}
 use Rattle.pdh_tx.specs.Leaf.{leaf_meaning}
 use Rattle.pdh_tx.specs.Node.{any_leaf, given_by, line_of, source_of, node_frame, node_meaning}
@@ -21,7 +25,7 @@ use Rattle.pdh_tx.specs.NodeState.{ArePlaced}
 use Rattle.pdh_chain.specs.Trees.{child_path, sender_of, AreLevelsOf}
 use Rattle.pdh_chain.specs.Muxes.{plan_with}
 use Rattle.pdh_chain.proofs.TreeLeaves.{Meanings, tributary, told_below}
-use Rattle.pdh_chain.proofs.Numbered.{found_at, stands_at, child_steps, leaf_number, IsAt, child_at}
+use Rattle.pdh_chain.proofs.Numbered.{found_at, stands_at, child_steps, IsAt, child_at}
 
 -- ---- a node's tributaries
 
@@ -82,21 +86,22 @@ module _ (scheduled : List ℕ → ℕ) (counts : Counts) (lists : ℕ → ℕ �
 -- ---- what the leaves give
 
 -- how many bits leaf k has given by the time when x bits of the line are made
-pub given_is : (scheduled : List ℕ → ℕ) (counts : Counts) (shapes : List FrameShape) (path : Path) (steps : List ℕ) (first x k : ℕ) → IsAt shapes path steps → k < width shapes
+pub given_is : (scheduled : List ℕ → ℕ) (counts : Counts) (shapes : List FrameShape) (path : Path) (steps : List ℕ) (first x k : ℕ) → AllStores shapes → IsAt shapes path steps → k < width shapes
     → (sender_of shapes path first).given (plan_with scheduled counts) x (first + k) ≡ given_below shapes counts steps x k
-unfolding sender_of given_below
-given_is scheduled counts [] path steps first x k at h = refl
-given_is scheduled counts (s ∷ below) path steps first x k at h =
+unfolding sender_of given_at
+given_is scheduled counts [] path steps first x k stores at h = refl
+given_is scheduled counts (s ∷ below) path steps first x k stores at h =
     let w : ℕ = width below in
     let j : ℕ = k / w in
     let plan : Plan = plan_with scheduled counts in
-    let number : first + j * w + k % w ≡ first + k = leaf_number first w k in
+    let number : first + j * w + k % w ≡ first + k = leaf-number first w k in
     let low : k % w < w = leaf-below s.tribs w k h in
     let made : ℕ → ℕ = λ i. taken s (counts (steps_of path) i) x in
     told_below senders (first + k) (λ m n. m.given plan n (first + k)) (λ ms made. given_by ms plan made (first + k)) (λ m ms made. refl) s.tribs below path first j (k % w) made (leaf-tributary s.tribs w k h) low number
     ∙ ap (λ i. (tributary senders below path first j).given plan (made j) i) (sym number)
-    ∙ given_is scheduled counts below (child_path path j) (child steps j) (first + j * w) (made j) (k % w) (child_at s below path steps j at) low
+    ∙ given_is scheduled counts below (child_path path j) (child steps j) (first + j * w) (made j) (k % w) stores.1 (child_at s below path steps j at) low
     ∙ ap (λ (st : List ℕ). given_below below counts (child steps j) (taken s (counts st j) x) (k % w)) at.0
+    ∙ ap (λ y. given_below below counts (child steps j) y (k % w)) (sym (given-stores s j (counts steps j) x stores.0))
 
 -- ---- the levels of its nodes
 
@@ -128,17 +133,17 @@ pub nodes_in : (levels rest : List Level) (shapes : List FrameShape) (path : Pat
     → All (IsNodeOf levels) (sender_of shapes path first).nodes
 unfolding sender_of
 nodes_in levels rest [] path steps first at are reaches = λ k d h. absurd (omega arith)
-nodes_in levels [] (s ∷ below) path steps first at are reaches = absurd are
+nodes_in levels [] (s ∷ below) path steps first at are reaches = cc
 nodes_in levels (level ∷ rest) (s ∷ below) path steps first at are reaches =
+    let own : level_numbers level ≡ shape_numbers s = cc in
+    let others : AreLevelsOf below rest = cc in
+    let tribs : level.tribs ≡ s.tribs = ap (λ (n : FrameNumbers). n.tribs) own in
     all_more (IsNodeOf levels) (node_frame s path) (flat_map (λ (m : Meaning). m.nodes) (senders_below below path first s.tribs))
     (record {
       level = level;
       at = ap (level_at levels) (at.0 ∙ sym (append-nil steps)) ∙ reaches [];
-      len = are.0.len;
-      tribs = are.0.tribs;
-      low = are.0.low;
-      locked = are.0.stores;
+      numbers = own;
     })
     (all_flat (IsNodeOf levels) (λ (m : Meaning). m.nodes) (tributary senders below path first) 0 s.tribs
-    (λ j l h. nodes_in levels rest below (child_path path j) (child steps j) (first + j * width below) (child_at s below path steps j at) are.1
-    (child_reaches levels steps level rest j (omega (arith, are.0.tribs)) reaches)))
+    (λ j l h. nodes_in levels rest below (child_path path j) (child steps j) (first + j * width below) (child_at s below path steps j at) others
+    (child_reaches levels steps level rest j (omega (arith, h, tribs)) reaches)))

@@ -20,14 +20,15 @@ use Rattle.pdh_edge.specs.Ports.{Inputs, Outputs, PrefixOf}
 use Rattle.pdh_edge.specs.MemLists.{length_of, bits_held}
 use Rattle.pdh_shape.specs.Frame.{idle}
 use Rattle.pdh_line.proofs.SentFrames.{length-front}
-use Rattle.pdh_nesting.specs.Sending.{Counts, chain_line}
+use Rattle.pdh_line.specs.Nodes.{Counts}
+use Rattle.pdh_nesting.specs.Sending.{chain_line}
 use Rattle.std.proofs.lemmas.Nat.{le-div}
 use Rattle.pdh_chain.specs.Muxing.{as_line}
 use Rattle.pdh_chain.specs.Muxes.{bits_of, frames_of_line, PutsPrefix}
 use Rattle.pdh_chain.specs.Demuxes.{received_of, DemuxesPart}
 use Rattle.pdh_nesting.specs.Chains.{width, top_len, AreFrames}
 use Rattle.pdh_nesting.specs.Receiving.{far}
-use Rattle.pdh_nesting.proofs.RoundTrip.{leaf-tributary, leaf-below}
+use Rattle.pdh_line.proofs.LeafNumbers.{leaf-tributary, leaf-below}
 
 -- ---- the slots of all tributaries
 

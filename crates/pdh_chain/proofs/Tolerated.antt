@@ -2,12 +2,12 @@
 use Rattle.std.proofs.Common.{◌≡◌, ℕ, ◌<◌, ◌≤◌, suc, List, [], ◌∷◌, length, refl, arith, inl, inr, Option, Some, None}
 use Rattle.pdh_shape.specs.Frame.{FrameShape}
 use Rattle.pdh_line.specs.Events.{Event}
-use Rattle.pdh_nesting.specs.Sending.{Counts}
+use Rattle.pdh_line.specs.Nodes.{Counts}
 use Rattle.pdh_nesting.specs.Events.{events_in}
 use Rattle.pdh_nesting.proofs.NoEvents.{no_events}
 use Rattle.pdh_tx.specs.declared.tx.TxStop.{TxStop}
 use Rattle.pdh_tx.specs.declared.tx.TxStop.TheVariants.{Overflow, Underflow, NoFrame, Failed, Ended}
-use Rattle.pdh_chain.specs.Trees.{top}
+use Rattle.pdh_line.specs.Paths.{top}
 use Rattle.pdh_chain.specs.Muxes.{obstacle_at, IsNoEvent, IsTolerated}
 use Rattle.pdh_chain.proofs.Numbered.{IsAt}
 use Rattle.pdh_chain.proofs.Stops.{IsFirst, Tells}
@@ -33,5 +33,5 @@ module _ (shapes : List FrameShape) (counts : Counts) (scheduled : List ℕ → 
 
 pub no_event : (shapes : List FrameShape) (counts : Counts) (bits : ℕ) → IsTolerated shapes counts bits → (scheduled : List ℕ → ℕ) (size : ℕ → ℕ) (x : ℕ) → x < bits → IsNoEvent (obstacle_at shapes counts scheduled size x)
 no_event shapes counts bits is scheduled size x less =
-    without shapes counts scheduled size x (obstacle_at shapes counts scheduled size x) (events_in shapes counts [] x) (no_events shapes counts [] bits x is.frames is.stores is.within less)
-    (chain_tells shapes counts scheduled size top [] 0 x is.frames (at_top shapes is.levels))
+    without shapes counts scheduled size x (obstacle_at shapes counts scheduled size x) (events_in shapes counts [] x) (no_events shapes counts [] bits x is.frames is.even is.within less)
+    (chain_tells shapes counts scheduled size top [] 0 x is.frames is.stores (at_top shapes is.levels))

@@ -7,9 +7,9 @@ use Rattle.std.proofs.lemmas.List.FromFn.{length-range_with_len}
 use Rattle.pdh_shape.specs.declared.place.Path.{Path}
 use Rattle.pdh_shape.specs.Frame.{FrameShape}
 use Rattle.pdh_nesting.specs.Chains.{width}
-use Rattle.pdh_nesting.proofs.RoundTrip.{leaf-tributary, leaf-below}
+use Rattle.pdh_line.proofs.LeafNumbers.{leaf-tributary, leaf-below, leaf-number}
 use Rattle.pdh_chain.specs.Trees.{child_path}
-use Rattle.pdh_chain.proofs.Numbered.{found_at, one_more, below_node, earlier, apart, leaf_number}
+use Rattle.pdh_chain.proofs.Numbered.{found_at, one_more, below_node, earlier, apart}
 
 -- What chains mean, by the frames of their levels, by the path of the top and by the number of the first leaf. A leaf has its
 -- own number, and a node the leaves of its tributaries.
@@ -87,7 +87,7 @@ module _ {M : Type 0} (c : Meanings M) where
   leaf_known (s ∷ below) path first k h =
       let w : ℕ = width below in
       let j : ℕ = k / w in
-      let number : first + j * w + k % w ≡ first + k = leaf_number first w k in
+      let number : first + j * w + k % w ≡ first + k = leaf-number first w k in
       c.node s below path first (first + k)
       ∙ any-here (tributary below path first) 0 s.tribs j (first + k) (omega arith) (omega (arith, leaf-tributary s.tribs w k h))
       (ap (c.leaves (tributary below path first j)) (sym number) ∙ leaf_known below (child_path path j) (first + j * w) (k % w) (leaf-below s.tribs w k h))

@@ -1,3 +1,4 @@
+pub mod Stages
 pub mod Chains
 pub mod Muxing
 pub mod Trees

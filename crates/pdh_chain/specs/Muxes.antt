@@ -7,18 +7,19 @@ use Rattle.pdh_edge.specs.Ports.{Inputs, Outputs, Takes, Puts, PutsPart}
 use Rattle.pdh_shape.specs.Frame.{FrameShape, idle}
 use Rattle.pdh_shape.specs.declared.place.Place.{Place}
 use Rattle.pdh_shape.specs.declared.place.Path.{Path}
-use Rattle.pdh_line.specs.Sending.{front, begun, taken}
+use Rattle.pdh_line.specs.Sending.{front, begun, given}
 use Rattle.pdh_line.specs.Events.{Event, Kind}
 use Rattle.pdh_line.specs.Events.Kind.{Overflow, Underflow}
-use Rattle.pdh_nesting.specs.Chains.{width, child, top_len, AreFrames, HaveStores}
-use Rattle.pdh_nesting.specs.Sending.{Counts, chain_line, given_below, AllWithin}
+use Rattle.pdh_nesting.specs.Chains.{width, top_len, AreFrames, AllStores, ReadEvenly}
+use Rattle.pdh_line.specs.Nodes.{child, Counts}
+use Rattle.pdh_nesting.specs.Sending.{chain_line, given_below, AllWithin}
+use Rattle.pdh_line.specs.Paths.{steps_of, top, path_of}
 use Rattle.pdh_nesting.specs.Events.{events_in, first_event}
-use Rattle.pdh_clock.specs.Chain.{steps_of}
 use Rattle.pdh_tx.specs.Meaning.{Plan}
 use Rattle.pdh_tx.specs.declared.tx.TxStop.{TxStop}
 use Rattle.pdh_tx.specs.declared.tx.TxStop.TheVariants.{Overflow as TxOverflow, Underflow as TxUnderflow, NoFrame as TxNoFrame, Failed as TxFailed, Ended as TxEnded}
 use Rattle.pdh_chain.specs.Muxing.{as_line}
-use Rattle.pdh_chain.specs.Trees.{top, path_of, sender_of}
+use Rattle.pdh_chain.specs.Trees.{sender_of}
 use Rattle.pdh_chain.specs.declared.stop.MuxStop.{MuxStop}
 use Rattle.pdh_chain.specs.declared.stop.MuxStop.TheVariants.{Memory, Event as MeetsEvent, NoFrame, Ended, ReadFailed, WriteFailed}
 
@@ -78,12 +79,13 @@ IsNoEvent (Some (TxOverflow place)) = ⊥
 IsNoEvent (Some (TxUnderflow place)) = ⊥
 IsNoEvent (Some stop) = Unit {0}
 
--- A chain of at most three levels, of which all nodes have stores, is within the tolerance over the frames that so many bits of
+-- A chain of at most three levels, of which all nodes have stores and read their tributaries evenly, is within the tolerance over the frames that so many bits of
 -- its line begin.
 pub record IsTolerated (shapes : List FrameShape) (counts : Counts) (bits : ℕ) : Type 0 where
   pub levels : length shapes ≤ 3
   pub frames : AreFrames shapes
-  pub stores : HaveStores shapes
+  pub stores : AllStores shapes
+  pub even : ReadEvenly shapes
   pub within : AllWithin shapes counts [] bits
 
 -- ---- all frames
@@ -156,12 +158,12 @@ pub record PutsPrefix (shapes : List FrameShape) (counts : Counts) (frames : ℕ
 unfoldable pub LacksFrames : List FrameShape → Counts → (List ℕ → ℕ) → List ℕ → ℕ → List ℕ → Type 0
 LacksFrames [] counts scheduled path x node = ⊥
 LacksFrames (s ∷ below) counts scheduled path x node =
-    ((node ≡ path) × (scheduled path < begun s x)) ⊎ ((j : ℕ) × (j < s.tribs) × LacksFrames below counts scheduled (child path j) (taken s (counts path j) x) node)
+    ((node ≡ path) × (scheduled path < begun s x)) ⊎ ((j : ℕ) × (j < s.tribs) × LacksFrames below counts scheduled (child path j) (given s j (counts path j) x) node)
 
 -- the same of a node below the top
 abbrev pub LacksBelow : List FrameShape → Counts → (List ℕ → ℕ) → ℕ → List ℕ → Type 0
 LacksBelow [] counts scheduled x node = ⊥
-LacksBelow (s ∷ below) counts scheduled x node = (j : ℕ) × (j < s.tribs) × LacksFrames below counts scheduled (child [] j) (taken s (counts [] j) x) node
+LacksBelow (s ∷ below) counts scheduled x node = (j : ℕ) × (j < s.tribs) × LacksFrames below counts scheduled (child [] j) (given s j (counts [] j) x) node
 
 -- a node below the top has fewer frames than it begins by so many frames of the top
 pub record StopsForFrame (shapes : List FrameShape) (counts : Counts) (scheduled : List ℕ → ℕ) (frames : ℕ) (node : Path) : Type 0 where

@@ -1,26 +1,17 @@
 -- Whole chains of senders and of receivers.
-use Rattle.std.specs.Prelude.{◌≡◌, ℕ, suc, ◌+◌, ◌*◌, ◌==◌, false, if◌then◌else◌, List, [], ◌∷◌, map}
+use Rattle.std.specs.Prelude.{◌≡◌, ℕ, suc, ◌+◌, ◌*◌, ◌==◌, if◌then◌else◌, List, [], ◌∷◌, map}
 use Rattle.std.specs.List.{range_with_len}
 use Rattle.pdh_shape.specs.declared.place.Path.{Path}
 use Rattle.pdh_shape.specs.declared.place.Level.{Level}
 use Rattle.pdh_shape.specs.Frame.{FrameShape}
-use Rattle.pdh_nesting.specs.Chains.{width}
+use Rattle.pdh_levels.specs.Levels.{numbers_of as numbers_in}
+use Rattle.pdh_nesting.specs.Chains.{width, numbers_of}
 use Rattle.pdh_tx.specs.Meaning.{Meaning as Sends}
 use Rattle.pdh_tx.specs.Leaf.{leaf_meaning}
 use Rattle.pdh_tx.specs.Node.{node_meaning as multiplexer_of}
 use Rattle.pdh_rx.specs.Meaning.{Meaning as Receives}
 use Rattle.pdh_rx.specs.Tail.{tail_meaning}
 use Rattle.pdh_rx.specs.Node.{node_meaning as demultiplexer_of}
-
--- the top's path
-abbrev pub top : Path
-top = record { depth = 0; first = 0; second = 0 }
-
--- the path of the node to which these steps lead from the top
-abbrev pub path_of : List ℕ → Path
-path_of [] = top
-path_of (first ∷ []) = record { depth = 1; first = first; second = 0 }
-path_of (first ∷ second ∷ rest) = record { depth = 2; first = first; second = second }
 
 -- the path of the tributary of that number, from 0; a node two steps below the top has leaves alone, which have no path
 abbrev pub child_path : Path → ℕ → Path
@@ -37,15 +28,6 @@ unfoldable pub receiver_of : List FrameShape → Path → ℕ → Receives
 receiver_of [] path first = tail_meaning first
 receiver_of (s ∷ below) path first = demultiplexer_of s path (map (λ j. receiver_of below (child_path path j) (first + j * width below)) (range_with_len 0 s.tribs))
 
--- a level has the numbers of a frame whose tributaries have stores
-pub record IsLevelOf (s : FrameShape) (level : Level) : Type 0 where
-  pub len : level.len ≡ s.len
-  pub tribs : level.tribs ≡ s.tribs
-  pub low : level.low ≡ s.low
-  pub stores : level.locked ≡ false
-
--- each level has the numbers of its frame
+-- the levels have the numbers of these frames
 abbrev pub AreLevelsOf : List FrameShape → List Level → Type 0
-AreLevelsOf [] [] = Unit {0}
-AreLevelsOf (s ∷ shapes) (level ∷ levels) = IsLevelOf s level × AreLevelsOf shapes levels
-AreLevelsOf _ _ = ⊥
+AreLevelsOf shapes levels = numbers_of shapes ≡ numbers_in levels

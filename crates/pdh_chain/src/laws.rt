@@ -4,7 +4,7 @@ ghost use Rattle.pdh_edge.specs.Ports.{Inputs, Outputs};
 ghost use Rattle.pdh_edge.specs.MemLists.{bits_held};
 ghost use Rattle.pdh_shape.specs.Frame.{FrameShape};
 ghost use Rattle.pdh_nesting.specs.Chains.{width, top_len, AreFrames};
-ghost use Rattle.pdh_nesting.specs.Sending.{Counts};
+ghost use Rattle.pdh_line.specs.Nodes.{Counts};
 ghost use Rattle.pdh_nesting.specs.Receiving.{far};
 ghost use Rattle.pdh_chain.specs.Muxes.{obstacle_at, IsNoEvent, IsTolerated, PutsPrefix};
 ghost use Rattle.pdh_chain.specs.Demuxes.{DemuxesPart};

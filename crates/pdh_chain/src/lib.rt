@@ -1,6 +1,7 @@
 //! The chains of multiplexers.
 #![tactic(auto)]
 
+mod by_chain;
 mod chain;
 mod laws;
 mod making;
@@ -11,11 +12,10 @@ mod stop;
 mod tests;
 mod trees;
 
-pub use chain::{Chain, delay, frame_bytes, leaves, levels};
+pub use by_chain::{demux, mux};
+pub use chain::{Chain, all_chains, delay, frame_bytes, leaves};
 pub use laws::{
     demux_puts_no_more_than_the_shares, leaf_receives_no_more_than_its_share,
     mux_puts_no_more_than_its_frames, no_event_within_tolerance,
 };
-pub use making::mux;
-pub use receiving::demux;
 pub use stop::{DemuxStop, MuxStop};

@@ -1,19 +1,13 @@
 ghost use Rattle.std.specs.Prelude.{◌≡◌, length, IfOk};
 ghost use Rattle.pdh_chain.specs.Chains.{leaves_of};
 
-use crate::{Chain, DemuxStop, MuxStop, demux, leaves, levels, mux};
+use crate::{Chain, DemuxStop, MuxStop, demux, leaves, mux};
 use pdh_clock::Schedule;
 use pdh_edge::MemPort;
-use pdh_shape::{Path, Place};
+use pdh_shape::{Place, TOP};
 use pdh_watch::Quiet;
 use std::alloc::{AllocError, Global};
 use std::test::Fail;
-
-const TOP: Path = Path {
-    depth: 0,
-    first: 0,
-    second: 0,
-};
 
 // A list of zeros for each leaf, of these lengths.
 fn zeros(alloc: Global, lengths: [usize; 4]) -> Result<Vec<Vec<bool>>, AllocError>
@@ -36,8 +30,7 @@ fn run(
 ) -> Result<(Result<(), MuxStop>, usize), Fail>
     requires { leaves_of chain ≡ 4 }
 {
-    let levels = levels(alloc, chain)?;
-    let clock = Schedule::read(alloc, &levels, schedule)?;
+    let clock = Schedule::read(alloc, chain.levels(), schedule)?;
     let mut port = MemPort::open(alloc, zeros(alloc, lengths)?, 1)?;
     port.room(0, 4_096)?;
     let end = mux(alloc, chain, &clock, clock.frames(&TOP), &mut port);

@@ -9,12 +9,13 @@ use Rattle.pdh_rows.proofs.OutsideLaws.{find_none}
 use Rattle.pdh_shape.specs.declared.place.Level.{Level}
 use Rattle.pdh_clock.specs.Row.{Row}
 use Rattle.pdh_shape.specs.declared.place.Path.{Path}
-use Rattle.pdh_clock.specs.Chain.{IsLevel, nodes_of, level_at, stores_at, steps_of}
+use Rattle.pdh_levels.specs.Levels.{IsLevel, nodes_in, level_at, stores_at, place_of}
+use Rattle.pdh_line.specs.Paths.{steps_of}
 use Rattle.pdh_clock.specs.Contents.{Contents, counts, frame_count}
-use Rattle.pdh_clock.specs.Begun.{taken, begun_by, begun_from, bits_from, bits_made, top_len, frames_begun, NoneShort, shortage}
-use Rattle.pdh_clock.specs.Stored.{place_of}
-use Rattle.pdh_clock.proofs.Nodes.{is_below, placed}
-use Rattle.pdh_clock.proofs.Levels.{stores_is, steps_one, steps_two, place_none}
+use Rattle.pdh_clock.specs.Begun.{taken, begun_from, bits_from, bits_made, top_len, frames_begun, NoneShort, shortage}
+use Rattle.pdh_line.specs.Progress.{begun_by}
+use Rattle.pdh_levels.proofs.NodeOrder.{is_below, placed}
+use Rattle.pdh_levels.proofs.LevelLaws.{stores_is, steps_one, steps_two, place_none}
 
 -- ---- frames and bits
 
@@ -97,17 +98,17 @@ pub begun_bits : (rows : List Row) (levels : List Level) (from path : List ℕ) 
 begun_bits rows [] from path x level h = cc
 begun_bits rows (first ∷ below) from [] x level h = let same : first ≡ level = cc in ap (λ (l : Level). begun_by l.len x) same
 begun_bits rows (first ∷ below) from (step ∷ path) x level h =
-    begun_bits rows below (from ++ step ∷ []) path (taken first (counts rows from (step - 1)) x) level (level_below first below step path level h)
+    begun_bits rows below (from ++ step ∷ []) path (taken first (step - 1) (counts rows from (step - 1)) x) level (level_below first below step path level h)
 
 pub bits_step : (rows : List Row) (levels : List Level) (from path : List ℕ) (step x : ℕ) (level : Level) → level_at levels path ≡ Some level
-    → bits_from rows levels from x (path ++ step ∷ []) ≡ taken level (counts rows (from ++ path) (step - 1)) (bits_from rows levels from x path)
+    → bits_from rows levels from x (path ++ step ∷ []) ≡ taken level (step - 1) (counts rows (from ++ path) (step - 1)) (bits_from rows levels from x path)
 bits_step rows [] from path step x level h = cc
 bits_step rows (first ∷ below) from [] step x level h =
     let same : first ≡ level = cc in
-    ap (λ (l : Level). taken l (counts rows from (step - 1)) x) same ∙ ap (λ p. taken level (counts rows p (step - 1)) x) (sym (append-nil from))
+    ap (λ (l : Level). taken l (step - 1) (counts rows from (step - 1)) x) same ∙ ap (λ p. taken level (step - 1) (counts rows p (step - 1)) x) (sym (append-nil from))
 bits_step rows (first ∷ below) from (number ∷ path) step x level h =
-    bits_step rows below (from ++ number ∷ []) path step (taken first (counts rows from (number - 1)) x) level (level_below first below number path level h)
-    ∙ ap (λ p. taken level (counts rows p (step - 1)) (bits_from rows below (from ++ number ∷ []) (taken first (counts rows from (number - 1)) x) path))
+    bits_step rows below (from ++ number ∷ []) path step (taken first (number - 1) (counts rows from (number - 1)) x) level (level_below first below number path level h)
+    ∙ ap (λ p. taken level (step - 1) (counts rows p (step - 1)) (bits_from rows below (from ++ number ∷ []) (taken first (number - 1) (counts rows from (number - 1)) x) path))
     (append_assoc from (number ∷ []) path)
 
 -- a node below a tributary of another
@@ -155,7 +156,7 @@ enough_at schedule n place path level enough is before =
 
 -- what a node takes is what the one below it makes
 pub bits_child : (schedule : Contents) (n : ℕ) (path : List ℕ) (step : ℕ) (level : Level) → level_at schedule.levels path ≡ Some level
-    → bits_made schedule n (path ++ step ∷ []) ≡ taken level (counts schedule.rows path (step - 1)) (bits_made schedule n path)
+    → bits_made schedule n (path ++ step ∷ []) ≡ taken level (step - 1) (counts schedule.rows path (step - 1)) (bits_made schedule n path)
 bits_child schedule n path step level is = bits_step schedule.rows schedule.levels [] path step (n * top_len schedule.levels) level is
 
 -- ---- the way from the top to a node
@@ -217,20 +218,20 @@ none_found : {X : Type 0} (p : X → Bool) (xs : List X) (d : X) → ((j : ℕ) 
 none_found p [] d least = refl
 none_found p (x ∷ xs) d least = rw (least 0 (omega arith)) (none_found p xs d (λ j m. least (suc j) (omega arith)))
 
-pub shortage_first : (schedule : Contents) (n k : ℕ) (path : List ℕ) → k < length (nodes_of schedule.levels) → get_or (nodes_of schedule.levels) k [] ≡ path
+pub shortage_first : (schedule : Contents) (n k : ℕ) (path : List ℕ) → k < length (nodes_in schedule.levels) → get_or (nodes_in schedule.levels) k [] ≡ path
     → NoneShort schedule n k → frame_count schedule.rows path < frames_begun schedule n path
     → shortage schedule n ≡ Some (record { path = path; have = frame_count schedule.rows path; need = frames_begun schedule n path })
 unfolding shortage
 shortage_first schedule n k path l at enough short =
     ap (option_map (λ path. record { path = path; have = frame_count schedule.rows path; need = frames_begun schedule n path }))
-    (find_first (λ path. nat_lt (frame_count schedule.rows path) (frames_begun schedule n path)) (nodes_of schedule.levels) k [] path l at (lt-ltb _ _ short)
+    (find_first (λ path. nat_lt (frame_count schedule.rows path) (frames_begun schedule n path)) (nodes_in schedule.levels) k [] path l at (lt-ltb _ _ short)
     (λ j h m. le-ltb _ _ (enough j h m)))
 
-pub shortage_none : (schedule : Contents) (n k : ℕ) → length (nodes_of schedule.levels) ≤ k → NoneShort schedule n k → shortage schedule n ≡ None
+pub shortage_none : (schedule : Contents) (n k : ℕ) → length (nodes_in schedule.levels) ≤ k → NoneShort schedule n k → shortage schedule n ≡ None
 unfolding shortage
 shortage_none schedule n k all enough =
     ap (option_map (λ path. record { path = path; have = frame_count schedule.rows path; need = frames_begun schedule n path }))
-    (none_found (λ path. nat_lt (frame_count schedule.rows path) (frames_begun schedule n path)) (nodes_of schedule.levels) []
+    (none_found (λ path. nat_lt (frame_count schedule.rows path) (frames_begun schedule n path)) (nodes_in schedule.levels) []
     (λ j m. le-ltb _ _ (enough j (omega arith) m)))
 
 found_some : {X Y : Type 0} (shown : X → Y) (o : Option X) → IsNone (option_map shown o) → o ≡ None
@@ -241,15 +242,22 @@ found_some shown (Some x) none = absurd (false≢true (sym none))
 pub none_short : (schedule : Contents) (n place : ℕ) → IsNone (shortage schedule n) → NoneShort schedule n place
 unfolding shortage
 none_short schedule n place none = λ k h l.
-    ltb-false _ _ (find_none (λ path. nat_lt (frame_count schedule.rows path) (frames_begun schedule n path)) (nodes_of schedule.levels)
+    ltb-false _ _ (find_none (λ path. nat_lt (frame_count schedule.rows path) (frames_begun schedule n path)) (nodes_in schedule.levels)
     (found_some (λ path. record { path = path; have = frame_count schedule.rows path; need = frames_begun schedule n path }) _ none) k [] l)
 
-pub none_short_more : (schedule : Contents) (n k : ℕ) (path : List ℕ) → NoneShort schedule n k → get_or (nodes_of schedule.levels) k [] ≡ path
+pub none_short_more : (schedule : Contents) (n k : ℕ) (path : List ℕ) → NoneShort schedule n k → get_or (nodes_in schedule.levels) k [] ≡ path
     → frames_begun schedule n path ≤ frame_count schedule.rows path → NoneShort schedule n (k + 1)
 none_short_more schedule n k path enough at more = λ j h l. elim (cases_lt j k) [
   | inl before ↦ enough j before l
   | inr last ↦
       let same : j ≡ k = omega arith in
-      let here : get_or (nodes_of schedule.levels) j [] ≡ path = ap (λ k. get_or (nodes_of schedule.levels) k []) same ∙ at in
+      let here : get_or (nodes_in schedule.levels) j [] ≡ path = ap (λ k. get_or (nodes_in schedule.levels) k []) same ∙ at in
       subst (λ p. frames_begun schedule n p ≤ frame_count schedule.rows p) (sym here) more
 ]
+
+-- where no node has too few frames, a node has those that it begins
+pub scheduled_at : (schedule : Contents) (n : ℕ) (path : List ℕ) → IsNone (shortage schedule n) → IsSome (level_at schedule.levels path) → frames_begun schedule n path ≤ frame_count schedule.rows path
+scheduled_at schedule n path none some =
+    let at = placed schedule.levels path some in
+    subst (λ p. frames_begun schedule n p ≤ frame_count schedule.rows p) (at.node [])
+    (none_short schedule n (suc (place_of schedule.levels path)) none (place_of schedule.levels path) (omega arith) at.inside)

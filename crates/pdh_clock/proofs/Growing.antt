@@ -14,12 +14,13 @@ use Rattle.pdh_clock.specs.declared.fault.ScheduleFault.{ScheduleFault}
 use Rattle.pdh_clock.specs.declared.fault.ScheduleFault.TheVariants.{TooLong, BadRow, UnknownNode, CountOver, Memory}
 use Rattle.pdh_clock.specs.declared.tree.Tree.{Tree}
 use Rattle.pdh_clock.specs.Row.{Row}
-use Rattle.pdh_clock.specs.Chain.{level_at, nodes_of, same_path}
-use Rattle.pdh_clock.specs.Contents.{rows_at, by_nodes}
+use Rattle.pdh_levels.specs.Levels.{level_at, nodes_in}
+use Rattle.pdh_clock.specs.Contents.{rows_at, by_nodes, same_path}
 use Rattle.pdh_clock.specs.Text.{lines_of}
 use Rattle.pdh_clock.specs.Judged.{◌>>=◌, is_passed_over, row_judged, rows_judged, lines_judged, Fails}
 use Rattle.pdh_clock.specs.Stored.{IsTree, IsSmall, IsSmallRow, at_path, rows_in}
 use Rattle.pdh_clock.proofs.Trees.{rows_at-by_nodes}
+use Rattle.pdh_shape.specs.OwnNumbers.{most_bytes}
 
 -- ---- sums
 
@@ -38,13 +39,13 @@ bits_small row trib s =
     omega (arith, left, right)
 
 -- the frames and the bits of so few rows fit
-pub frames_fit : (rows : List NodeRow) (repeat : ℕ) → All IsSmallNodeRow rows → repeat < 10 ^ 9 → 11 * length rows ≤ 33554432
+pub frames_fit : (rows : List NodeRow) (repeat : ℕ) → All IsSmallNodeRow rows → repeat < 10 ^ 9 → 11 * length rows ≤ most_bytes
     → row_frames rows + repeat < 2 ^ 64
 frames_fit rows repeat small s few =
     let each = All-weaker IsSmallNodeRow (λ row. row.repeat ≤ 10 ^ 9) (λ row h. le_of_lt h.repeat_is) rows small in
     omega (arith, sum_by-le (λ row. row.repeat) (10 ^ 9) rows each)
 
-pub bits_fit : (rows : List NodeRow) (row : NodeRow) (trib : ℕ) → All IsSmallNodeRow rows → IsSmallNodeRow row → 11 * length rows ≤ 33554432
+pub bits_fit : (rows : List NodeRow) (row : NodeRow) (trib : ℕ) → All IsSmallNodeRow rows → IsSmallNodeRow row → 11 * length rows ≤ most_bytes
     → row_bits rows trib + row.repeat * slice_index row.counts trib < 2 ^ 64
 bits_fit rows row trib small s few =
     let each = All-weaker IsSmallNodeRow (λ row. row.repeat * slice_index row.counts trib ≤ 10 ^ 9 * 4760)
@@ -90,7 +91,7 @@ reading_begins levels tree text h same none = record {
   tree_is = h;
   levels_are = same;
   seen = [];
-  rows = none ∙ sym (nothing_seen (nodes_of levels));
+  rows = none ∙ sym (nothing_seen (nodes_in levels));
   same = ap (λ n. with_front [] (rows_judged levels n (lines_of text))) (let e : 0 + 1 ≡ 1 = omega arith in e) ∙ none_before (rows_judged levels 1 (lines_of text));
   small = All-nil IsSmallRow;
   bytes = omega arith;
@@ -124,10 +125,10 @@ length-filter-le p (row ∷ rows) =
 -- what the rows so far of a node are
 pub record AreFew (tree : Tree) (path : List ℕ) : Type 0 where
   pub small : All IsSmallRow (rows_at (rows_in tree) path)
-  pub few : 11 * length (rows_at (rows_in tree) path) ≤ 33554432
+  pub few : 11 * length (rows_at (rows_in tree) path) ≤ most_bytes
 
 pub few_so_far : (levels : List Level) (tree : Tree) (number : ℕ) (rest text path : List ℕ) → IsReading levels tree number rest text
-    → IsSome (level_at levels path) → length text ≤ 33554432 → AreFew tree path
+    → IsSome (level_at levels path) → length text ≤ most_bytes → AreFew tree path
 few_so_far levels tree number rest text path h some short =
     let same : rows_at (rows_in tree) path ≡ rows_at h.seen path = ap (λ rows. rows_at rows path) h.rows ∙ rows_at-by_nodes levels h.seen path some in
     let bytes = h.bytes in

@@ -6,7 +6,8 @@ use Rattle.pdh_clock.specs.declared.fault.ScheduleFault.{ScheduleFault}
 use Rattle.pdh_clock.specs.declared.fault.ScheduleFault.TheVariants.{BadRow, UnknownNode}
 use Rattle.pdh_clock.specs.declared.row.FoundRow.{FoundRow}
 use Rattle.pdh_clock.specs.Row.{Row, row_of}
-use Rattle.pdh_clock.specs.Chain.{level_at, steps_of}
+use Rattle.pdh_levels.specs.Levels.{level_at}
+use Rattle.pdh_line.specs.Paths.{steps_of}
 use Rattle.pdh_clock.specs.Parsed.{Finds, IsRow}
 use Rattle.pdh_clock.specs.Judged.{◌>>=◌, Gives, stores_judged, row_judged}
 

@@ -8,13 +8,14 @@ use Rattle.std.proofs.lemmas.List.Elements.{All-nil, All-cons, All-head, All-tai
 use Rattle.pdh_shape.specs.declared.place.Level.{Level}
 use Rattle.pdh_clock.specs.declared.fault.ScheduleFault.{ScheduleFault}
 use Rattle.pdh_clock.specs.declared.fault.ScheduleFault.TheVariants.{BadRow, UnknownNode, CountOver}
-use Rattle.pdh_line.specs.Sending.{arrived}
+use Rattle.pdh_line.specs.Progress.{arrived}
 use Rattle.pdh_line.proofs.SendingLaws.{arrived-suc}
 use Rattle.pdh_clock.specs.Text.{lines_of, number_of, numbers_of, path_of, words_of}
 use Rattle.pdh_clock.specs.Row.{Row, row_of, row_of_words}
-use Rattle.pdh_clock.specs.Chain.{same_path, nodes_of, level_at, stores_of, len_at}
-use Rattle.pdh_clock.specs.Judged.{◌>>=◌, counts_judged, is_passed_over, row_judged, rows_judged, schedule_of, most_bytes}
-use Rattle.pdh_clock.specs.Contents.{IsRowOf, rows_at, by_nodes, frames_of, counts}
+use Rattle.pdh_levels.specs.Levels.{nodes_in, level_at, level_stores, len_at}
+use Rattle.pdh_clock.specs.Judged.{◌>>=◌, counts_judged, is_passed_over, row_judged, rows_judged, schedule_of}
+use Rattle.pdh_shape.specs.OwnNumbers.{most_bytes}
+use Rattle.pdh_clock.specs.Contents.{IsRowOf, rows_at, by_nodes, frames_of, counts, same_path}
 
 -- ---- steps that may fail
 
@@ -110,13 +111,13 @@ pub row_judged_sound : (levels : List Level) (number : ℕ) (line : List ℕ) (r
 row_judged_sound levels number line row h =
     let found = steps (ok_or (row_of line) (BadRow number)) _ row h in
     let known = steps (ok_or (level_at levels found.value.path) (UnknownNode number)) _ row found.then_is in
-    let fits = chosen (length found.value.counts == stores_of known.value) _ (BadRow number) row known.then_is in
+    let fits = chosen (length found.value.counts == level_stores known.value) _ (BadRow number) row known.then_is in
     let within = counts_within number known.value found.value row fits.1 in
     let at : level_at levels found.value.path ≡ Some known.value = ok_or_some _ (UnknownNode number) known.value known.is in
     subst (IsRowOf levels) within.0 (record {
       node = ap (λ o. is_some o) at;
       some_frames = some_repeat line found.value (ok_or_some _ (BadRow number) found.value found.is);
-      stores = eqb-true _ _ fits.0 ∙ ap (λ o. option_map_or stores_of o 0) (sym at);
+      stores = eqb-true _ _ fits.0 ∙ ap (λ o. option_map_or level_stores o 0) (sym at);
       most = subst (λ o. All (λ count. count ≤ option_map_or (λ (level : Level). level.len) o 0) found.value.counts)
           (sym at) within.1;
     })
@@ -160,7 +161,7 @@ schedule_of_sound levels text rows h =
     let read = steps (rows_judged levels 1 (lines_of text)) _ rows (not_long (nat_lt most_bytes (length text)) _ _ rows h) in
     let same : by_nodes levels read.value ≡ rows = cc in
     subst (All (IsRowOf levels)) same
-    (by_nodes_each (IsRowOf levels) read.value (nodes_of levels) (rows_judged_sound levels 1 (lines_of text) read.value read.is))
+    (by_nodes_each (IsRowOf levels) read.value (nodes_in levels) (rows_judged_sound levels 1 (lines_of text) read.value read.is))
 
 -- ---- counts and sums
 

@@ -1,7 +1,5 @@
 pub mod Splits
 pub mod Counting
-pub mod Nodes
-pub mod Levels
 pub mod Laws
 pub mod Trees
 pub mod Growing
@@ -19,3 +17,4 @@ pub mod MadeNodes
 pub mod Worked
 pub mod WorkedSchedules
 pub mod RatesLaws
+pub mod Entered

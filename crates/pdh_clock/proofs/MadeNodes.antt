@@ -15,13 +15,14 @@ use Rattle.pdh_clock.specs.declared.bias.Offset.{Offset}
 use Rattle.pdh_clock.specs.declared.tree.NodeRows.{NodeRows}
 use Rattle.pdh_clock.specs.declared.tree.Tree.{Tree}
 use Rattle.pdh_clock.specs.Row.{Row}
-use Rattle.pdh_clock.specs.Chain.{IsLevel, AreLevels, same_path, nodes_of, level_at, stores_at, low_at}
-use Rattle.pdh_clock.specs.Contents.{IsRowOf, rows_at, frames_of, frame_count, counts}
-use Rattle.pdh_clock.specs.Begun.{begun_by, frames_begun, shortage}
+use Rattle.pdh_levels.specs.Levels.{IsLevel, AreLevels, nodes_in, level_at, stores_at, low_at, place_of}
+use Rattle.pdh_clock.specs.Contents.{IsRowOf, rows_at, frames_of, frame_count, counts, same_path}
+use Rattle.pdh_line.specs.Progress.{begun_by}
+use Rattle.pdh_clock.specs.Begun.{frames_begun, shortage}
 use Rattle.pdh_clock.specs.Made.{IsRated, offset_of, made_frames, made}
 use Rattle.pdh_clock.specs.Making.{AreMade, last_step}
-use Rattle.pdh_clock.specs.Stored.{IsTree, at_path, contents_of, node_path, node_rows, place_of, rows_in}
-use Rattle.pdh_clock.proofs.Levels.{has_level, level_in, stores_is, known}
+use Rattle.pdh_clock.specs.Stored.{IsTree, at_path, contents_of, node_path, node_rows, rows_in}
+use Rattle.pdh_levels.proofs.LevelLaws.{has_level, level_in, stores_is, known}
 use Rattle.pdh_clock.proofs.Trees.{Changes, IsTree_changed, length-nodes, length-changed, path_of_node, frames_of_node, known_node, place_inside, node_changed, node_kept, rows_at_none, at_path-paths}
 use Rattle.pdh_clock.proofs.Begins.{shortage_none, begun_by_whole}
 use Rattle.pdh_clock.proofs.MadeRows.{made_rows, made_rows-sound, node_frames-made, length-made_frames}
@@ -38,7 +39,7 @@ rated_is levels path level each h =
 -- a node with the rows that were made for it
 pub record IsMadeNode (tree : Tree) (bias : Bias) (frames place : ℕ) (path : List ℕ) (node : NodeRows) (level : Level) (height : ℕ) (line : Offset) (n : ℕ) : Type 0 where
   pub inside : place < length tree.nodes.items
-  pub path_is : get_or (nodes_of tree.levels.items) place [] ≡ path
+  pub path_is : get_or (nodes_in tree.levels.items) place [] ≡ path
   pub place_is : place_of tree.levels.items path ≡ place
   pub known_is : level_at tree.levels.items path ≡ Some level
   pub node_is : node_path node ≡ path
@@ -68,12 +69,12 @@ changes_made old new bias frames place path node level height line n h rated m l
 
 -- the other nodes keep their frames
 frames_kept : (old new : Tree) (place k : ℕ) (node : NodeRows) → IsTree old → Changes old new place node → k < length old.nodes.items → (k ≡ place → ⊥)
-    → frames_of (rows_in new) (get_or (nodes_of old.levels.items) k []) ≡ frames_of (rows_in old) (get_or (nodes_of old.levels.items) k [])
+    → frames_of (rows_in new) (get_or (nodes_in old.levels.items) k []) ≡ frames_of (rows_in old) (get_or (nodes_in old.levels.items) k [])
 frames_kept old new place k node h c inside other =
     let tree = IsTree_changed old new place node h c in
     let inside' : k < length new.nodes.items = omega (arith, length-changed old new place node c) in
     let kept = node_kept old new place k node node c other in
-    let path : node_path (get_or old.nodes.items k node) ≡ get_or (nodes_of old.levels.items) k [] = path_of_node old k node [] h inside in
+    let path : node_path (get_or old.nodes.items k node) ≡ get_or (nodes_in old.levels.items) k [] = path_of_node old k node [] h inside in
     ap (frames_of (rows_in new)) (sym path ∙ ap node_path (sym kept)) ∙ frames_of_node new k node tree inside'
     ∙ ap (λ node. node_frames (rows_of node.table)) kept ∙ sym (frames_of_node old k node h inside) ∙ ap (frames_of (rows_in old)) path
 
@@ -100,14 +101,14 @@ pub made_more : (old new : Tree) (bias : Bias) (frames place : ℕ) (path : List
     → IsTree old → AreMade old bias frames place → IsMadeNode old bias frames place path node level height line n → Changes old new place node
     → AreMade new bias frames (place + 1)
 made_more old new bias frames place path node level height line n h before m c =
-    subst (λ levels. (k : ℕ) → k < place + 1 → k < length (nodes_of levels)
-    → frames_of (rows_in new) (get_or (nodes_of levels) k []) ≡ made levels bias frames (get_or (nodes_of levels) k [])) (sym c.levels) (λ k l inside. elim (cases_lt k place) [
+    subst (λ levels. (k : ℕ) → k < place + 1 → k < length (nodes_in levels)
+    → frames_of (rows_in new) (get_or (nodes_in levels) k []) ≡ made levels bias frames (get_or (nodes_in levels) k [])) (sym c.levels) (λ k l inside. elim (cases_lt k place) [
       | inl earlier ↦
           let inside' : k < length old.nodes.items = subst (λ n. k < n) (sym (length-nodes old h)) inside in
           frames_kept old new place k node h c inside' (λ e. omega arith) ∙ before k earlier inside
       | inr last ↦
           let same : k ≡ place = omega arith in
-          let at : get_or (nodes_of old.levels.items) k [] ≡ path = ap (λ k. get_or (nodes_of old.levels.items) k []) same ∙ m.path_is in
+          let at : get_or (nodes_in old.levels.items) k [] ≡ path = ap (λ k. get_or (nodes_in old.levels.items) k []) same ∙ m.path_is in
           ap (frames_of (rows_in new)) at ∙ frames_here old new bias frames place path node level height line n h before m c ∙ ap (made old.levels.items bias frames) (sym at)
     ])
 

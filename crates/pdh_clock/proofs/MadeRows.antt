@@ -9,11 +9,11 @@ use Rattle.pdh_rows.specs.Rows.{NodeRow, node_frames}
 use Rattle.pdh_rows.specs.Stored.{node_row, row_frames, row_bits}
 use Rattle.pdh_clock.specs.declared.bias.Bias.{Bias}
 use Rattle.pdh_clock.specs.declared.bias.Offset.{Offset}
-use Rattle.pdh_clock.specs.Chain.{IsLevel, level_at}
+use Rattle.pdh_levels.specs.Levels.{IsLevel, level_at}
 use Rattle.pdh_clock.specs.Contents.{IsRowOf}
-use Rattle.pdh_clock.specs.Made.{IsRated, offset_of, made_count, made_frames}
+use Rattle.pdh_clock.specs.Made.{IsRated, offset_of, made_count, made_frames, most_made}
 use Rattle.pdh_clock.specs.Stored.{IsSmall, at_path}
-use Rattle.pdh_clock.proofs.Levels.{stores_is, len_is}
+use Rattle.pdh_levels.proofs.LevelLaws.{stores_is, len_is}
 use Rattle.pdh_clock.proofs.Growing.{IsSmallNodeRow, count_small, frames_fit, bits_fit}
 use Rattle.pdh_clock.proofs.MadeLaws.{made_arrived-most}
 
@@ -84,12 +84,12 @@ made_rows-sound levels path level bias height line frames each is rated =
 made_rows-small : (level : Level) (bias : Bias) (height : ℕ) (line : Offset) (frames : ℕ) → IsLevel level → IsRated level → All IsSmallNodeRow (made_rows level bias height line frames)
 made_rows-small level bias height line frames h rated = each_row IsSmallNodeRow level bias height line frames (λ n. made_row-small level bias height line n h rated)
 
-pub made_frames-fit : (level : Level) (bias : Bias) (height : ℕ) (line : Offset) (n : ℕ) → IsLevel level → IsRated level → n < 131072
+pub made_frames-fit : (level : Level) (bias : Bias) (height : ℕ) (line : Offset) (n : ℕ) → IsLevel level → IsRated level → n < most_made
     → row_frames (made_rows level bias height line n) + 1 < 2 ^ 64
 made_frames-fit level bias height line n h rated few =
     frames_fit (made_rows level bias height line n) 1 (made_rows-small level bias height line n h rated) (omega arith) (omega (arith, length-made_rows level bias height line n))
 
-pub made_bits-fit : (level : Level) (bias : Bias) (height : ℕ) (line : Offset) (n trib : ℕ) → IsLevel level → IsRated level → n < 131072
+pub made_bits-fit : (level : Level) (bias : Bias) (height : ℕ) (line : Offset) (n trib : ℕ) → IsLevel level → IsRated level → n < most_made
     → row_bits (made_rows level bias height line n) trib + 1 * slice_index (made_frame level bias height line n) trib < 2 ^ 64
 made_bits-fit level bias height line n trib h rated few =
     bits_fit (made_rows level bias height line n) (node_row 1 (made_frame level bias height line n)) trib (made_rows-small level bias height line n h rated)

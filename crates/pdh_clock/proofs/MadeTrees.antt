@@ -6,21 +6,22 @@ use Rattle.std.proofs.lemmas.Nat.{mod_below}
 use Rattle.std.proofs.lemmas.List.Elements.{All-get_or, All-head, All-tail}
 use Rattle.std.proofs.Math.Nat.{mul-le-mul_left, mul-le-mul_right, div-mul-le_self}
 use Rattle.pdh_shape.specs.declared.place.Level.{Level}
-use Rattle.pdh_line.specs.Sending.{lead, arrived}
+use Rattle.pdh_line.specs.Progress.{arrived, begun_by, came_by, by_stores}
+use Rattle.pdh_shape.specs.OwnNumbers.{lead, most_frames}
 use Rattle.pdh_line.proofs.SendingLaws.{arrived-suc}
 use Rattle.pdh_clock.specs.declared.bias.Bias.{Bias}
 use Rattle.pdh_clock.specs.declared.bias.Offset.{Offset}
 use Rattle.pdh_clock.specs.declared.tree.Tree.{Tree}
 use Rattle.pdh_clock.specs.Row.{Row}
-use Rattle.pdh_clock.specs.Chain.{IsLevel, AreLevels, nodes_of, level_at}
+use Rattle.pdh_levels.specs.Levels.{IsLevel, AreLevels, nodes_in, level_at, place_of, level_numbers}
 use Rattle.pdh_clock.specs.Contents.{frames_of, frame_count, counts}
-use Rattle.pdh_clock.specs.Begun.{taken, begun_by, bits_from, bits_made, top_len, frames_begun, NoneShort}
-use Rattle.pdh_clock.specs.Made.{IsRated, offset_of, made_count, made_frames, made_from, made}
+use Rattle.pdh_clock.specs.Begun.{taken, bits_from, bits_made, top_len, frames_begun, NoneShort}
+use Rattle.pdh_clock.specs.Made.{IsRated, offset_of, made_count, made_frames, made_from, made, most_made}
 use Rattle.pdh_clock.specs.Making.{AreMade, last_step}
-use Rattle.pdh_clock.specs.Stored.{contents_of, place_of, rows_in}
+use Rattle.pdh_clock.specs.Stored.{contents_of, rows_in}
 use Rattle.pdh_clock.proofs.Laws.{arrived_most}
-use Rattle.pdh_clock.proofs.Nodes.{is_below, placed, node_place, nodes_known}
-use Rattle.pdh_clock.proofs.Levels.{has_level, level_in, level_is}
+use Rattle.pdh_levels.proofs.NodeOrder.{is_below, placed, node_place, nodes_known}
+use Rattle.pdh_levels.proofs.LevelLaws.{has_level, level_in, level_is}
 use Rattle.pdh_clock.proofs.Begins.{level_below, begun_by-le, whole_frames-begun, frame_begun, part_small, frames_begun_is}
 use Rattle.pdh_clock.proofs.MadeRows.{made_count-most, length-made_frames, counts-made}
 
@@ -36,7 +37,7 @@ abbrev made_bits : List Level → Bias → Offset → ℕ → List ℕ → ℕ
 made_bits levels bias line x [] = x
 made_bits [] bias line x (step ∷ path) = 0
 made_bits (level ∷ below) bias line x (step ∷ path) =
-    made_bits below bias (offset_of bias (length below) step) (taken level (made_count level line (offset_of bias (length below) step)) x) path
+    made_bits below bias (offset_of bias (length below) step) (taken level (step - 1) (made_count level line (offset_of bias (length below) step)) x) path
 
 -- how many levels of nodes there are below it
 abbrev pub height_of : List Level → List ℕ → ℕ
@@ -59,7 +60,7 @@ made_from_is (first ∷ below) bias line x [] level is =
     ∙ ap (λ h. made_frames level bias h line (begun_by level.len x)) height
 made_from_is (first ∷ below) bias line x (step ∷ path) level is =
     let trib = offset_of bias (length below) step in
-    let next = taken first (made_count first line trib) x in
+    let next = taken first (step - 1) (made_count first line trib) x in
     let height : length below - suc (length path) ≡ suc (length below) - suc (suc (length path)) = omega arith in
     ap (λ b. cond b (made_from below bias trib next path) []) (inside_step first below step path (ap is_some is))
     ∙ made_from_is below bias trib next path level (level_below first below step path level is)
@@ -98,7 +99,7 @@ made_from_none [] bias line x path none = refl
 made_from_none (level ∷ below) bias line x [] none = cc
 made_from_none (level ∷ below) bias line x (step ∷ path) none =
     let trib = offset_of bias (length below) step in
-    let next = taken level (made_count level line trib) x in
+    let next = taken level (step - 1) (made_count level line trib) x in
     elim (cases_Bool (nat_le 1 step && nat_le step level.tribs)) [
       | inl is ↦ rw is (made_from_none below bias trib next path (sym (ap (λ b. cond b (level_at below path) None) is) ∙ none))
       | inr isnt ↦ rw isnt refl
@@ -117,8 +118,8 @@ arrived-same f g (suc n) same =
     omega (arith, arrived-suc f n, arrived-suc g n, arrived-same f g n (λ k l. same k (omega arith)), same n (omega arith))
 
 -- what is taken depends on the frames that are begun
-taken-same : (level : Level) (f g : ℕ → ℕ) (x : ℕ) → ((k : ℕ) → k < begun_by level.len x → f k ≡ g k) → taken level f x ≡ taken level g x
-taken-same level f g x same =
+taken-same : (level : Level) (j : ℕ) (f g : ℕ → ℕ) (x : ℕ) → ((k : ℕ) → k < begun_by level.len x → f k ≡ g k) → taken level j f x ≡ taken level j g x
+taken-same level j f g x same =
     let n = x / level.len in
     let before : arrived f n ≡ arrived g n = arrived-same f g n (λ k l. same k (let whole = whole_frames-begun level.len x in omega arith)) in
     let part : x % level.len * f n / level.len ≡ x % level.len * g n / level.len = elim (cases_Bool (x % level.len == 0)) [
@@ -129,8 +130,9 @@ taken-same level f g x same =
           ap (λ r. r * f n / level.len) none ∙ ap (λ p. p / level.len) (left ∙ sym right) ∙ ap (λ r. r * g n / level.len) (sym none)
       | inr isnt ↦ ap (λ c. x % level.len * c / level.len) (same n (frame_begun level.len x (eqb-false (x % level.len) 0 isnt)))
     ] in
-    ap (λ a. cond (x == 0) 0 (cond level.locked (level.low * n) (lead + a + x % level.len * f n / level.len))) before
-    ∙ ap (λ p. cond (x == 0) 0 (cond level.locked (level.low * n) (lead + arrived g n + p))) part
+    let came : came_by level.len f n (x % level.len) ≡ came_by level.len g n (x % level.len) =
+    ap (λ a. lead + a + x % level.len * f n / level.len) before ∙ ap (λ p. lead + arrived g n + p) part in
+    ap (λ c. by_stores (level_numbers level).stores (cond (x == 0) 0 c) (λ reads. n * level.low + reads j (x % level.len))) came
 
 -- the bits of a made node are those that the rows say, where the nodes above it have the made frames
 bits_agree : (rows : List Row) (levels : List Level) (from : List ℕ) (bias : Bias) (line : Offset) (x : ℕ) (path : List ℕ) → IsSome (level_at levels path)
@@ -143,23 +145,23 @@ bits_agree rows (level ∷ below) from bias line x (step ∷ path) some each =
     let trib = offset_of bias (length below) step in
     let here : frames_of rows from ≡ made_frames level bias (length below) line (begun_by level.len x) =
     ap (frames_of rows) (sym (append-nil from)) ∙ each [] step path refl in
-    let same : taken level (counts rows from (step - 1)) x ≡ taken level (made_count level line trib) x =
-    taken-same level (counts rows from (step - 1)) (made_count level line trib) x (λ k l.
+    let same : taken level (step - 1) (counts rows from (step - 1)) x ≡ taken level (step - 1) (made_count level line trib) x =
+    taken-same level (step - 1) (counts rows from (step - 1)) (made_count level line trib) x (λ k l.
     let number : suc (step - 1) ≡ step = (let low = is.low in omega arith) in
     ap (λ frames. slice_index (slice_index_or frames k []) (step - 1)) here
     ∙ counts-made level bias (length below) line (begun_by level.len x) (step - 1) k l (let low = is.low in let high = is.high in omega arith)
     ∙ ap (λ n. made_count level line (offset_of bias (length below) n) k) number) in
     ap (λ y. bits_from rows below (from ++ step ∷ []) y path) same
-    ∙ bits_agree rows below (from ++ step ∷ []) bias trib (taken level (made_count level line trib) x) path is.rest (λ above next rest at.
+    ∙ bits_agree rows below (from ++ step ∷ []) bias trib (taken level (step - 1) (made_count level line trib) x) path is.rest (λ above next rest at.
     ap (frames_of rows) (append_assoc from (step ∷ []) above) ∙ each (step ∷ above) next rest (ap (λ p. step ∷ p) at)
     ∙ above_inside level below bias line x step above next rest path some at)
   where
     above_inside : (level : Level) (below : List Level) (bias : Bias) (line : Offset) (x step : ℕ) (above : List ℕ) (next : ℕ) (rest path : List ℕ)
         → IsSome (level_at (level ∷ below) (step ∷ path)) → above ++ next ∷ rest ≡ path
         → made_from (level ∷ below) bias line x (step ∷ above)
-        ≡ made_from below bias (offset_of bias (length below) step) (taken level (made_count level line (offset_of bias (length below) step)) x) above
+        ≡ made_from below bias (offset_of bias (length below) step) (taken level (step - 1) (made_count level line (offset_of bias (length below) step)) x) above
     above_inside level below bias line x step above next rest path some at =
-        ap (λ b. cond b (made_from below bias (offset_of bias (length below) step) (taken level (made_count level line (offset_of bias (length below) step)) x) above) [])
+        ap (λ b. cond b (made_from below bias (offset_of bias (length below) step) (taken level (step - 1) (made_count level line (offset_of bias (length below) step)) x) above) [])
         (inside_step level below step path some)
 
 -- a node above another stands before it
@@ -217,8 +219,8 @@ made_count_is tree bias frames n path level h is before =
 pub none_short_made : (tree : Tree) (bias : Bias) (frames n : ℕ) → AreMade tree bias frames n → NoneShort (contents_of tree) frames n
 none_short_made tree bias frames n h = λ k before inside.
     let levels = tree.levels.items in
-    let path = get_or (nodes_of levels) k [] in
-    let has = has_level (level_at levels path) (All-get_or (λ path. IsSome (level_at levels path)) (nodes_of levels) k [] inside (nodes_known levels)) in
+    let path = get_or (nodes_in levels) k [] in
+    let has = has_level (level_at levels path) (All-get_or (λ path. IsSome (level_at levels path)) (nodes_in levels) k [] inside (nodes_known levels)) in
     let place = node_place levels k [] inside in
     let need = begun_is_made tree bias frames n path has.level h has.is (omega arith) in
     let have = made_count_is tree bias frames n path has.level h has.is (omega arith) in
@@ -227,8 +229,8 @@ none_short_made tree bias frames n h = λ k before inside.
 -- ---- few frames
 
 -- what the made counts bring in all
-taken-few : (level : Level) (line trib : Offset) (x : ℕ) → IsLevel level → IsRated level → taken level (made_count level line trib) x ≤ x + 4784
-taken-few level line trib x h rated =
+taken-few : (level : Level) (line trib : Offset) (j x : ℕ) → IsLevel level → IsRated level → taken level j (made_count level line trib) x ≤ x + (4760 + lead)
+taken-few level line trib j x h rated =
     let n = x / level.len in
     let longest = h.longest in
     let shortest = h.shortest in
@@ -237,20 +239,20 @@ taken-few level line trib x h rated =
     let before : arrived f n ≤ n * level.len = arrived_most f level.len (λ k. made_count-most level line trib k rated) n in
     let count : f n ≤ level.len = made_count-most level line trib n rated in
     let part : x % level.len * f n / level.len ≤ f n = part_small (x % level.len) (f n) level.len (mod_below x level.len (omega arith)) in
-    let all : lead + arrived f n + x % level.len * f n / level.len ≤ x + 4784 = omega arith in
+    let all : lead + arrived f n + x % level.len * f n / level.len ≤ x + (4760 + lead) = omega arith in
     elim (cases_Bool (x == 0)) [
-      | inl is ↦ rw is (omega arith)
-      | inr isnt ↦ rw (isnt, h.stores) all
+      | inl is ↦ rw (h.stores, is) (omega arith)
+      | inr isnt ↦ rw (h.stores, isnt) all
     ]
 
 made_bits-few : (levels : List Level) (bias : Bias) (line : Offset) (x : ℕ) (path : List ℕ) → All IsLevel levels → All IsRated levels
-    → made_bits levels bias line x path ≤ x + 4784 * length path
+    → made_bits levels bias line x path ≤ x + (4760 + lead) * length path
 made_bits-few levels bias line x [] each rated = omega arith
 made_bits-few [] bias line x (step ∷ path) each rated = omega arith
 made_bits-few (level ∷ below) bias line x (step ∷ path) each rated =
     let trib = offset_of bias (length below) step in
-    let first = taken-few level line trib x (All-head IsLevel level below each) (All-head IsRated level below rated) in
-    let rest = made_bits-few below bias trib (taken level (made_count level line trib) x) path (All-tail IsLevel level below each) (All-tail IsRated level below rated) in
+    let first = taken-few level line trib (step - 1) x (All-head IsLevel level below each) (All-head IsRated level below rated) in
+    let rest = made_bits-few below bias trib (taken level (step - 1) (made_count level line trib) x) path (All-tail IsLevel level below each) (All-tail IsRated level below rated) in
     omega (arith, first, rest)
 
 top_len-few : (levels : List Level) → All IsLevel levels → top_len levels ≤ 4760
@@ -258,13 +260,13 @@ top_len-few [] each = omega arith
 top_len-few (level ∷ below) each = (All-head IsLevel level below each).longest
 
 -- no node of a made schedule has many frames
-pub made-few : (levels : List Level) (bias : Bias) (frames : ℕ) (path : List ℕ) (level : Level) → AreLevels levels → All IsRated levels → frames ≤ 16384
-    → level_at levels path ≡ Some level → begun_by level.len (bits_of_made levels bias frames path) ≤ 131072
+pub made-few : (levels : List Level) (bias : Bias) (frames : ℕ) (path : List ℕ) (level : Level) → AreLevels levels → All IsRated levels → frames ≤ most_frames
+    → level_at levels path ≡ Some level → begun_by level.len (bits_of_made levels bias frames path) ≤ most_made
 made-few levels bias frames path level h rated few is =
     let bits = made_bits-few levels bias (offset_of bias (length levels) 1) (frames * top_len levels) path h.each rated in
-    let top : frames * top_len levels ≤ 16384 * 4760 = omega (arith, mul-le-mul_left frames (top_len-few levels h.each), mul-le-mul_right 4760 few) in
+    let top : frames * top_len levels ≤ most_frames * 4760 = omega (arith, mul-le-mul_left frames (top_len-few levels h.each), mul-le-mul_right 4760 few) in
     let inside = (level_in levels path level is).inside in
     let short = h.few in
     let shortest = (level_is levels path level h.each is).shortest in
-    let room : 131072 * 848 ≤ 131072 * level.len = mul-le-mul_left 131072 shortest in
-    begun_by-le level.len (bits_of_made levels bias frames path) 131072 (omega arith) (omega (arith, bits, top, room))
+    let room : most_made * 848 ≤ most_made * level.len = mul-le-mul_left most_made shortest in
+    begun_by-le level.len (bits_of_made levels bias frames path) most_made (omega arith) (omega (arith, bits, top, room))

@@ -4,7 +4,8 @@ use Rattle.std.specs.Option.{option_map_or}
 use Rattle.std.proofs.Math.Nat.{mul-le-mul_left, mul-pos, le_of_mul-le-mul_right}
 use Rattle.pdh_shape.specs.Frame.{FrameShape}
 use Rattle.pdh_shape.specs.declared.place.Level.{Level}
-use Rattle.pdh_line.specs.Tolerance.{allowance, arrived_over, IsWithin}
+use Rattle.pdh_shape.specs.OwnNumbers.{allowance}
+use Rattle.pdh_line.specs.Tolerance.{arrived_over, IsWithin}
 use Rattle.pdh_rows.specs.declared.outside.Outside.{Outside}
 use Rattle.pdh_clock.specs.Made.{fast, slow, IsRated}
 use Rattle.pdh_clock.specs.Rates.{IsWithinRates}

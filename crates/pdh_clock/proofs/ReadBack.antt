@@ -16,14 +16,18 @@ use Rattle.pdh_shape.specs.declared.place.Level.{Level}
 use Rattle.pdh_clock.specs.declared.fault.ScheduleFault.TheVariants.{TooLong, BadRow, UnknownNode, CountOver}
 use Rattle.pdh_clock.specs.Text.{lines_of, words_of, digits_value, is_number, number_of, numbers_of, path_of}
 use Rattle.pdh_clock.specs.Row.{Row, row_of, row_of_words}
-use Rattle.pdh_clock.specs.Chain.{IsLevel, AreLevels, nodes_of, level_at, stores_of, stores_at, len_at, same_path}
-use Rattle.pdh_clock.specs.Contents.{IsRowOf, rows_at, by_nodes, frames_of}
-use Rattle.pdh_clock.specs.Judged.{◌>>=◌, is_passed_over, counts_judged, stores_judged, row_judged, rows_judged, lines_judged, schedule_of, most_bytes}
-use Rattle.pdh_clock.specs.Stored.{path_row, place_of}
-use Rattle.pdh_clock.specs.Written.{text_with, with_frame, longest_rows, rows_written, number_words, path_word, row_line, text_of, ReadsBack}
+use Rattle.pdh_levels.specs.Levels.{IsLevel, AreLevels, nodes_in, level_at, level_stores, stores_at, len_at, place_of}
+use Rattle.pdh_clock.specs.Contents.{IsRowOf, rows_at, by_nodes, frames_of, same_path}
+use Rattle.pdh_clock.specs.Judged.{◌>>=◌, is_passed_over, counts_judged, stores_judged, row_judged, rows_judged, lines_judged, schedule_of}
+use Rattle.pdh_shape.specs.OwnNumbers.{most_bytes}
+use Rattle.pdh_clock.specs.Stored.{path_row}
+use Rattle.pdh_clock.specs.Written.{text_with, with_frame, longest_rows, rows_written, number_words, row_line, text_of, ReadsBack}
+use Rattle.pdh_line.specs.Paths.{path_text}
 use Rattle.pdh_clock.proofs.Laws.{same_path-true}
-use Rattle.pdh_clock.proofs.Nodes.{is_below, only_at, node_place, placed, nodes_known}
-use Rattle.pdh_clock.proofs.Levels.{has_level, level_in, level_is, stores_is, len_is}
+use Rattle.pdh_levels.proofs.NodeOrder.{is_below, only_at, node_place, placed, nodes_known}
+use Rattle.pdh_levels.proofs.LevelLaws.{has_level, level_in, level_is, stores_is, len_is}
+use Rattle.pdh_line.specs.Progress.{by_stores}
+use Rattle.pdh_line.specs.Progress.Stores.{Elastic, Locked}
 use Rattle.pdh_clock.proofs.Trees.{AtPath, rows_at_all, rows_at_none, rows_at-joined, frames_of-by_nodes}
 
 -- ---- numbers
@@ -177,7 +181,7 @@ step_of (level ∷ below) step path each some =
     let most = (All-head IsLevel level below each).most in
     record { low = is.low; high = omega arith; below = below; each = All-tail IsLevel level below each; rest = is.rest }
 
-path_word_is : (levels : List Level) (path : List ℕ) → AreLevels levels → IsSome (level_at levels path) → IsPathWord path (path_word path)
+path_word_is : (levels : List Level) (path : List ℕ) → AreLevels levels → IsSome (level_at levels path) → IsPathWord path (path_text path)
 path_word_is levels [] h some = record {
   reads = refl;
   no_space = All-cons (λ byte. (byte == 32) ≡ false) 47 [] refl (All-nil (λ byte. (byte == 32) ≡ false));
@@ -204,7 +208,7 @@ path_word_is levels (a ∷ b ∷ c ∷ path) h some =
     absurd (omega arith)
 
 -- a line that begins with a path isn't passed over
-not_passed : (path rest : List ℕ) → is_passed_over (path_word path ++ rest) ≡ false
+not_passed : (path rest : List ℕ) → is_passed_over (path_text path ++ rest) ≡ false
 not_passed [] rest = refl
 not_passed (step ∷ path) rest = refl
 
@@ -225,7 +229,7 @@ record IsWritable (levels : List Level) (most : ℕ) (row : Row) : Type 0 where
 
 -- the line of a row without its line feed
 abbrev node_line : Row → List ℕ
-node_line row = path_word row.path ++ number_words (row.repeat ∷ row.counts)
+node_line row = path_text row.path ++ number_words (row.repeat ∷ row.counts)
 
 numbers_small : (levels : List Level) (row : Row) → AreLevels levels → IsWritable levels 999999999 row
     → All (λ n. n ≤ 999999999) (row.repeat ∷ row.counts)
@@ -237,14 +241,14 @@ numbers_small levels row l w =
 not_zero : (n : ℕ) → 0 < n → (n == 0) ≡ false
 not_zero n some = grind (arith, nat_tests)
 
-word_of_row : (levels : List Level) (row : Row) → AreLevels levels → IsWritable levels 999999999 row → IsPathWord row.path (path_word row.path)
+word_of_row : (levels : List Level) (row : Row) → AreLevels levels → IsWritable levels 999999999 row → IsPathWord row.path (path_text row.path)
 word_of_row levels row l w = path_word_is levels row.path l (ap is_some w.known)
 
 row_of_line : (levels : List Level) (row : Row) → AreLevels levels → IsWritable levels 999999999 row → row_of (node_line row) ≡ Some row
 row_of_line levels row l w =
     let small = numbers_small levels row l w in
     let word = word_of_row levels row l w in
-    let words = words_of_numbers (path_word row.path) (row.repeat ∷ row.counts) word.no_space small in
+    let words = words_of_numbers (path_text row.path) (row.repeat ∷ row.counts) word.no_space small in
     let repeat = number_of_decimal row.repeat w.repeat in
     let counts = numbers_of_decimals row.counts (All-tail (λ n. n ≤ 999999999) row.repeat row.counts small) in
     let some : (row.repeat == 0) ≡ false = not_zero row.repeat w.some in
@@ -261,8 +265,8 @@ line_judged : (levels : List Level) (number : ℕ) (row : Row) → AreLevels lev
     → row_judged levels number (node_line row) ≡ Ok row
 line_judged levels number row l w =
     let judged = λ (row : Row). ok_or (level_at levels row.path) (UnknownNode number) >>= λ level. stores_judged number level row in
-    let stores : (length row.counts == stores_of w.level) ≡ true = eq-eqb (length row.counts) (stores_of w.level)
-    (w.frame.number ∙ ap (λ b. cond b 0 w.level.tribs) (sym (level_is levels row.path w.level l.each w.known).stores)) in
+    let stores : (length row.counts == level_stores w.level) ≡ true = eq-eqb (length row.counts) (level_stores w.level)
+    (w.frame.number ∙ ap (λ b. by_stores (cond b (Locked (λ j t. 0)) Elastic) w.level.tribs (λ reads. 0)) (sym (level_is levels row.path w.level l.each w.known).stores)) in
     let none = none_over w.level.len row.counts w.frame.most in
     ap (λ o. ok_or o (BadRow number) >>= judged) (row_of_line levels row l w)
     ∙ ap (λ o. ok_or o (UnknownNode number) >>= λ level. stores_judged number level row) w.known
@@ -284,7 +288,7 @@ lines_of_rows levels [] l w = refl
 lines_of_rows levels (row ∷ rows) l w =
     let first = All-head (IsWritable levels 999999999) row rows w in
     let rest = lines_of_rows levels rows l (All-tail (IsWritable levels 999999999) row rows w) in
-    let lacks = All-append (λ byte. (byte == 10) ≡ false) (path_word row.path) (number_words (row.repeat ∷ row.counts))
+    let lacks = All-append (λ byte. (byte == 10) ≡ false) (path_text row.path) (number_words (row.repeat ∷ row.counts))
     (word_of_row levels row l first).no_feed (number_words_lack (row.repeat ∷ row.counts) (numbers_small levels row l first)) in
     ap lines_of (append_assoc (node_line row) (10 ∷ []) (flat_map row_line rows))
     ∙ line_read (node_line row) (flat_map row_line rows) lacks
@@ -394,11 +398,11 @@ frames_written levels frames path some =
     let at = placed levels path some in
     let place = place_of levels path in
     let written = λ (path : List ℕ). longest_rows path (frames path) in
-    let here : get_or (nodes_of levels) place [] ≡ path = at.node [] in
+    let here : get_or (nodes_in levels) place [] ≡ path = at.node [] in
     let rows : rows_at (rows_written levels frames) path ≡ written path =
-    rows_at-joined written (nodes_of levels) path
-    ∙ only_at (λ node. rows_at (written node) path) (nodes_of levels) place [] at.inside
-    (λ j l other. rows_at_none (get_or (nodes_of levels) j []) path (written (get_or (nodes_of levels) j [])) (path_longest (get_or (nodes_of levels) j []) (frames (get_or (nodes_of levels) j [])))
+    rows_at-joined written (nodes_in levels) path
+    ∙ only_at (λ node. rows_at (written node) path) (nodes_in levels) place [] at.inside
+    (λ j l other. rows_at_none (get_or (nodes_in levels) j []) path (written (get_or (nodes_in levels) j [])) (path_longest (get_or (nodes_in levels) j []) (frames (get_or (nodes_in levels) j [])))
     (λ same. other (sym (node_place levels j [] l) ∙ ap (place_of levels) same)))
     ∙ ap (λ node. rows_at (written node) path) here
     ∙ rows_at_all path (written path) (path_longest path (frames path)) in
@@ -409,7 +413,7 @@ pub reads_back : (levels : List Level) (rows : List Row) (text : List ℕ) → A
 unfolding schedule_of text_with
 reads_back levels rows text l h e = λ short few.
     let written = rows_written levels (frames_of rows) in
-    let writable = nodes_writable levels rows (nodes_of levels) l h few (nodes_known levels) in
+    let writable = nodes_writable levels rows (nodes_in levels) l h few (nodes_known levels) in
     let long : nat_lt most_bytes (length text) ≡ false = le-ltb most_bytes (length text) short in
     let read = ap (λ b. cond b (Err (TooLong (length text))) (lines_judged levels (lines_of text))) long
     ∙ ap (λ text. lines_judged levels (lines_of text)) e

@@ -3,15 +3,15 @@ use Rattle.std.proofs.Common.{◌≡◌, ℕ, ◌*◌, ◌<◌, ◌≤◌, List,
 use Rattle.std.specs.List.{flat_map, slice_index_or}
 use Rattle.std.proofs.lemmas.List.Elements.{All-nil, All-append, All-head, All-tail}
 use Rattle.pdh_shape.specs.declared.place.Level.{Level}
-use Rattle.pdh_line.specs.Sending.{arrived}
+use Rattle.pdh_line.specs.Progress.{arrived}
 use Rattle.pdh_rows.specs.Rows.{node_frames, node_counts}
 use Rattle.pdh_rows.specs.Stored.{rows_of}
 use Rattle.pdh_rows.specs.declared.table.Table.{Table}
 use Rattle.pdh_clock.specs.declared.tree.NodeRows.{NodeRows}
 use Rattle.pdh_clock.specs.declared.tree.Tree.{Tree}
-use Rattle.pdh_clock.specs.Chain.{len_at, nodes_of}
+use Rattle.pdh_levels.specs.Levels.{len_at, nodes_in}
 use Rattle.pdh_clock.specs.Contents.{IsRowOf, frames_of, counts}
-use Rattle.pdh_clock.specs.Stored.{IsNode, IsTree, node_path, node_rows, rows_in}
+use Rattle.pdh_clock.specs.Stored.{IsNode, IsTree, node_rows, rows_in}
 use Rattle.pdh_clock.proofs.Laws.{counts_most, arrived_most}
 use Rattle.pdh_clock.proofs.Trees.{length-nodes, path_of_node, frames_of_node}
 
@@ -45,20 +45,16 @@ total_most tree path table trib trib' frames n h same e value =
     (arrived_most (counts (rows_in tree) path trib) (len_at tree.levels.items path)
     (λ frame. counts_most tree.levels.items (rows_in tree) path trib frame (tree_sound tree h)) frames)
 
--- a node that was read at its place, once for its path and once for its rows
-pub record IsReadAt (tree : Tree) (k : ℕ) (node again : NodeRows) : Type 0 where
-  pub inside : k < length (nodes_of tree.levels.items)
-  pub at : get_or (nodes_of tree.levels.items) k [] ≡ node_path node
-  pub frames : node_frames (rows_of again.table) ≡ frames_of (rows_in tree) (node_path node)
+-- the rows that were read at the place of a node
+pub record IsReadAt (tree : Tree) (k : ℕ) (path : List ℕ) (node : NodeRows) : Type 0 where
+  pub inside : k < length (nodes_in tree.levels.items)
+  pub frames : node_frames (rows_of node.table) ≡ frames_of (rows_in tree) path
 
-pub read_at : (tree : Tree) (k : ℕ) (node again : NodeRows) → IsTree tree → k < length tree.nodes.items
-    → node ≡ get_or tree.nodes.items k node → again ≡ get_or tree.nodes.items k again → IsReadAt tree k node again
-read_at tree k node again h inside read read' =
-    let path : node_path node ≡ get_or (nodes_of tree.levels.items) k [] = ap node_path read ∙ path_of_node tree k node [] h inside in
-    let path' : node_path again ≡ get_or (nodes_of tree.levels.items) k [] = ap node_path read' ∙ path_of_node tree k again [] h inside in
+pub read_at : (tree : Tree) (k : ℕ) (path : List ℕ) (node : NodeRows) → IsTree tree → k < length tree.nodes.items
+    → path ≡ get_or (nodes_in tree.levels.items) k [] → node ≡ get_or tree.nodes.items k node → IsReadAt tree k path node
+read_at tree k path node h inside at read =
     record {
       inside = subst (λ n. k < n) (length-nodes tree h) inside;
-      at = sym path;
-      frames = ap (λ (node : NodeRows). node_frames (rows_of node.table)) read' ∙ sym (frames_of_node tree k again h inside)
-          ∙ ap (λ node. frames_of (rows_in tree) (node_path node)) (sym read') ∙ ap (frames_of (rows_in tree)) (path' ∙ sym path);
+      frames = ap (λ (node : NodeRows). node_frames (rows_of node.table)) read ∙ sym (frames_of_node tree k node h inside)
+          ∙ ap (frames_of (rows_in tree)) (path_of_node tree k node [] h inside ∙ sym at);
     }

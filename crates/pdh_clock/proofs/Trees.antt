@@ -11,11 +11,11 @@ use Rattle.pdh_rows.specs.Stored.{IsTable, rows_of, node_row}
 use Rattle.pdh_clock.specs.declared.tree.NodeRows.{NodeRows}
 use Rattle.pdh_clock.specs.declared.tree.Tree.{Tree}
 use Rattle.pdh_clock.specs.Row.{Row}
-use Rattle.pdh_clock.specs.Chain.{AreLevels, same_path, level_at, nodes_of, stores_at}
-use Rattle.pdh_clock.specs.Contents.{IsRowOf, rows_at, by_nodes, frames_of}
-use Rattle.pdh_clock.specs.Stored.{IsNode, IsTree, at_path, path_row, node_path, node_rows, rows_in, place_of}
+use Rattle.pdh_levels.specs.Levels.{AreLevels, level_at, nodes_in, stores_at, place_of}
+use Rattle.pdh_clock.specs.Contents.{IsRowOf, rows_at, by_nodes, frames_of, same_path}
+use Rattle.pdh_clock.specs.Stored.{IsNode, IsTree, at_path, path_row, node_path, node_rows, rows_in}
 use Rattle.pdh_clock.proofs.Laws.{same_path-true}
-use Rattle.pdh_clock.proofs.Nodes.{only_at, node_place, nodes_known, placed}
+use Rattle.pdh_levels.proofs.NodeOrder.{only_at, node_place, nodes_known, placed}
 
 -- ---- rows at a path
 
@@ -70,11 +70,11 @@ pub rows_at-by_nodes : (levels : List Level) (rows : List Row) (path : List ℕ)
 rows_at-by_nodes levels rows path some =
     let at = placed levels path some in
     let place = place_of levels path in
-    let here : get_or (nodes_of levels) place [] ≡ path = at.node [] in
-    rows_at-joined (rows_at rows) (nodes_of levels) path
-    ∙ only_at (λ node. rows_at (rows_at rows node) path) (nodes_of levels) place [] at.inside
-    (λ j l other. rows_at_none (get_or (nodes_of levels) j []) path (rows_at rows (get_or (nodes_of levels) j []))
-    (rows_at-paths (get_or (nodes_of levels) j []) rows)
+    let here : get_or (nodes_in levels) place [] ≡ path = at.node [] in
+    rows_at-joined (rows_at rows) (nodes_in levels) path
+    ∙ only_at (λ node. rows_at (rows_at rows node) path) (nodes_in levels) place [] at.inside
+    (λ j l other. rows_at_none (get_or (nodes_in levels) j []) path (rows_at rows (get_or (nodes_in levels) j []))
+    (rows_at-paths (get_or (nodes_in levels) j []) rows)
     (λ same. other (sym (node_place levels j [] l) ∙ ap (place_of levels) same)))
     ∙ ap (λ node. rows_at (rows_at rows node) path) here
     ∙ rows_at_all path (rows_at rows path) (rows_at-paths path rows)
@@ -88,12 +88,12 @@ frames_of-by_nodes levels rows path some =
 
 -- ---- the rows of a tree
 
-pub length-nodes : (tree : Tree) → IsTree tree → length tree.nodes.items ≡ length (nodes_of tree.levels.items)
+pub length-nodes : (tree : Tree) → IsTree tree → length tree.nodes.items ≡ length (nodes_in tree.levels.items)
 length-nodes tree h = sym (length-map tree.nodes.items node_path) ∙ ap length h.paths
 
 -- the path of the node at a place
 pub path_of_node : (tree : Tree) (k : ℕ) (d : NodeRows) (e : List ℕ) → IsTree tree → k < length tree.nodes.items
-    → node_path (get_or tree.nodes.items k d) ≡ get_or (nodes_of tree.levels.items) k e
+    → node_path (get_or tree.nodes.items k d) ≡ get_or (nodes_in tree.levels.items) k e
 path_of_node tree k d e h l =
     sym (get_or-map node_path tree.nodes.items k d e l) ∙ ap (λ paths. get_or paths k e) h.paths
 
@@ -108,7 +108,7 @@ pub known_node : (tree : Tree) (k : ℕ) (d : NodeRows) → IsTree tree → k < 
     → IsSome (level_at tree.levels.items (node_path (get_or tree.nodes.items k d)))
 known_node tree k d h l =
     subst (λ path. IsSome (level_at tree.levels.items path)) (sym (path_of_node tree k d [] h l))
-    (All-get_or (λ path. IsSome (level_at tree.levels.items path)) (nodes_of tree.levels.items) k []
+    (All-get_or (λ path. IsSome (level_at tree.levels.items path)) (nodes_in tree.levels.items) k []
     (subst (λ n. k < n) (length-nodes tree h) l) (nodes_known tree.levels.items))
 
 cases_eq : (k n : ℕ) → (k ≡ n) ⊎ (k ≡ n → ⊥)
@@ -183,7 +183,7 @@ joined_over g f (node ∷ nodes) h =
 
 -- the rows of all nodes, where those of each are known
 pub rows_in_is : (tree : Tree) (f : List ℕ → List Row) → IsTree tree → All (λ node. node_rows node ≡ f (node_path node)) tree.nodes.items
-    → rows_in tree ≡ flat_map f (nodes_of tree.levels.items)
+    → rows_in tree ≡ flat_map f (nodes_in tree.levels.items)
 rows_in_is tree f h each = joined_over node_rows f tree.nodes.items each ∙ ap (flat_map f) h.paths
 
 -- ---- a tree with other rows at one node
@@ -201,7 +201,7 @@ IsTree_changed old new place node h c = record {
   paths = ap (map node_path) c.nodes ∙ map-set node_path old.nodes.items place node
       ∙ ap (set (map node_path old.nodes.items) place) (c.path node ∙ sym (get_or-map node_path old.nodes.items place node [] c.inside))
       ∙ set-get_or (map node_path old.nodes.items) place []
-      ∙ h.paths ∙ ap nodes_of (sym c.levels);
+      ∙ h.paths ∙ ap nodes_in (sym c.levels);
   each = subst (λ nodes. All (IsNode new.levels.items) nodes) (sym c.nodes)
       (subst (λ levels. All (IsNode levels) (set old.nodes.items place node)) (sym c.levels)
       (All-set (IsNode old.levels.items) old.nodes.items place node c.node_is h.each));
@@ -236,7 +236,7 @@ rows_added old new path node row rows h c some at more known =
     let rows_of_path : (p : List ℕ) → IsSome (level_at levels p) → rows_at (rows_in old) p ≡ rows_at rows p =
     λ p some. ap (λ rs. rows_at rs p) known ∙ rows_at-by_nodes levels rows p some in
     rows_in_is new (rows_at (rows ++ row ∷ [])) tree (λ k d l. each rows_of_path tree k d l)
-    ∙ ap (λ ls. flat_map (rows_at (rows ++ row ∷ [])) (nodes_of ls)) c.levels
+    ∙ ap (λ ls. flat_map (rows_at (rows ++ row ∷ [])) (nodes_in ls)) c.levels
   where
     each : ((p : List ℕ) → IsSome (level_at old.levels.items p) → rows_at (rows_in old) p ≡ rows_at rows p) → IsTree new
         → (k : ℕ) (d : NodeRows) → k < length new.nodes.items
@@ -283,7 +283,7 @@ empty_is_node levels node h = record {
 }
 
 -- all nodes, none of which has a row
-pub IsTree_empty : (tree : Tree) → AreLevels tree.levels.items → map node_path tree.nodes.items ≡ nodes_of tree.levels.items
+pub IsTree_empty : (tree : Tree) → AreLevels tree.levels.items → map node_path tree.nodes.items ≡ nodes_in tree.levels.items
     → All (IsEmptyNode tree.levels.items) tree.nodes.items → IsTree tree
 IsTree_empty tree levels paths each = record {
   levels_are = levels;
@@ -299,15 +299,11 @@ no_rows levels (node ∷ nodes) each =
     ∙ no_rows levels nodes (All-tail (IsEmptyNode levels) node nodes each)
 
 -- one more node
-pub paths_more : (levels : List Level) (nodes : List NodeRows) (node : NodeRows) (k : ℕ) → map node_path nodes ≡ take k (nodes_of levels)
-    → IsSome (level_at levels (node_path node)) → place_of levels (node_path node) ≡ k
-    → map node_path (nodes ++ node ∷ []) ≡ take (k + 1) (nodes_of levels)
-paths_more levels nodes node k paths some place =
-    let at = placed levels (node_path node) some in
-    let inside : k < length (nodes_of levels) = subst (λ n. n < length (nodes_of levels)) place at.inside in
+pub paths_more : (levels : List Level) (nodes : List NodeRows) (node : NodeRows) (k : ℕ) → k < length (nodes_in levels) → map node_path nodes ≡ take k (nodes_in levels)
+    → node_path node ≡ get_or (nodes_in levels) k [] → map node_path (nodes ++ node ∷ []) ≡ take (k + 1) (nodes_in levels)
+paths_more levels nodes node k inside paths at =
     map_push node_path nodes node ∙ ap (λ ps. ps ++ node_path node ∷ []) paths
-    ∙ ap (λ p. take k (nodes_of levels) ++ p ∷ []) (sym (at.node []) ∙ ap (λ n. get_or (nodes_of levels) n []) place)
-    ∙ sym (take_more (nodes_of levels) k [] inside)
+    ∙ ap (λ p. take k (nodes_in levels) ++ p ∷ []) at ∙ sym (take_more (nodes_in levels) k [] inside)
 
 -- ---- one more row at a node
 

@@ -4,14 +4,13 @@ use Rattle.std.specs.Prelude.{codes}
 use Rattle.pdh_shape.specs.declared.place.Level.{Level}
 use Rattle.pdh_clock.specs.declared.fault.ScheduleFault.{ScheduleFault}
 use Rattle.pdh_clock.specs.declared.fault.ScheduleFault.TheVariants.{BadRow, UnknownNode, CountOver}
-use Rattle.pdh_line.specs.Sending.{arrived}
+use Rattle.pdh_line.specs.Progress.{arrived}
 use Rattle.pdh_clock.specs.Text.{lines_of, words_of, number_of, path_of}
 use Rattle.pdh_clock.specs.Row.{Row}
-use Rattle.pdh_clock.specs.Chain.{nodes_of}
+use Rattle.pdh_levels.specs.Levels.{nodes_in, size_of, place_of}
 use Rattle.pdh_clock.specs.Judged.{schedule_of}
 use Rattle.pdh_clock.specs.Contents.{Contents, by_nodes, frames_of, frame_count, counts}
 use Rattle.pdh_clock.specs.Begun.{frames_begun, shortage}
-use Rattle.pdh_clock.specs.Stored.{size_of, place_of}
 
 -- a line and its line feed
 abbrev line : List ℕ → List ℕ
@@ -151,7 +150,7 @@ totals : arrived (counts rows [] 1) 3 ≡ 414
 unfolding arrived frames_of
 totals = refl
 
-nodes_in_order : nodes_of (e3 ∷ e2 ∷ []) ≡ [] ∷ (1 ∷ []) ∷ (2 ∷ []) ∷ (3 ∷ []) ∷ (4 ∷ []) ∷ []
+nodes_in_order : nodes_in (e3 ∷ e2 ∷ []) ≡ [] ∷ (1 ∷ []) ∷ (2 ∷ []) ∷ (3 ∷ []) ∷ (4 ∷ []) ∷ []
 nodes_in_order = refl
 
 -- the level of one 139264 kbit/s multiplexer
@@ -169,8 +168,8 @@ e4 = record {
   trib_ppm = 20;
 }
 
-nodes_of_three_levels : (length (nodes_of (e4 ∷ e3 ∷ e2 ∷ [])) ≡ 21)
-    × (take 7 (nodes_of (e4 ∷ e3 ∷ e2 ∷ [])) ≡ [] ∷ (1 ∷ []) ∷ (1 ∷ 1 ∷ []) ∷ (1 ∷ 2 ∷ []) ∷ (1 ∷ 3 ∷ []) ∷ (1 ∷ 4 ∷ []) ∷ (2 ∷ []) ∷ [])
+nodes_of_three_levels : (length (nodes_in (e4 ∷ e3 ∷ e2 ∷ [])) ≡ 21)
+    × (take 7 (nodes_in (e4 ∷ e3 ∷ e2 ∷ [])) ≡ [] ∷ (1 ∷ []) ∷ (1 ∷ 1 ∷ []) ∷ (1 ∷ 2 ∷ []) ∷ (1 ∷ 3 ∷ []) ∷ (1 ∷ 4 ∷ []) ∷ (2 ∷ []) ∷ [])
 nodes_of_three_levels = (refl, refl)
 
 places_of_nodes : (size_of (e4 ∷ e3 ∷ e2 ∷ []) ≡ 21) × (place_of (e4 ∷ e3 ∷ e2 ∷ []) (2 ∷ []) ≡ 6) × (place_of (e4 ∷ e3 ∷ e2 ∷ []) (4 ∷ 4 ∷ []) ≡ 20)

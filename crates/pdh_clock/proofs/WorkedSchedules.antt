@@ -5,7 +5,7 @@ use Rattle.std.specs.Fmt.{digits}
 use Rattle.pdh_shape.specs.declared.place.Level.{Level}
 use Rattle.pdh_clock.specs.declared.bias.Bias.TheVariants.{Nominal, Fast, Slow, Mixed}
 use Rattle.pdh_clock.specs.declared.bias.Offset.TheVariants.{Ahead, Behind}
-use Rattle.pdh_line.specs.Sending.{arrived}
+use Rattle.pdh_line.specs.Progress.{arrived}
 use Rattle.pdh_clock.specs.Contents.{frames_of}
 use Rattle.pdh_clock.specs.Made.{made, made_frames, offset_of}
 use Rattle.pdh_clock.specs.Written.{longest_rows, text_of, text_with}

@@ -9,7 +9,7 @@ use Rattle.pdh_shape.specs.declared.place.Level.{Level}
 use Rattle.pdh_clock.specs.declared.tree.NodeRows.{NodeRows}
 use Rattle.pdh_clock.specs.declared.tree.Tree.{Tree}
 use Rattle.pdh_clock.specs.Row.{Row}
-use Rattle.pdh_clock.specs.Chain.{nodes_of}
+use Rattle.pdh_levels.specs.Levels.{nodes_in}
 use Rattle.pdh_clock.specs.Contents.{frames_of}
 use Rattle.pdh_clock.specs.Stored.{IsNode, IsTree, at_path, contents_of, node_path, rows_in}
 use Rattle.pdh_clock.specs.Written.{longest_rows, row_line, text_of, text_with}
@@ -38,4 +38,4 @@ text_of_nodes tree h =
     joined_over node_text written tree.nodes.items
     (λ k d l. ap (λ frames. flat_map row_line (longest_rows (node_path (get_or tree.nodes.items k d)) frames)) (sym (frames_of_node tree k d h l)))
     ∙ ap (flat_map written) h.paths
-    ∙ sym (joined_twice row_line (λ path. longest_rows path (frames_of (rows_in tree) path)) (nodes_of tree.levels.items))
+    ∙ sym (joined_twice row_line (λ path. longest_rows path (frames_of (rows_in tree) path)) (nodes_in tree.levels.items))

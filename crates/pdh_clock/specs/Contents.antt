@@ -1,9 +1,9 @@
 -- A schedule as its callers see it, and the counts that it gives a node.
-use Rattle.std.specs.Prelude.{◌≡◌, ℕ, ◌<◌, ◌≤◌, List, [], All, IsSome, length, filter, replicate, slice_index}
+use Rattle.std.specs.Prelude.{◌≡◌, ℕ, ◌<◌, ◌≤◌, ◌==◌, ◌&&◌, Bool, true, false, List, [], ◌∷◌, All, IsSome, length, filter, replicate, slice_index}
 use Rattle.std.specs.List.{flat_map, slice_index_or}
 use Rattle.pdh_shape.specs.declared.place.Level.{Level}
 use Rattle.pdh_clock.specs.Row.{Row}
-use Rattle.pdh_clock.specs.Chain.{same_path, nodes_of, level_at, stores_at, len_at}
+use Rattle.pdh_levels.specs.Levels.{nodes_in, level_at, stores_at, len_at}
 
 -- the levels of its chain, and the rows of its nodes in order
 pub record Contents : Type 0 where
@@ -17,13 +17,19 @@ pub record IsRowOf (levels : List Level) (row : Row) : Type 0 where
   pub stores : length row.counts ≡ stores_at levels row.path
   pub most : All (λ count. count ≤ len_at levels row.path) row.counts
 
+-- two paths are the same
+abbrev pub same_path : List ℕ → List ℕ → Bool
+same_path [] [] = true
+same_path (a ∷ path) (b ∷ path') = a == b && same_path path path'
+same_path _ _ = false
+
 -- the rows of the node at a path
 abbrev pub rows_at : List Row → List ℕ → List Row
 rows_at rows path = filter (λ row. same_path row.path path) rows
 
 -- the rows of each node in order of lines, and the nodes in order
 abbrev pub by_nodes : List Level → List Row → List Row
-by_nodes levels rows = flat_map (rows_at rows) (nodes_of levels)
+by_nodes levels rows = flat_map (rows_at rows) (nodes_in levels)
 
 -- the counts of each frame of the node at a path: the counts of its rows, each as often as the row says
 unfoldable pub frames_of : List Row → List ℕ → List (List ℕ)

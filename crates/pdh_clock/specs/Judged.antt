@@ -6,8 +6,9 @@ use Rattle.pdh_clock.specs.declared.fault.ScheduleFault.{ScheduleFault}
 use Rattle.pdh_clock.specs.declared.fault.ScheduleFault.TheVariants.{TooLong, BadRow, UnknownNode, CountOver, Memory}
 use Rattle.pdh_clock.specs.Text.{lines_of}
 use Rattle.pdh_clock.specs.Row.{Row, row_of}
-use Rattle.pdh_clock.specs.Chain.{level_at, stores_of}
+use Rattle.pdh_levels.specs.Levels.{level_at, level_stores}
 use Rattle.pdh_clock.specs.Contents.{by_nodes}
+use Rattle.pdh_shape.specs.OwnNumbers.{most_bytes}
 
 infixl 10 ◌>>=◌
 abbrev pub ◌>>=◌ : {A B : Type 0} → Result A ScheduleFault → (A → Result B ScheduleFault) → Result B ScheduleFault
@@ -21,7 +22,7 @@ counts_judged number level row =
 
 -- the row, unless it has not one count for each store of its node
 abbrev pub stores_judged : ℕ → Level → Row → Result Row ScheduleFault
-stores_judged number level row = if length row.counts == stores_of level then counts_judged number level row else Err (BadRow number)
+stores_judged number level row = if length row.counts == level_stores level then counts_judged number level row else Err (BadRow number)
 
 -- the row of the line of that number: its form is judged first, then the node, then how many counts there are, then each
 abbrev pub row_judged : List Level → ℕ → List ℕ → Result Row ScheduleFault
@@ -42,10 +43,6 @@ rows_judged levels number (line ∷ lines) = if is_passed_over line then rows_ju
   row ← row_judged levels number line
   rows ← rows_judged levels (suc number) lines
   Ok (row ∷ rows)
-
--- the most bytes that a text may have
-abbrev pub most_bytes : ℕ
-most_bytes = 33554432
 
 -- the rows of lines, those of each node in order of lines and the nodes in order, or the first fault
 abbrev pub lines_judged : List Level → List (List ℕ) → Result (List Row) ScheduleFault

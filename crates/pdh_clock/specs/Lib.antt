@@ -1,6 +1,5 @@
 pub mod Text
 pub mod Row
-pub mod Chain
 pub mod Judged
 pub mod Contents
 pub mod Begun

@@ -6,7 +6,9 @@ use Rattle.pdh_clock.specs.declared.bias.Bias.{Bias}
 use Rattle.pdh_clock.specs.declared.bias.Bias.TheVariants.{Nominal, Fast, Slow, Mixed}
 use Rattle.pdh_clock.specs.declared.bias.Offset.{Offset}
 use Rattle.pdh_clock.specs.declared.bias.Offset.TheVariants.{Exact, Ahead, Behind}
-use Rattle.pdh_clock.specs.Begun.{taken, begun_by, top_len}
+use Rattle.pdh_clock.specs.Begun.{taken, top_len}
+use Rattle.pdh_line.specs.Progress.{begun_by}
+use Rattle.pdh_shape.specs.OwnNumbers.{most_frames}
 
 -- the rate of a stream that is so many parts per million fast or slow, as a multiple of a millionth of its nominal rate
 abbrev pub fast : ℕ → ℕ
@@ -52,11 +54,16 @@ made_from [] bias line x path = []
 made_from (level ∷ below) bias line x [] = made_frames level bias (length below) line (begun_by level.len x)
 made_from (level ∷ below) bias line x (step ∷ path) =
     let trib = offset_of bias (length below) step in
-    if nat_le 1 step && nat_le step level.tribs then made_from below bias trib (taken level (made_count level line trib) x) path else []
+    if nat_le 1 step && nat_le step level.tribs then made_from below bias trib (taken level (step - 1) (made_count level line trib) x) path else []
 
 -- the counts of each frame of the node at a path, where the top makes so many frames
 unfoldable pub made : List Level → Bias → ℕ → List ℕ → List (List ℕ)
 made levels bias frames path = made_from levels bias (offset_of bias (length levels) 1) (frames * top_len levels) path
+
+-- The most frames of a node of a made schedule: the longest frame has less than six times the bits of the shortest, and leads
+-- are few.
+abbrev pub most_made : ℕ
+most_made = 8 * most_frames
 
 -- Rates of which a schedule can be made: a tributary's is at most half the line's, no offset is above 1000 parts per
 -- million, and whatever the offsets are, the bits that arrive in the time of a frame lie between those that a frame

@@ -3,7 +3,7 @@ use Rattle.std.specs.Prelude.{◌≡◌, ℕ, ◌<◌, List, [], ◌∷◌, leng
 use Rattle.std.specs.List.{slice_index_or}
 use Rattle.pdh_clock.specs.declared.bias.Bias.{Bias}
 use Rattle.pdh_clock.specs.declared.tree.Tree.{Tree}
-use Rattle.pdh_clock.specs.Chain.{nodes_of}
+use Rattle.pdh_levels.specs.Levels.{nodes_in}
 use Rattle.pdh_clock.specs.Contents.{frames_of}
 use Rattle.pdh_clock.specs.Made.{made}
 use Rattle.pdh_clock.specs.Stored.{rows_in}
@@ -16,6 +16,6 @@ last_step (step ∷ next ∷ path) = last_step (next ∷ path)
 
 -- so many nodes have the frames of the made schedule
 abbrev pub AreMade : Tree → Bias → ℕ → ℕ → Type 0
-AreMade tree bias top_frames n = (k : ℕ) → k < n → k < length (nodes_of tree.levels.items)
-    → frames_of (rows_in tree) (slice_index_or (nodes_of tree.levels.items) k [])
-    ≡ made tree.levels.items bias top_frames (slice_index_or (nodes_of tree.levels.items) k [])
+AreMade tree bias top_frames n = (k : ℕ) → k < n → k < length (nodes_in tree.levels.items)
+    → frames_of (rows_in tree) (slice_index_or (nodes_in tree.levels.items) k [])
+    ≡ made tree.levels.items bias top_frames (slice_index_or (nodes_in tree.levels.items) k [])

@@ -3,7 +3,7 @@ use Rattle.std.specs.Prelude.{◌≡◌, ℕ, ◌+◌, List, [], length, take, O
 use Rattle.pdh_clock.specs.declared.row.Counts.{Counts}
 use Rattle.pdh_clock.specs.declared.row.FoundRow.{FoundRow}
 use Rattle.pdh_clock.specs.Row.{Row}
-use Rattle.pdh_clock.specs.Chain.{steps_of}
+use Rattle.pdh_line.specs.Paths.{steps_of}
 use Rattle.pdh_clock.specs.Text.{words_of}
 
 -- what was found agrees with what is there, or neither is

@@ -1,7 +1,8 @@
 -- Arrivals whose clocks keep to their offsets.
 use Rattle.std.specs.Prelude.{ℕ, ◌+◌, ◌*◌, ◌≤◌}
 use Rattle.pdh_shape.specs.declared.place.Level.{Level}
-use Rattle.pdh_line.specs.Tolerance.{allowance, arrived_over}
+use Rattle.pdh_shape.specs.OwnNumbers.{allowance}
+use Rattle.pdh_line.specs.Tolerance.{arrived_over}
 use Rattle.pdh_clock.specs.Made.{fast, slow}
 
 -- Over so many frames a tributary keeps to the rates of its level: in the time of each run of frames arrive no fewer bits

@@ -1,5 +1,5 @@
 -- The nodes of a chain as they are stored: in order, each with its rows.
-use Rattle.std.specs.Prelude.{◌≡◌, ℕ, suc, ◌+◌, ◌-◌, ◌*◌, ◌<◌, ◌≤◌, ◌^◌, List, [], ◌∷◌, map, slice_index, All}
+use Rattle.std.specs.Prelude.{◌≡◌, ℕ, ◌<◌, ◌≤◌, ◌^◌, List, map, slice_index, All}
 use Rattle.std.specs.List.{flat_map}
 use Rattle.pdh_rows.specs.Rows.{NodeRow}
 use Rattle.pdh_rows.specs.Stored.{IsTable, rows_of}
@@ -7,18 +7,9 @@ use Rattle.pdh_shape.specs.declared.place.Level.{Level}
 use Rattle.pdh_clock.specs.declared.tree.NodeRows.{NodeRows}
 use Rattle.pdh_clock.specs.declared.tree.Tree.{Tree}
 use Rattle.pdh_clock.specs.Row.{Row}
-use Rattle.pdh_clock.specs.Chain.{AreLevels, steps_of, stores_at, nodes_of}
+use Rattle.pdh_levels.specs.Levels.{AreLevels, stores_at, nodes_in}
+use Rattle.pdh_line.specs.Paths.{steps_of}
 use Rattle.pdh_clock.specs.Contents.{Contents, IsRowOf}
-
--- how many nodes a tree of these levels has: its top, and those below each of the top's tributaries
-abbrev pub size_of : List Level → ℕ
-size_of [] = 0
-size_of (level ∷ below) = suc (level.tribs * size_of below)
-
--- how many nodes stand before the node at a path
-abbrev pub place_of : List Level → List ℕ → ℕ
-place_of (level ∷ below) (step ∷ path) = suc ((step - 1) * size_of below + place_of below path)
-place_of _ _ = 0
 
 -- a row of the node at a path
 abbrev pub path_row : List ℕ → ℕ → List ℕ → Row
@@ -52,7 +43,7 @@ pub record IsNode (levels : List Level) (node : NodeRows) : Type 0 where
 -- all nodes of the levels, in order
 pub record IsTree (tree : Tree) : Type 0 where
   pub levels_are : AreLevels tree.levels.items
-  pub paths : map node_path tree.nodes.items ≡ nodes_of tree.levels.items
+  pub paths : map node_path tree.nodes.items ≡ nodes_in tree.levels.items
   pub each : All (IsNode tree.levels.items) tree.nodes.items
 
 -- a row that can be counted with: its repeat and its counts are no larger than those of a text

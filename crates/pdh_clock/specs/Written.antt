@@ -1,12 +1,14 @@
 -- The text that a schedule is written as.
-use Rattle.std.specs.Prelude.{◌≡◌, ℕ, suc, ◌≤◌, List, [], ◌∷◌, ◌++◌, ◌==◌, length, decimal, Ok, IsSome, if◌then◌else◌}
+use Rattle.std.specs.Prelude.{◌≡◌, ℕ, suc, ◌≤◌, List, [], ◌∷◌, ◌++◌, length, decimal, Ok, IsSome, if◌then◌else◌}
 use Rattle.std.specs.List.{flat_map}
 use Rattle.std.specs.Str.{bytes_eq}
 use Rattle.pdh_shape.specs.declared.place.Level.{Level}
+use Rattle.pdh_line.specs.Paths.{path_text}
 use Rattle.pdh_clock.specs.Row.{Row}
-use Rattle.pdh_clock.specs.Chain.{level_at, nodes_of}
+use Rattle.pdh_levels.specs.Levels.{level_at, nodes_in}
 use Rattle.pdh_clock.specs.Contents.{Contents, frames_of, frame_count}
-use Rattle.pdh_clock.specs.Judged.{schedule_of, most_bytes}
+use Rattle.pdh_clock.specs.Judged.{schedule_of}
+use Rattle.pdh_shape.specs.OwnNumbers.{most_bytes}
 
 -- one more frame before rows that begin, or don't, with equal frames
 abbrev pub with_frame : List ℕ → List ℕ → List Row → List Row
@@ -22,12 +24,7 @@ longest_rows path (frame ∷ frames) = with_frame path frame (longest_rows path 
 
 -- the rows of all nodes in order, where the node at each path has these frames
 abbrev pub rows_written : List Level → (List ℕ → List (List ℕ)) → List Row
-rows_written levels frames = flat_map (λ path. longest_rows path (frames path)) (nodes_of levels)
-
--- the word of a path: its steps, each behind a slash, 47, or a slash alone
-abbrev pub path_word : List ℕ → List ℕ
-path_word [] = 47 ∷ []
-path_word (step ∷ path) = 47 ∷ decimal step ++ (if length path == 0 then [] else path_word path)
+rows_written levels frames = flat_map (λ path. longest_rows path (frames path)) (nodes_in levels)
 
 -- numbers in decimal, each behind a space, 32
 abbrev pub number_words : List ℕ → List ℕ
@@ -35,7 +32,7 @@ number_words numbers = flat_map (λ number. 32 ∷ decimal number) numbers
 
 -- the line of a row, with its line feed, 10
 abbrev pub row_line : Row → List ℕ
-row_line row = path_word row.path ++ number_words (row.repeat ∷ row.counts) ++ 10 ∷ []
+row_line row = path_text row.path ++ number_words (row.repeat ∷ row.counts) ++ 10 ∷ []
 
 -- the text of a schedule in which the node at each path has these frames
 unfoldable pub text_with : List Level → (List ℕ → List (List ℕ)) → List ℕ

@@ -1,14 +1,19 @@
 //! How many frames each node begins while the top makes a number of frames.
 
-ghost use Rattle.std.specs.Prelude.{◌≡◌, ◌≤◌, ◌<◌, ◌*◌, ◌+◌, ◌^◌, IsSome, Some, option_map};
+ghost use Rattle.std.specs.Prelude.{◌≡◌, ◌≤◌, ◌<◌, ◌*◌, ◌+◌, ◌^◌, IsNone, IsSome, IfSome, Some, option_map};
+ghost use Rattle.pdh_line.specs.Nodes.{width};
+ghost use Rattle.pdh_line.specs.Paths.{path_of};
 ghost use Rattle.pdh_shape.specs.declared.place.Level.{Level};
-ghost use Rattle.pdh_clock.specs.Chain.{level_at, stores_at, steps_of};
+ghost use Rattle.pdh_levels.specs.Levels.{level_at, stores_at, place_of, numbers_of};
+ghost use Rattle.pdh_line.specs.Paths.{steps_of};
 ghost use Rattle.pdh_clock.specs.Contents.{counts, frame_count};
-ghost use Rattle.pdh_clock.specs.Begun.{taken as bits_taken, begun_by, bits_made, frames_begun, NoneShort, shortage, shortage_of};
-ghost use Rattle.pdh_clock.specs.Stored.{IsTree, contents_of, place_of, rows_in};
+ghost use Rattle.pdh_clock.specs.Begun.{taken as bits_taken, bits_made, bits_entered, frames_begun, NoneShort, shortage, shortage_of};
+ghost use Rattle.pdh_line.specs.Progress.{begun_by};
+ghost use Rattle.pdh_clock.specs.Stored.{IsTree, contents_of, rows_in};
 
-use crate::tree::{TOP, Tree};
-use pdh_shape::Path;
+use crate::tree::Tree;
+use pdh_levels::leaf_place;
+use pdh_shape::{Path, TOP};
 
 /// A node that has fewer frames than it is to begin.
 #[derive(Clone, Copy, Debug, PartialEq, Eq)]
@@ -21,8 +26,8 @@ pub struct Short {
     pub need: u64,
 }
 
-// How many bits of each tributary are taken before the first slot of the first frame.
-const LEAD: u128 = 24;
+// The lead, as a summand of the bits that are taken.
+const LEAD: u128 = pdh_shape::LEAD as u128;
 
 impl Tree {
     /// How many bits of a tributary, counted from 0, a node has taken when it made so many bits of its line.
@@ -33,7 +38,7 @@ impl Tree {
             → begun_by level.len bits ≤ frame_count (rows_in self.now) (steps_of node.now) }
         requires few { (level : Level) → level_at self.now.levels.items (steps_of node.now) ≡ Some level → bits ≤ 18446744073709551615 * level.len }
         ensures taken { (level : Level) → level_at self.now.levels.items (steps_of node.now) ≡ Some level
-            → result ≡ bits_taken level (counts (rows_in self.now) (steps_of node.now) trib) bits }
+            → result ≡ bits_taken level trib (counts (rows_in self.now) (steps_of node.now) trib) bits }
         ensures few { result ≤ 2 ^ 65 }
     {
         if bits == 0 {
@@ -85,13 +90,30 @@ impl Tree {
         self.bits(node, top_frames).div_ceil(len) as u64
     }
 
+    /// How many bits of a leaf enter while the top makes so many frames, where no node has too few.
+    pub fn entered(&self, leaf: u32, top_frames: u64) -> u128
+        requires tree { IsTree self.now }
+        requires leaf { leaf < width (numbers_of self.now.levels.items) }
+        requires enough { IsNone (shortage (contents_of self.now) top_frames) }
+        ensures { result ≡ bits_entered (contents_of self.now) top_frames leaf }
+    {
+        let place = leaf_place(&self.levels, leaf);
+        let begun = self.begun(&place.node, top_frames);
+        if begun == 0 {
+            return 0;
+        }
+        let table = self.table_of(&place.node);
+        LEAD + u128::from(table.total(begun, usize::from(place.trib)))
+    }
+
     /// The first node that has fewer frames than it begins while the top makes so many.
     pub fn short(&self, top_frames: u64) -> Option<Short>
         requires { IsTree self.now }
-        ensures { option_map shortage_of result ≡ shortage (contents_of self.now) top_frames }
+        ensures short { option_map shortage_of result ≡ shortage (contents_of self.now) top_frames }
+        ensures plain { IfSome result (λ short. short.node ≡ path_of (steps_of short.node)) }
     {
         for place in 0..self.nodes.len() {
-            let node = self.nodes[place].path;
+            let node = self.node(place);
             let have = self.nodes[place].table.frames();
             let need = self.begun(&node, top_frames);
             if have < need {

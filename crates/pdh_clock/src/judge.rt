@@ -5,7 +5,8 @@ ghost use Rattle.pdh_clock.specs.Judged.{Gives, is_passed_over as passed_over, s
 ghost use Rattle.pdh_clock.specs.Parsed.{IsRow, row_found};
 ghost use Rattle.pdh_clock.specs.Row.{Row};
 ghost use Rattle.std.specs.Option.{option_copied, option_and_then};
-ghost use Rattle.pdh_clock.specs.Chain.{IsLevel, level_at, steps_of};
+ghost use Rattle.pdh_levels.specs.Levels.{IsLevel, level_at};
+ghost use Rattle.pdh_line.specs.Paths.{steps_of};
 
 use crate::fault::ScheduleFault;
 use crate::row::{FoundRow, row};

@@ -34,5 +34,5 @@ pub use beginning::Short;
 pub use bias::Bias;
 pub use fault::ScheduleFault;
 pub use pdh_rows::Outside;
-pub use schedule::{MOST_BYTES, Schedule};
+pub use schedule::Schedule;
 pub use words::number;

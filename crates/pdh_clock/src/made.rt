@@ -2,10 +2,12 @@
 
 ghost use Rattle.std.specs.Prelude.{◌≡◌, ℕ, ◌<◌, ◌≤◌, ◌+◌, ◌-◌, All, length, map, slice_index, IfOk, OnOk};
 ghost use Rattle.pdh_rows.specs.Stored.{IsTable, rows_of, node_row};
-ghost use Rattle.pdh_clock.specs.Chain.{AreLevels, IsLevel, steps_of};
-ghost use Rattle.pdh_clock.specs.Made.{IsRated, offset_of, made_arrived, made_count, made_frames};
+ghost use Rattle.pdh_levels.specs.Levels.{AreLevels, IsLevel};
+ghost use Rattle.pdh_line.specs.Paths.{steps_of};
+ghost use Rattle.pdh_clock.specs.Made.{IsRated, offset_of, made_arrived, made_count, made_frames, most_made};
 ghost use Rattle.pdh_clock.specs.Making.{AreMade, last_step};
 ghost use Rattle.pdh_clock.specs.Stored.{IsTree};
+ghost use Rattle.pdh_shape.specs.OwnNumbers.{most_frames};
 
 use crate::bias::{Bias, Offset};
 use crate::row::MOST_TRIBS;
@@ -27,7 +29,7 @@ struct Clocks {
 fn arrived(level: &Level, line: Offset, trib: Offset, n: u64) -> u128
     requires level { IsLevel level.now }
     requires rated { IsRated level.now }
-    requires few { n ≤ 131072 }
+    requires few { n ≤ most_made }
     ensures { result ≡ made_arrived level.now line trib n }
 {
     let bits = u128::from(n) * u128::from(level.len);
@@ -40,7 +42,7 @@ fn arrived(level: &Level, line: Offset, trib: Offset, n: u64) -> u128
 fn counts(level: &Level, clocks: Clocks, frame: u64) -> [u32; MOST_TRIBS]
     requires level { IsLevel level.now }
     requires rated { IsRated level.now }
-    requires few { frame < 131072 }
+    requires few { frame < most_made }
     ensures counts { (trib : ℕ) → trib < level.now.tribs
         → slice_index result trib ≡ made_count level.now clocks.line (offset_of clocks.bias clocks.height (trib + 1)) frame }
     ensures most { (trib : ℕ) → trib < level.now.tribs → slice_index result trib ≤ level.now.len }
@@ -64,7 +66,7 @@ fn made_table(
 ) -> Result<Table, AllocError>
     requires level { IsLevel level.now }
     requires rated { IsRated level.now }
-    requires few { frames ≤ 131072 }
+    requires few { frames ≤ most_made }
     ensures rows { IfOk result (λ table. rows_of table ≡ map (node_row 1) (made_frames level.now clocks.bias clocks.height clocks.line frames)) }
     ensures table { IfOk result (λ table. IsTable table) }
     ensures tribs { IfOk result (λ table. table.tribs ≡ level.now.tribs) }
@@ -107,7 +109,7 @@ fn make_node(
 ) -> Result<(), AllocError>
     requires tree { IsTree tree.old }
     requires rated { All IsRated tree.old.levels.items }
-    requires few { top_frames ≤ 16384 }
+    requires few { top_frames ≤ most_frames }
     requires inside { place < length tree.old.nodes.items }
     requires before { AreMade tree.old bias top_frames place }
     ensures tree { OnOk result (IsTree tree.new) }
@@ -132,7 +134,7 @@ pub fn made_tree(
 ) -> Result<Tree, AllocError>
     requires levels { AreLevels levels.now }
     requires rated { All IsRated levels.now }
-    requires few { frames ≤ 16384 }
+    requires few { frames ≤ most_frames }
     ensures tree { IfOk result (λ tree. IsTree tree) }
     ensures levels { IfOk result (λ tree. tree.levels.items ≡ levels.now) }
     ensures made { IfOk result (λ tree. AreMade tree bias frames (length tree.nodes.items)) }

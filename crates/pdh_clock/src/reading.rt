@@ -2,8 +2,9 @@
 
 ghost use Rattle.std.specs.Prelude.{◌≡◌, ◌≤◌, ◌+◌, length, IfOk};
 ghost use Rattle.pdh_clock.specs.Text.{lines_of};
-ghost use Rattle.pdh_clock.specs.Judged.{Gives, lines_judged, most_bytes};
-ghost use Rattle.pdh_clock.specs.Chain.{AreLevels};
+ghost use Rattle.pdh_clock.specs.Judged.{Gives, lines_judged};
+ghost use Rattle.pdh_shape.specs.OwnNumbers.{most_bytes};
+ghost use Rattle.pdh_levels.specs.Levels.{AreLevels};
 ghost use Rattle.pdh_clock.specs.Stored.{IsTree, rows_in};
 
 use crate::fault::ScheduleFault;

@@ -8,12 +8,9 @@ use crate::reading::read_rows;
 use crate::tree::Tree;
 use crate::writing::write_rows;
 use pdh_rows::{Outside, within_tolerance};
-use pdh_shape::{Level, Path};
+use pdh_shape::{Level, MOST_BYTES, Path};
 use std::alloc::{AllocError, Global};
 use std::marker::Model;
-
-/// The most bytes that a schedule's text may have.
-pub const MOST_BYTES: usize = 33_554_432;
 
 /// How many bits of each tributary arrive in each frame of each node of a chain.
 #[derive(Drop)]
@@ -33,19 +30,22 @@ impl Model for Schedule {
 }
 
 impl Schedule {
-    ghost use Rattle.std.specs.Prelude.{◌≡◌, ℕ, ◌<◌, ◌≤◌, ◌*◌, List, [], All, IsNone, IsSome, IfOk, Ok, Some, option_map, length};
+    ghost use Rattle.std.specs.Prelude.{◌≡◌, ℕ, ◌<◌, ◌≤◌, ◌*◌, List, [], All, IsNone, IsSome, IfSome, IfOk, Ok, Some, option_map, length};
     ghost use Rattle.pdh_shape.specs.Frame.{FrameShape};
     ghost use Rattle.pdh_shape.specs.declared.place.Level.{Level};
-    ghost use Rattle.pdh_line.specs.Sending.{arrived};
+    ghost use Rattle.pdh_line.specs.Progress.{arrived};
     ghost use Rattle.pdh_line.specs.Tolerance.{IsWithin};
-    ghost use Rattle.pdh_clock.specs.Chain.{AreLevels, steps_of, level_at, stores_at, len_at, low_at};
+    ghost use Rattle.pdh_levels.specs.Levels.{AreLevels, level_at, stores_at, len_at, low_at, numbers_of};
+    ghost use Rattle.pdh_line.specs.Paths.{path_of, steps_of};
+    ghost use Rattle.pdh_line.specs.Nodes.{width};
     ghost use Rattle.pdh_clock.specs.Judged.{Gives, schedule_of};
     ghost use Rattle.pdh_clock.specs.Contents.{IsRowOf, frames_of, counts, frame_count};
-    ghost use Rattle.pdh_clock.specs.Begun.{frames_begun, shortage, shortage_of};
+    ghost use Rattle.pdh_clock.specs.Begun.{bits_entered, frames_begun, shortage, shortage_of};
     ghost use Rattle.pdh_rows.specs.Outside.{first_outside, run_in};
     ghost use Rattle.pdh_clock.specs.Made.{IsRated, made};
     ghost use Rattle.pdh_clock.specs.Rates.{IsWithinRates};
     ghost use Rattle.pdh_clock.specs.Written.{text_of, ReadsBack};
+    ghost use Rattle.pdh_shape.specs.OwnNumbers.{most_frames};
 
     /// Reads a schedule's text. Faults are those of the first line that has one, and memory may run out besides.
     #[tactic(auto, unfolding(crate::specs::Judged::schedule_of))]
@@ -106,10 +106,11 @@ impl Schedule {
     }
 
     /// The first node that has fewer frames than it begins while the top makes so many. A node comes before those
-    /// below it.
+    /// below it. Numbers that its path doesn't use are 0.
     pub fn short(&self, top_frames: u64) -> Option<Short>
         requires { top_frames ≤ frame_count self.now.rows [] }
-        ensures { option_map shortage_of result ≡ shortage self.now top_frames }
+        ensures short { option_map shortage_of result ≡ shortage self.now top_frames }
+        ensures plain { IfSome result (λ short. short.node ≡ path_of (steps_of short.node)) }
     {
         self.tree.short(top_frames)
     }
@@ -123,6 +124,16 @@ impl Schedule {
         self.tree.begun(node, top_frames)
     }
 
+    /// How many bits of a leaf, counted from 0, enter while the top makes so many frames: none where the leaf's node begins
+    /// no frame, else its lead and what arrives in the frames that the node begins.
+    pub fn entered(&self, leaf: u32, top_frames: u64) -> u128
+        requires leaf { leaf < width (numbers_of self.now.levels) }
+        requires enough { IsNone (shortage self.now top_frames) }
+        ensures { result ≡ bits_entered self.now top_frames leaf }
+    {
+        self.tree.entered(leaf, top_frames)
+    }
+
     /// Makes the schedule of so many frames of the top, and of as many of each other node as it begins in their time, in
     /// which every tributary brings the whole bits of its own clock. Clocks are off by as many parts per million as the
     /// levels say.
@@ -134,7 +145,7 @@ impl Schedule {
     ) -> Result<Schedule, AllocError>
         requires levels { AreLevels levels.now }
         requires rated { All IsRated levels.now }
-        requires few { frames ≤ 16384 }
+        requires few { frames ≤ most_frames }
         ensures levels { IfOk result (λ schedule. schedule.levels ≡ levels.now) }
         ensures frames { IfOk result (λ schedule. (path : List ℕ) → frames_of schedule.rows path ≡ made levels.now bias frames path) }
         ensures sound { IfOk result (λ schedule. All (IsRowOf levels.now) schedule.rows) }

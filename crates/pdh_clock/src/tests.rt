@@ -2,58 +2,11 @@
 
 ghost use Rattle.std.specs.Prelude.{◌<◌};
 
-use crate::{Bias, MOST_BYTES, Outside, Schedule, ScheduleFault, Short};
-use pdh_shape::{Level, Path};
+use crate::{Bias, Outside, Schedule, ScheduleFault, Short};
+use pdh_levels::{E2_LEVEL, E3_LEVEL, E4_LEVEL};
+use pdh_shape::{MOST_BYTES, Path, TOP};
 use std::alloc::Global;
 use std::test::Fail;
-
-const TOP: Path = Path {
-    depth: 0,
-    first: 0,
-    second: 0,
-};
-
-/// The level of the chain of one 8448 kbit/s multiplexer.
-const E12: Level = Level {
-    len: 848,
-    tribs: 4,
-    low: 205,
-    locked: false,
-    rate: 8_448_000,
-    per: 1,
-    ppm: 30,
-    trib_rate: 2_048_000,
-    trib_per: 1,
-    trib_ppm: 50,
-};
-
-/// The level of the nodes with 34368 kbit/s.
-const E3: Level = Level {
-    len: 1_536,
-    tribs: 4,
-    low: 377,
-    locked: false,
-    rate: 34_368_000,
-    per: 1,
-    ppm: 20,
-    trib_rate: 8_448_000,
-    trib_per: 1,
-    trib_ppm: 30,
-};
-
-/// The level of the nodes with 139264 kbit/s.
-const E4: Level = Level {
-    len: 2_928,
-    tribs: 4,
-    low: 722,
-    locked: false,
-    rate: 139_264_000,
-    per: 1,
-    ppm: 15,
-    trib_rate: 34_368_000,
-    trib_per: 1,
-    trib_ppm: 20,
-};
 
 /// The node of the top's first tributary.
 const FIRST: Path = Path {
@@ -64,13 +17,13 @@ const FIRST: Path = Path {
 
 /// How many frames a text gives the top, or the text's fault.
 fn frames_of(alloc: Global, text: &[u8]) -> Result<u64, ScheduleFault> {
-    let schedule = Schedule::read(alloc, &[E12], text)?;
+    let schedule = Schedule::read(alloc, &[E2_LEVEL], text)?;
     Ok(schedule.frames(&TOP))
 }
 
 /// What a text is written as, or the text's fault.
 fn written(alloc: Global, text: &[u8]) -> Result<Vec<u8>, ScheduleFault> {
-    let schedule = Schedule::read(alloc, &[E12], text)?;
+    let schedule = Schedule::read(alloc, &[E2_LEVEL], text)?;
     Ok(schedule.text(alloc)?)
 }
 
@@ -153,7 +106,7 @@ fn refuses_a_long_text(rt: HostRuntime) -> Result<(), Fail> {
 #[test]
 fn finds_counts_and_totals(rt: HostRuntime) -> Result<(), Fail> {
     let text = b"/ 2 206 205 204 203\n/ 1 0 1 2 3\n/ 3 848 0 7 206\n/ 999999999 848 1 1 1\n";
-    let schedule = Schedule::read(rt.alloc(), &[E12], text)?;
+    let schedule = Schedule::read(rt.alloc(), &[E2_LEVEL], text)?;
     assert_eq!(rt; schedule.frames(&TOP), 1_000_000_005);
     let rows: [(u64, u32, u32, u64); 9] = [
         // A frame, the first and the last tributary's count in it, and the first one's bits before it.
@@ -216,7 +169,7 @@ fn writes_longest_rows(rt: HostRuntime) -> Result<(), Fail> {
 
 #[test]
 fn makes_nominal_counts(rt: HostRuntime) -> Result<(), Fail> {
-    let schedule = Schedule::from_ppm(rt.alloc(), &[E12], 3, Bias::Nominal)?;
+    let schedule = Schedule::from_ppm(rt.alloc(), &[E2_LEVEL], 3, Bias::Nominal)?;
     assert_eq!(rt; schedule.frames(&TOP), 3);
     for (frame, count) in [(0, 205), (1, 206), (2, 205)] {
         assert!(rt; frame < schedule.frames(&TOP));
@@ -249,7 +202,7 @@ fn makes_biased_counts(rt: HostRuntime) -> Result<(), Fail> {
         (Bias::Mixed, 9_999, [205, 206], [2_055_798, 2_055_593]),
     ];
     for (bias, frame, counts, totals) in rows {
-        let schedule = Schedule::from_ppm(rt.alloc(), &[E12], 10_000, bias)?;
+        let schedule = Schedule::from_ppm(rt.alloc(), &[E2_LEVEL], 10_000, bias)?;
         assert_eq!(rt; schedule.frames(&TOP), 10_000);
         assert!(rt; frame < schedule.frames(&TOP));
         for trib in 0..2 {
@@ -273,7 +226,7 @@ fn makes_biased_counts(rt: HostRuntime) -> Result<(), Fail> {
 fn within(alloc: Global, text: &[u8], trib: u8) -> Result<Result<(), Outside>, ScheduleFault>
     requires { trib < 4 }
 {
-    let schedule = Schedule::read(alloc, &[E12], text)?;
+    let schedule = Schedule::read(alloc, &[E2_LEVEL], text)?;
     Ok(schedule.within(&TOP, trib))
 }
 
@@ -378,7 +331,7 @@ fn read_two_levels(
     text: &[u8],
     top_frames: u64,
 ) -> Result<(Vec<u8>, Option<Short>), ScheduleFault> {
-    let schedule = Schedule::read(alloc, &[E3, E12], text)?;
+    let schedule = Schedule::read(alloc, &[E3_LEVEL, E2_LEVEL], text)?;
     let short = if top_frames <= schedule.frames(&TOP) {
         schedule.short(top_frames)
     } else {
@@ -451,7 +404,7 @@ fn names_unknown_nodes(rt: HostRuntime) {
 #[test]
 fn begins_frames_below(rt: HostRuntime) -> Result<(), Fail> {
     let text = b"/ 3 377 377 377 377\n/1 2 1 2 3 4\n/2 2 1 2 3 4\n/3 2 1 2 3 4\n/4 2 1 2 3 4\n";
-    let schedule = Schedule::read(rt.alloc(), &[E3, E12], text)?;
+    let schedule = Schedule::read(rt.alloc(), &[E3_LEVEL, E2_LEVEL], text)?;
     assert_eq!(rt; schedule.frames(&FIRST), 2);
     assert!(rt; 3 <= schedule.frames(&TOP));
     assert!(rt; schedule.short(3).is_none());
@@ -461,7 +414,7 @@ fn begins_frames_below(rt: HostRuntime) -> Result<(), Fail> {
 
 #[test]
 fn makes_three_levels(rt: HostRuntime) -> Result<(), Fail> {
-    let levels = [E4, E3, E12];
+    let levels = [E4_LEVEL, E3_LEVEL, E2_LEVEL];
     let schedule = Schedule::from_ppm(rt.alloc(), &levels, 200, Bias::Mixed)?;
     assert_eq!(rt; schedule.frames(&TOP), 200);
     assert!(rt; 200 <= schedule.frames(&TOP));

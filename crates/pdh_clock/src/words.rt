@@ -4,7 +4,7 @@ ghost use Rattle.std.specs.Prelude.{◌==◌, drop, position, ◌≡◌, ◌≢�
 ghost use Rattle.std.specs.Option.{option_copied};
 ghost use Rattle.std.specs.List.{before_first};
 ghost use Rattle.pdh_clock.specs.Text.{lines_of, words_of, number_of, path_of};
-ghost use Rattle.pdh_clock.specs.Chain.{steps_of};
+ghost use Rattle.pdh_line.specs.Paths.{steps_of};
 ghost use Rattle.pdh_clock.specs.Parsed.{left_len, words_left};
 
 use pdh_shape::Path;

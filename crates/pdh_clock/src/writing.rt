@@ -5,9 +5,10 @@ ghost use Rattle.std.specs.List.{flat_map};
 ghost use Rattle.pdh_rows.specs.Rows.{node_frames};
 ghost use Rattle.pdh_rows.specs.Stored.{IsTable, rows_of};
 ghost use Rattle.pdh_rows.specs.Runs.{ends_run as is_end_of_run};
-ghost use Rattle.pdh_clock.specs.Chain.{level_at, steps_of};
+ghost use Rattle.pdh_levels.specs.Levels.{level_at};
+ghost use Rattle.pdh_line.specs.Paths.{steps_of, path_text};
 ghost use Rattle.pdh_clock.specs.Stored.{IsTree, contents_of, node_path, path_row};
-ghost use Rattle.pdh_clock.specs.Written.{number_words, path_word, row_line, longest_rows, text_of};
+ghost use Rattle.pdh_clock.specs.Written.{number_words, row_line, longest_rows, text_of};
 
 use crate::tree::{NodeRows, Tree};
 use itoa::Buffer;
@@ -37,7 +38,7 @@ fn push_numbers(text: &mut Vec<u8>, numbers: &[u32]) -> Result<(), AllocError>
 
 /// Appends a path: its steps, each behind a slash, or a slash alone.
 fn push_path(text: &mut Vec<u8>, path: &Path) -> Result<(), AllocError>
-    ensures { OnOk result (text.new.items ≡ text.old.items ++ path_word (steps_of path.now)) }
+    ensures { OnOk result (text.new.items ≡ text.old.items ++ path_text (steps_of path.now)) }
 {
     match path.depth {
         0 => Ok(text.push(b'/')?),

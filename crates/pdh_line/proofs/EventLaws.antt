@@ -3,7 +3,8 @@ use Rattle.std.proofs.Common.{◌≡◌, ℕ, zero, suc, ◌+◌, ◌*◌, ◌<�
 use Rattle.std.proofs.lemmas.Bool.{leb-false, cases_Bool}
 use Rattle.pdh_shape.specs.Frame.{FrameShape, IsFrame}
 use Rattle.pdh_shape.specs.Tributary.{reads_from, HasTributaries}
-use Rattle.pdh_line.specs.Sending.{store_size, arrives_at, sends_more, came_before, read_before}
+use Rattle.pdh_shape.specs.OwnNumbers.{store_size}
+use Rattle.pdh_line.specs.Sending.{arrives_at, sends_more, came_before, read_before}
 use Rattle.pdh_line.specs.Events.{overflows, underflows}
 use Rattle.pdh_line.proofs.SendingLaws.{sent-zero, came_before-first, came_before-suc, came_before-next, came_before_grows, read_before-start, read_before-suc, read_before-next}
 

@@ -10,7 +10,9 @@ use Rattle.pdh_shape.specs.declared.role.Role.TheVariants.{Align, Service, Contr
 use Rattle.pdh_shape.specs.Frame.{FrameShape, IsFrame, slots}
 use Rattle.pdh_shape.specs.Tributary.{reads_from, is_just, HasTributaries, reads_below, ReadsEvenly}
 use Rattle.pdh_shape.specs.laws.Ranges.{count-range_grows}
-use Rattle.pdh_line.specs.Sending.{lead, threshold, arrived, carried, sent, sends_more, came_before, read_before, fill_before, fill_arrived}
+use Rattle.pdh_line.specs.Progress.{arrived}
+use Rattle.pdh_shape.specs.OwnNumbers.{lead, threshold}
+use Rattle.pdh_line.specs.Sending.{carried, sent, sends_more, came_before, read_before, fill_before, fill_arrived}
 use Rattle.pdh_line.specs.Tolerance.{arrived_over, IsWithin}
 use Rattle.pdh_line.proofs.Ranges.{range_append}
 use Rattle.pdh_line.proofs.SendingLaws.{HasStores, arrived-zero, arrived-suc, sent-zero, sent-suc, sends_more-is, came_before-start, came_before-next, came_before_grows, read_before-start, read_before-next}

@@ -1,4 +1,6 @@
 pub mod Ranges
+pub mod LeafNumbers
+pub mod Parts
 pub mod LeastLaws
 pub mod FrameLaws
 pub mod TrackingLaws

@@ -9,7 +9,9 @@ use Rattle.std.proofs.lemmas.List.Sums.{sum_by-cons, sum_by-append}
 use Rattle.std.proofs.Math.Dec.{eqb-suc-zero}
 use Rattle.pdh_shape.specs.Frame.{FrameShape, IsFrame}
 use Rattle.pdh_shape.specs.Tributary.{reads_from, HasTributaries, reads_below}
-use Rattle.pdh_line.specs.Sending.{lead, threshold, arrived, arrived_in, arrives_at, carried, sent, sends_more, came_before, read_before, taken, entered}
+use Rattle.pdh_line.specs.Progress.{arrived, entered_by, short_by}
+use Rattle.pdh_shape.specs.OwnNumbers.{lead, threshold, allowance}
+use Rattle.pdh_line.specs.Sending.{arrived_in, arrives_at, carried, sent, sends_more, came_before, read_before, shape_numbers, taken, given, entered}
 use Rattle.pdh_line.proofs.Ranges.{range_push, count-range_push}
 pub use Rattle.pdh_line.specs.Sending.{HasStores}
 
@@ -174,3 +176,38 @@ taken-frames s counts (suc n) frame =
     not_zero : (n : ℕ) → 0 < n → eqb n 0 ≡ false
     not_zero zero h = absurd (omega arith)
     not_zero (suc n) h = eqb-suc-zero n
+
+-- a node with stores has taken what came into them,
+pub given-stores : (s : FrameShape) (j : ℕ) (counts : ℕ → ℕ) (x : ℕ) → HasStores s → given s j counts x ≡ taken s counts x
+given-stores s j counts x stores = rw stores refl
+
+-- one without stores what its whole frames carry and what its slots have read of the next one,
+pub given-locked : (s : FrameShape) (j : ℕ) (counts : ℕ → ℕ) (x : ℕ) → eqb s.copies 0 ≡ true
+    → given s j counts x ≡ x / s.len * s.low + reads_below s j false (x % s.len)
+given-locked s j counts x locked = rw locked refl
+
+-- which is all that it has read
+pub sent-locked : (s : FrameShape) (counts : ℕ → ℕ) (n : ℕ) → eqb s.copies 0 ≡ true → sent s counts n ≡ n * s.low
+sent-locked s counts zero locked = sent-zero s counts ∙ omega arith
+sent-locked s counts (suc n) locked =
+    sent-suc s counts n ∙ ap (λ more. sent s counts n + carried s more) (sends_more-locked s counts n locked) ∙ ap (λ k. k + s.low) (sent-locked s counts n locked) ∙ omega arith
+
+pub given-read : (s : FrameShape) (j : ℕ) (counts : ℕ → ℕ) (x : ℕ) → eqb s.copies 0 ≡ true → given s j counts x ≡ read_before s j counts (x / s.len) (x % s.len)
+given-read s j counts x locked =
+    given-locked s j counts x locked
+    ∙ sym (ap (λ more. sent s counts (x / s.len) + reads_below s j more (x % s.len)) (sends_more-locked s counts (x / s.len) locked)
+    ∙ ap (λ k. k + reads_below s j false (x % s.len)) (sent-locked s counts (x / s.len) locked))
+
+-- what frames enter of a tributary, with stores and without
+pub entered-stores : (s : FrameShape) (counts : ℕ → ℕ) (n : ℕ) → HasStores s → entered_by (shape_numbers s) counts n ≡ entered counts n
+entered-stores s counts n stores = rw stores refl
+
+pub entered-locked : (s : FrameShape) (counts : ℕ → ℕ) (n : ℕ) → eqb s.copies 0 ≡ true → entered_by (shape_numbers s) counts n ≡ n * s.low
+entered-locked s counts n locked = rw locked refl
+
+-- and by how much a node keeps it short
+pub short-stores : (s : FrameShape) (n : ℕ) → HasStores s → short_by (shape_numbers s) n ≡ lead + allowance + n * suc s.low
+short-stores s n stores = rw stores refl
+
+pub short-locked : (s : FrameShape) (n : ℕ) → eqb s.copies 0 ≡ true → short_by (shape_numbers s) n ≡ n * suc s.low
+short-locked s n locked = rw locked (omega arith)

@@ -5,7 +5,8 @@ use Rattle.std.proofs.lemmas.Bool.{lt-leb}
 use Rattle.std.proofs.lemmas.List.Sums.{sum_by-cons}
 use Rattle.pdh_shape.specs.Frame.{FrameShape, IsFrame}
 use Rattle.pdh_shape.specs.Tributary.{reads_from, HasTributaries, ReadsEvenly}
-use Rattle.pdh_line.specs.Sending.{store_size, arrives_at, sends_more, came_before, read_before}
+use Rattle.pdh_shape.specs.OwnNumbers.{store_size}
+use Rattle.pdh_line.specs.Sending.{arrives_at, sends_more, came_before, read_before}
 use Rattle.pdh_line.specs.Events.{overflows, underflows}
 use Rattle.pdh_line.specs.Tolerance.{arrived_over, IsWithin}
 use Rattle.pdh_line.proofs.SendingLaws.{HasStores, came_before_grows}

@@ -3,7 +3,8 @@ use Rattle.std.specs.Prelude.{◌≡◌, Bool, true, false, List, ◌∷◌, ◌
 use Rattle.pdh_shape.specs.Frame.{idle}
 use Rattle.pdh_shape.specs.Sets.{e2, e2_signal, set_role}
 use Rattle.pdh_shape.proofs.Worked.{zeros_frame}
-use Rattle.pdh_line.specs.Sending.{Source, arrived, sent, odd_before, line_bit, front}
+use Rattle.pdh_line.specs.Sending.{Source, sent, odd_before, line_bit, front}
+use Rattle.pdh_line.specs.Progress.{arrived}
 
 -- four tributaries of zeros, with 205 bits of each in each frame
 unfoldable pub zeros_source : Source

@@ -2,7 +2,8 @@
 use Rattle.std.specs.Prelude.{◌≡◌, ◌<◌, ℕ, suc, ◌+◌, ◌*◌, Bool, false, nat_le, ◌&&◌, if◌then◌else◌, List, [], ◌∷◌}
 use Rattle.pdh_shape.specs.Frame.{FrameShape}
 use Rattle.pdh_shape.specs.Tributary.{reads_from}
-use Rattle.pdh_line.specs.Sending.{store_size, arrives_at, sends_more, came_before, read_before}
+use Rattle.pdh_shape.specs.OwnNumbers.{store_size}
+use Rattle.pdh_line.specs.Sending.{arrives_at, sends_more, came_before, read_before}
 
 pub data Kind : Type 0 where
   Overflow Underflow : Kind

@@ -1,6 +1,8 @@
 pub mod Least
 pub mod Tracking
 pub mod Receiving
+pub mod Progress
+pub mod Nodes
 pub mod Sending
 pub mod Events
 pub mod Tolerance

@@ -1,39 +1,36 @@
 -- What a multiplexer with elastic stores sends: arrivals, positive justification, and every bit of its line.
 -- Positive justification is that of ITU-T G.742, 5; the lead, the size of a store and the even spread of a frame's
 -- arrivals are this project's own.
-use Rattle.std.specs.Prelude.{◌≡◌, ℕ, zero, suc, ◌+◌, ◌-◌, ◌*◌, ◌/◌, ◌%◌, Bool, true, false, not, nat_lt, ◌==◌, ◌||◌, if◌then◌else◌, List, [], map, sum_by, count_by}
+use Rattle.std.specs.Prelude.{◌≡◌, ℕ, zero, suc, ◌+◌, ◌-◌, ◌/◌, ◌%◌, Bool, true, false, not, nat_lt, ◌==◌, ◌||◌, if◌then◌else◌, List, map, count_by}
 use Rattle.std.specs.List.{range_with_len}
 use Rattle.pdh_shape.specs.declared.role.Role.{Role}
 use Rattle.pdh_shape.specs.declared.role.Role.TheVariants.{Align, Service, Control, Just, Info}
 use Rattle.pdh_shape.specs.declared.role.Service.{Service as Say}
 use Rattle.pdh_shape.specs.Frame.{FrameShape, slots}
 use Rattle.pdh_shape.specs.Tributary.{reads_below, turned}
-
--- how many bits of each tributary are taken into its store before slot 0 of frame 0
-abbrev pub lead : ℕ
-lead = 24
-
--- the fill at a frame's start from which the frame carries an additional bit
-abbrev pub threshold : ℕ
-threshold = lead
-
--- how many bits a store holds at most
-abbrev pub store_size : ℕ
-store_size = 48
+use Rattle.pdh_shape.specs.OwnNumbers.{lead, threshold}
+use Rattle.pdh_line.specs.Progress.{FrameNumbers, arrived, arrived_by, came_by, begun_by, taken_by}
+use Rattle.pdh_line.specs.Progress.Stores.{Elastic, Locked}
 
 -- the nodes of a shape have stores, except where it has no control bits
 abbrev pub HasStores : FrameShape → Type 0
 HasStores s = (s.copies == 0) ≡ false
 
--- ---- one tributary, by how many of its bits arrive in each frame
+-- the numbers of a shape's frame; without stores a tributary is taken as its slots read it, in frames that carry no
+-- additional bit
+abbrev pub shape_numbers : FrameShape → FrameNumbers
+shape_numbers s = record {
+  len = s.len;
+  tribs = s.tribs;
+  low = s.low;
+  stores = (if s.copies == 0 then Locked (λ j t. reads_below s j false t) else Elastic);
+}
 
--- how many bits arrive in the first n frames
-unfoldable pub arrived : (ℕ → ℕ) → ℕ → ℕ
-arrived counts n = sum_by counts (range_with_len 0 n)
+-- ---- one tributary, by how many of its bits arrive in each frame
 
 -- how many of a frame's bits have arrived before slot t: they are spread evenly over the frame
 abbrev pub arrived_in : FrameShape → ℕ → ℕ → ℕ
-arrived_in s count t = t * count / s.len
+arrived_in s count t = arrived_by s.len count t
 
 -- a bit arrives in slot t of a frame with this count
 abbrev pub arrives_at : FrameShape → ℕ → ℕ → Bool
@@ -59,7 +56,7 @@ sends_more s counts n = not (justifies s (lead + arrived counts n) (sent s count
 
 -- how many bits came into the store before slot t of frame n, the lead among them
 abbrev pub came_before : FrameShape → (ℕ → ℕ) → ℕ → ℕ → ℕ
-came_before s counts n t = lead + arrived counts n + arrived_in s (counts n) t
+came_before s counts n t = came_by s.len counts n t
 
 -- how many bits of tributary j were read from its store before slot t of frame n
 abbrev pub read_before : FrameShape → ℕ → (ℕ → ℕ) → ℕ → ℕ → ℕ
@@ -121,11 +118,15 @@ front line n = map line (range_with_len 0 n)
 
 -- how many frames it has begun
 abbrev pub begun : FrameShape → ℕ → ℕ
-begun s x = (if x % s.len == 0 then x / s.len else suc (x / s.len))
+begun s x = begun_by s.len x
 
--- how many bits of a tributary it has taken: none before its first bit
+-- how many bits of a tributary have come into its store: none before the node's first bit
 abbrev pub taken : FrameShape → (ℕ → ℕ) → ℕ → ℕ
 taken s counts x = (if x == 0 then 0 else came_before s counts (x / s.len) (x % s.len))
+
+-- how many bits of tributary j a node has taken, with stores or without
+abbrev pub given : FrameShape → ℕ → (ℕ → ℕ) → ℕ → ℕ
+given s j counts x = taken_by (shape_numbers s) j counts x
 
 -- how many bits of a tributary the begun frames take by their ends: none where no frame is begun
 abbrev pub entered : (ℕ → ℕ) → ℕ → ℕ

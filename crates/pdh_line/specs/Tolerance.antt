@@ -4,10 +4,7 @@
 use Rattle.std.specs.Prelude.{◌≤◌, ℕ, suc, ◌+◌, ◌*◌, sum_by}
 use Rattle.std.specs.List.{range_with_len}
 use Rattle.pdh_shape.specs.Frame.{FrameShape}
-
--- by how many bits the arrivals of a run may pass what its frames carry at least and at most
-abbrev pub allowance : ℕ
-allowance = 8
+use Rattle.pdh_shape.specs.OwnNumbers.{allowance}
 
 -- how many bits arrive in a run of so many frames, from this first frame on
 abbrev pub arrived_over : (ℕ → ℕ) → ℕ → ℕ → ℕ

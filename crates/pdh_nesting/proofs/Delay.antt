@@ -1,18 +1,21 @@
 -- How far behind arrival a leaf's receiver is at most, within the tolerance.
 use Rattle.std.proofs.Common.{◌≡◌, ℕ, zero, suc, ◌+◌, ◌*◌, ◌/◌, ◌%◌, ◌<◌, ◌≤◌, true, false, cond, eqb, List, [], ◌∷◌, sym, ap, ◌∙◌, subst, inl, inr, arith}
-use Rattle.std.proofs.Math.Nat.{lt-div-mul-add}
-use Rattle.std.proofs.lemmas.Bool.{le-ltb, cases_lt}
+use Rattle.std.proofs.Math.Nat.{lt-div-mul-add, mul-le-mul_right}
+use Rattle.std.proofs.lemmas.Bool.{le-ltb, cases_lt, cases_Bool}
 use Rattle.std.proofs.lemmas.Nat.{div_below, div-mul-add}
 use Rattle.pdh_shape.specs.Frame.{FrameShape, IsFrame}
-use Rattle.pdh_line.specs.Sending.{lead, arrived, carried, sent, sends_more, begun, taken, entered, frames_found, given_back}
+use Rattle.pdh_line.specs.Progress.{arrived, entered_by, short_by}
+use Rattle.pdh_shape.specs.OwnNumbers.{lead}
+use Rattle.pdh_line.specs.Sending.{HasStores, carried, sent, sends_more, begun, given, entered, frames_found, given_back, shape_numbers}
 use Rattle.pdh_line.specs.Tolerance.{IsWithin}
-use Rattle.pdh_line.proofs.SendingLaws.{HasStores, sent-suc}
+use Rattle.pdh_line.proofs.SendingLaws.{sent-suc, sent-locked, entered-stores, entered-locked, short-stores, short-locked}
+use Rattle.pdh_line.specs.Nodes.{child, Counts, delay_below, entered_at}
 use Rattle.pdh_line.proofs.FillBounds.{fill_at_start-most}
-use Rattle.pdh_nesting.specs.Chains.{width, child, top_len, AreFrames, HaveStores}
-use Rattle.pdh_nesting.specs.Sending.{Counts, entered_below, AllWithin, short_by, delay_below, delay}
+use Rattle.pdh_nesting.specs.Chains.{width, top_len, AreFrames, numbers_of}
+use Rattle.pdh_nesting.specs.Sending.{entered_below, AllWithin, delay}
 use Rattle.pdh_nesting.specs.Receiving.{back_below}
-use Rattle.pdh_nesting.proofs.Nodes.{begun-frames, taken-entered, sent-grows}
-use Rattle.pdh_nesting.proofs.RoundTrip.{leaf-tributary, leaf-below, div-one}
+use Rattle.pdh_nesting.proofs.Nodes.{begun-frames, given-entered_by, sent-grows}
+use Rattle.pdh_line.proofs.LeafNumbers.{leaf-tributary, leaf-below, div-one}
 
 -- ---- one node
 
@@ -42,17 +45,25 @@ entered-most counts n = most (eqb n 0)
     most false = omega arith
 
 -- a node that has begun at most so many frames more than are delivered keeps a tributary within the tolerance short by no
--- more than the lead, the allowance and what these frames carry at most
-node_short : (s : FrameShape) (counts : ℕ → ℕ) (begins found held : ℕ) → HasStores s → IsWithin s counts begins → begins ≤ found + held
-    → entered counts begins ≤ sent s counts found + short_by s held
-node_short s counts begins found held stores within h =
-    omega (
-      arith,
-      entered-most counts begins,
-      fill_at_start-most s counts begins begins stores within (omega arith),
-      sent-grows s counts begins (found + held) h,
-      sent-more s counts found held,
-    )
+-- more than what these frames carry at most, and with stores the lead and the allowance
+node_short : (s : FrameShape) (counts : ℕ → ℕ) (begins found held : ℕ) → (HasStores s → IsWithin s counts begins) → begins ≤ found + held
+    → entered_by (shape_numbers s) counts begins ≤ sent s counts found + short_by (shape_numbers s) held
+node_short s counts begins found held within h =
+    elim (cases_Bool (eqb s.copies 0)) [
+      | inl locked ↦
+          let most : begins * s.low ≤ (found + held) * s.low = mul-le-mul_right s.low h in
+          omega (arith, most, entered-locked s counts begins locked, short-locked s held locked, sent-locked s counts found locked)
+      | inr stores ↦
+          omega (
+            arith,
+            entered-stores s counts begins stores,
+            short-stores s held stores,
+            entered-most counts begins,
+            fill_at_start-most s counts begins begins stores (within stores) (omega arith),
+            sent-grows s counts begins (found + held) h,
+            sent-more s counts found held,
+          )
+    ]
 
 begun-most : (s : FrameShape) (x : ℕ) → begun s x ≤ suc (x / s.len)
 begun-most s x = most (eqb (x % s.len) 0)
@@ -80,34 +91,34 @@ frames_short s x y b frame h =
 
 -- The node at a path has made x bits, of which y are received, and has begun at most so many frames more than are
 -- delivered.
-chain_short : (s : FrameShape) (below : List FrameShape) (counts : Counts) (path : List ℕ) (x y held k : ℕ) → AreFrames (s ∷ below) → HaveStores (s ∷ below)
+chain_short : (s : FrameShape) (below : List FrameShape) (counts : Counts) (path : List ℕ) (x y held k : ℕ) → AreFrames (s ∷ below)
     → AllWithin (s ∷ below) counts path x → k < width (s ∷ below) → begun s x ≤ frames_found (y / s.len) + held
-    → entered_below (s ∷ below) counts path x k ≤ back_below (s ∷ below) counts path y k + delay_below (s ∷ below) held
-unfolding entered_below back_below AllWithin delay_below
-chain_short s [] counts path x y held k are stores within h behind =
+    → entered_below (s ∷ below) counts path x k ≤ back_below (s ∷ below) counts path y k + delay_below (numbers_of (s ∷ below)) held
+unfolding entered_at back_below AllWithin delay_below
+chain_short s [] counts path x y held k are within h behind =
     let same : k / 1 ≡ k = div-one k in
     let known : k < s.tribs = omega arith in
-    subst (λ j. entered (counts path k) (begun s x) ≤ given_back s (counts path j) (y / s.len) + short_by s held) (sym same)
-    (node_short s (counts path k) (begun s x) (frames_found (y / s.len)) held stores.0 (within k known).0 behind)
-chain_short s (t ∷ below) counts path x y held k are stores within h behind =
+    subst (λ j. entered_by (shape_numbers s) (counts path k) (begun s x) ≤ given_back s (counts path j) (y / s.len) + short_by (shape_numbers s) held) (sym same)
+    (node_short s (counts path k) (begun s x) (frames_found (y / s.len)) held (within k known).0 behind)
+chain_short s (t ∷ below) counts path x y held k are within h behind =
     let w : ℕ = width (t ∷ below) in
     let j : ℕ = k / w in
     let known : j < s.tribs = leaf-tributary s.tribs w k h in
-    let x' : ℕ = taken s (counts path j) x in
+    let x' : ℕ = given s j (counts path j) x in
     let y' : ℕ = given_back s (counts path j) (y / s.len) in
-    let entered_all = node_short s (counts path j) (begun s x) (frames_found (y / s.len)) held stores.0 (within j known).0 behind in
-    let short : x' ≤ y' + short_by s held = omega (arith, taken-entered s (counts path j) x are.0) in
-    chain_short t below counts (child path j) x' y' (short_by s held / t.len + 4) (k % w) are.2 stores.2 (within j known).1 (leaf-below s.tribs w k h)
-    (frames_short t x' y' (short_by s held) are.2.0 short)
+    let entered_all = node_short s (counts path j) (begun s x) (frames_found (y / s.len)) held (within j known).0 behind in
+    let short : x' ≤ y' + short_by (shape_numbers s) held = omega (arith, given-entered_by s j (counts path j) x are.0 are.1) in
+    chain_short t below counts (child path j) x' y' (short_by (shape_numbers s) held / t.len + 4) (k % w) are.2 (within j known).1 (leaf-below s.tribs w k h)
+    (frames_short t x' y' (short_by (shape_numbers s) held) are.2.0 short)
 
 -- Of a chain within the tolerance over so many frames of its top, a receiver of these frames has all bits that each leaf
 -- entered but for the delay.
-pub delayed : (chain : List FrameShape) (counts : Counts) (n k : ℕ) → AreFrames chain → HaveStores chain → AllWithin chain counts [] (n * top_len chain) → k < width chain
+pub delayed : (chain : List FrameShape) (counts : Counts) (n k : ℕ) → AreFrames chain → AllWithin chain counts [] (n * top_len chain) → k < width chain
     → entered_below chain counts [] (n * top_len chain) k ≤ back_below chain counts [] (n * top_len chain) k + delay chain
-unfolding entered_below back_below
-delayed [] counts n k are stores within h = omega arith
-delayed (s ∷ below) counts n k are stores within h =
+unfolding entered_at back_below
+delayed [] counts n k are within h = omega arith
+delayed (s ∷ below) counts n k are within h =
     let e : n * s.len ≡ n * s.len + 0 = omega arith in
     let whole : n * s.len / s.len ≡ n = ap (λ x. x / s.len) e ∙ div-mul-add n s.len 0 are.0.some_slots in
     let behind : begun s (n * s.len) ≤ frames_found (n * s.len / s.len) + 2 = omega (arith, begun-frames s n are.0, found-most (n * s.len / s.len)) in
-    chain_short s below counts [] (n * s.len) (n * s.len) 2 k are stores within h behind
+    chain_short s below counts [] (n * s.len) (n * s.len) 2 k are within h behind

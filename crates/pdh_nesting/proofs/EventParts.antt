@@ -4,11 +4,13 @@ use Rattle.std.specs.Prelude.{flat_map, slice_get}
 use Rattle.std.specs.List.{range_with_len}
 use Rattle.std.proofs.lemmas.Bool.{eqb-true, cases_eq}
 use Rattle.pdh_shape.specs.Frame.{FrameShape}
-use Rattle.pdh_line.specs.Sending.{lead, arrives_at, came_before}
+use Rattle.pdh_shape.specs.Tributary.{reads_from, reads_below}
+use Rattle.pdh_shape.specs.OwnNumbers.{lead}
+use Rattle.pdh_line.specs.Sending.{HasStores, arrives_at, came_before}
+use Rattle.pdh_line.specs.Nodes.{child, Counts}
 use Rattle.pdh_line.specs.Events.{Event, overflows, underflows, overflow_at, underflow_at}
-use Rattle.pdh_nesting.specs.Chains.{child, top_len}
-use Rattle.pdh_nesting.specs.Sending.{Counts}
-use Rattle.pdh_nesting.specs.Events.{events_in, events_below, first_event}
+use Rattle.pdh_nesting.specs.Chains.{top_len}
+use Rattle.pdh_nesting.specs.Events.{events_with_stores, events_without_stores, events_in, events_below, first_event}
 
 -- ---- lists that are joined end to end
 
@@ -33,6 +35,10 @@ each_of_range f a (suc n) k none h h' =
 
 -- ---- the parts
 
+-- the events in making bit k of tributary j
+abbrev made_of : List FrameShape → Counts → List ℕ → ℕ → ℕ → List Event
+made_of below counts path j k = events_in below counts (child path j) k
+
 -- the events in taking the leads of all tributaries
 abbrev pub leads_of : FrameShape → List FrameShape → Counts → List ℕ → List Event
 leads_of s below counts path = flat_map (λ j. flat_map (events_in below counts (child path j)) (range_with_len 0 lead)) (range_with_len 0 s.tribs)
@@ -48,11 +54,23 @@ arrivals_of s below counts path n t = flat_map (λ j. arrival_of s below counts 
 abbrev pub reads_of : FrameShape → Counts → List ℕ → ℕ → ℕ → List Event
 reads_of s counts path n t = flat_map (λ j. underflow_at s path j (counts path j) n t) (range_with_len 0 s.tribs)
 
-pub events_in-is : (s : FrameShape) (below : List FrameShape) (counts : Counts) (path : List ℕ) (x : ℕ)
+-- those of a node with stores
+pub events_in-is : (s : FrameShape) (below : List FrameShape) (counts : Counts) (path : List ℕ) (x : ℕ) → HasStores s
     → events_in (s ∷ below) counts path x ≡ cond (eqb x 0) (leads_of s below counts path) [] ++ (arrivals_of s below counts path (x / s.len) (x % s.len) ++ reads_of s counts path (x / s.len) (x % s.len))
 unfolding events_in
-events_in-is s below counts path x =
-    append_assoc (cond (eqb x 0) (leads_of s below counts path) []) (arrivals_of s below counts path (x / s.len) (x % s.len)) (reads_of s counts path (x / s.len) (x % s.len))
+events_in-is s below counts path x stores =
+    ap (λ locked. cond locked (events_without_stores s (made_of below counts path) x) (events_with_stores s counts path (made_of below counts path) x)) stores
+    ∙ append_assoc (cond (eqb x 0) (leads_of s below counts path) []) (arrivals_of s below counts path (x / s.len) (x % s.len)) (reads_of s counts path (x / s.len) (x % s.len))
+
+-- the events in making the bit of a tributary that a slot reads, in a node without stores
+abbrev pub read_of : FrameShape → List FrameShape → Counts → List ℕ → ℕ → ℕ → ℕ → List Event
+read_of s below counts path n t j = cond (reads_from j false (s.role t)) (events_in below counts (child path j) (n * s.low + reads_below s j false t)) []
+
+pub events_in-locked : (s : FrameShape) (below : List FrameShape) (counts : Counts) (path : List ℕ) (x : ℕ) → eqb s.copies 0 ≡ true
+    → events_in (s ∷ below) counts path x ≡ flat_map (read_of s below counts path (x / s.len) (x % s.len)) (range_with_len 0 s.tribs)
+unfolding events_in
+events_in-locked s below counts path x locked =
+    ap (λ locked. cond locked (events_without_stores s (made_of below counts path) x) (events_with_stores s counts path (made_of below counts path) x)) locked
 
 -- ---- a bit without events
 
@@ -64,11 +82,12 @@ none_if : {X : Type 0} (test : Bool) (xs : List X) → (test ≡ true → xs ≡
 none_if true xs h = h refl
 none_if false xs h = refl
 
-module _ (s : FrameShape) (below : List FrameShape) (counts : Counts) (path : List ℕ) where
+-- a node with stores
+module _ (s : FrameShape) (below : List FrameShape) (counts : Counts) (path : List ℕ) (stores : HasStores s) where
   -- no tributary has an event in making a bit of its lead,
   pub lead_none : (j k : ℕ) → events_in (s ∷ below) counts path 0 ≡ [] → j < s.tribs → k < lead → events_in below counts (child path j) k ≡ []
   lead_none j k none known h =
-      let parts = none_of_both (leads_of s below counts path) _ (sym (events_in-is s below counts path 0) ∙ none) in
+      let parts = none_of_both (leads_of s below counts path) _ (sym (events_in-is s below counts path 0 stores) ∙ none) in
       each_of_range (events_in below counts (child path j)) 0 lead k
       (each_of_range (λ j. flat_map (events_in below counts (child path j)) (range_with_len 0 lead)) 0 s.tribs j parts.0 (omega arith) (omega arith))
       (omega arith) (omega arith)
@@ -76,7 +95,7 @@ module _ (s : FrameShape) (below : List FrameShape) (counts : Counts) (path : Li
   slot_none : (x : ℕ) → events_in (s ∷ below) counts path x ≡ []
       → (arrivals_of s below counts path (x / s.len) (x % s.len) ≡ []) × (reads_of s counts path (x / s.len) (x % s.len) ≡ [])
   slot_none x none =
-      none_of_both _ _ (none_of_both (cond (eqb x 0) (leads_of s below counts path) []) _ (sym (events_in-is s below counts path x) ∙ none)).1
+      none_of_both _ _ (none_of_both (cond (eqb x 0) (leads_of s below counts path) []) _ (sym (events_in-is s below counts path x stores) ∙ none)).1
 
   -- none has one in making the bit that arrives,
   pub arrival_none : (j x : ℕ) → events_in (s ∷ below) counts path x ≡ [] → j < s.tribs → arrives_at s (counts path j (x / s.len)) (x % s.len) ≡ true
@@ -109,8 +128,25 @@ module _ (s : FrameShape) (below : List FrameShape) (counts : Counts) (path : Li
       let taken : cond (eqb x 0) (leads_of s below counts path) [] ≡ [] =
       none_if (eqb x 0) _ (λ first. none_of_range (λ j. flat_map (events_in below counts (child path j)) (range_with_len 0 lead)) 0 s.tribs
       (λ j l h. none_of_range (events_in below counts (child path j)) 0 lead (λ k l' h'. leads j k (eqb-true x 0 first) (omega arith) (omega arith)))) in
-      events_in-is s below counts path x ∙ ap (λ es. es ++ (arrivals_of s below counts path n t ++ reads_of s counts path n t)) taken
+      events_in-is s below counts path x stores ∙ ap (λ es. es ++ (arrivals_of s below counts path n t ++ reads_of s counts path n t)) taken
       ∙ ap (λ es. es ++ reads_of s counts path n t) made ∙ read
+
+-- a node without stores
+module _ (s : FrameShape) (below : List FrameShape) (counts : Counts) (path : List ℕ) (locked : eqb s.copies 0 ≡ true) where
+  -- no tributary has an event in making the bit that a slot reads,
+  pub read_none : (j x : ℕ) → events_in (s ∷ below) counts path x ≡ [] → j < s.tribs → reads_from j false (s.role (x % s.len)) ≡ true
+      → events_in below counts (child path j) (x / s.len * s.low + reads_below s j false (x % s.len)) ≡ []
+  read_none j x none known reads =
+      ap (λ b. cond b (events_in below counts (child path j) (x / s.len * s.low + reads_below s j false (x % s.len))) []) (sym reads)
+      ∙ each_of_range (read_of s below counts path (x / s.len) (x % s.len)) 0 s.tribs j (sym (events_in-locked s below counts path x locked) ∙ none) (omega arith) (omega arith)
+
+  -- and a bit has none where no such bit has
+  pub events_in-none_read : (x : ℕ)
+      → ((j : ℕ) → j < s.tribs → reads_from j false (s.role (x % s.len)) ≡ true → events_in below counts (child path j) (x / s.len * s.low + reads_below s j false (x % s.len)) ≡ [])
+      → events_in (s ∷ below) counts path x ≡ []
+  events_in-none_read x none =
+      events_in-locked s below counts path x locked
+      ∙ none_of_range (read_of s below counts path (x / s.len) (x % s.len)) 0 s.tribs (λ j l h. none_if (reads_from j false (s.role (x % s.len))) _ (none j (omega arith)))
 
 -- ---- a run without events
 

@@ -1,21 +1,26 @@
 -- What comes back was given: where no store underflows, no more of a leaf's bits come back than the leaf has given, and it
 -- gives no more than it enters. So what a leaf receives is a prefix of its list.
-use Rattle.std.proofs.Common.{◌≡◌, ℕ, ◌+◌, ◌*◌, ◌/◌, ◌%◌, ◌<◌, ◌≤◌, Bool, false, List, [], ◌∷◌, length, take, slice_index_or, refl, sym, ap, ◌∙◌, subst, inl, inr, arith}
+use Rattle.std.proofs.Common.{◌≡◌, ℕ, ◌+◌, ◌*◌, ◌/◌, ◌%◌, ◌<◌, ◌≤◌, Bool, false, eqb, List, [], ◌∷◌, length, take, slice_index_or, refl, sym, ap, ◌∙◌, subst, inl, inr, arith}
 use Rattle.std.proofs.lemmas.List.{get_or-take, length-take-le}
 use Rattle.std.proofs.lemmas.List.FromFn.{fill_by_all}
+use Rattle.std.proofs.lemmas.Bool.{cases_Bool}
 use Rattle.std.proofs.lemmas.Nat.{div-mul-add, mod-mul-add}
 use Rattle.std.proofs.Math.Nat.{mul-le-mul_right}
 use Rattle.pdh_shape.specs.declared.role.Service.{Service as Say}
 use Rattle.pdh_shape.specs.Frame.{FrameShape}
-use Rattle.pdh_line.specs.Sending.{begun, taken, entered, front, given_back}
+use Rattle.pdh_line.specs.Sending.{HasStores, shape_numbers, begun, given, front, given_back}
 use Rattle.pdh_line.specs.Events.{underflows}
-use Rattle.pdh_nesting.specs.Chains.{width, child, top_len, AreFrames}
-use Rattle.pdh_nesting.specs.Sending.{Counts, chain_line, line_with, content_of, given_below, entered_below, ArriveSingly}
+use Rattle.pdh_line.specs.Progress.{entered_by}
+use Rattle.pdh_line.proofs.SendingLaws.{given-stores}
+use Rattle.pdh_nesting.specs.Chains.{width, top_len, AreFrames}
+use Rattle.pdh_line.specs.Nodes.{child, Counts, given_at, entered_at}
+use Rattle.pdh_nesting.specs.Sending.{chain_line, line_with, content_of, given_below, entered_below, ArriveSingly}
 use Rattle.pdh_nesting.specs.Receiving.{far, back_below}
 use Rattle.pdh_nesting.specs.Events.{events_in, events_below, NoneEmpty}
-use Rattle.pdh_nesting.proofs.Nodes.{taken_once, taken-entered, given_back-grows, given_back-taken}
-use Rattle.pdh_nesting.proofs.EventParts.{lead_none, arrival_none, underflow_none, events_below-each}
-use Rattle.pdh_nesting.proofs.RoundTrip.{leaf-tributary, leaf-below, div-one, far_front}
+use Rattle.pdh_nesting.proofs.Nodes.{taken_once, given_once, given-entered_by, given_back-grows, given_back-given}
+use Rattle.pdh_nesting.proofs.EventParts.{lead_none, arrival_none, underflow_none, read_none, events_below-each}
+use Rattle.pdh_line.proofs.LeafNumbers.{leaf-tributary, leaf-below, div-one}
+use Rattle.pdh_nesting.proofs.RoundTrip.{far_front}
 
 -- of a longer line no fewer of a leaf's bits come back
 pub back_below-grows : (chain : List FrameShape) (counts : Counts) (path : List ℕ) (x y k : ℕ) → AreFrames chain → x ≤ y
@@ -31,23 +36,28 @@ back_below-grows (s ∷ below) counts path x y k are h =
 
 -- where no bit before a node's bit x has an event, none of the bits has one that a tributary made for it
 none_taken : (s : FrameShape) (below : List FrameShape) (counts : Counts) (path : List ℕ) (x j i : ℕ) → AreFrames (s ∷ below) → j < s.tribs
-    → ((n : ℕ) → n < begun s x → counts path j n ≤ s.len) → ((y : ℕ) → y < x → events_in (s ∷ below) counts path y ≡ []) → i < taken s (counts path j) x
+    → (HasStores s → (n : ℕ) → n < begun s x → counts path j n ≤ s.len) → ((y : ℕ) → y < x → events_in (s ∷ below) counts path y ≡ []) → i < given s j (counts path j) x
     → events_in below counts (child path j) i ≡ []
 none_taken s below counts path x j i are known single none h =
-    elim (taken_once s (counts path j) x i are.0 single h) [
-      | inl leads ↦ lead_none s below counts path j i (none 0 leads.0) known leads.1
-      | inr arrived ↦
-          let y : ℕ = arrived.0 in
-          subst (λ i. events_in below counts (child path j) i ≡ []) arrived.3 (arrival_none s below counts path j y (none y arrived.1) known arrived.2)
+    elim (cases_Bool (eqb s.copies 0)) [
+      | inl locked ↦
+          let read = given_once s j (counts path j) are.0 are.1 known locked x i h in
+          subst (λ i. events_in below counts (child path j) i ≡ []) read.3 (read_none s below counts path locked j read.0 (none read.0 read.1) known read.2)
+      | inr stores ↦ elim (taken_once s (counts path j) x i are.0 (single stores) (subst (λ n. i < n) (given-stores s j (counts path j) x stores) h)) [
+        | inl leads ↦ lead_none s below counts path stores j i (none 0 leads.0) known leads.1
+        | inr arrived ↦
+            let y : ℕ = arrived.0 in
+            subst (λ i. events_in below counts (child path j) i ≡ []) arrived.3 (arrival_none s below counts path stores j y (none y arrived.1) known arrived.2)
+      ]
     ]
 
 -- and no tributary of the node underflows before its bit x
 none_underflows : (s : FrameShape) (below : List FrameShape) (counts : Counts) (path : List ℕ) (x j : ℕ) → j < s.tribs → ((y : ℕ) → y < x → events_in (s ∷ below) counts path y ≡ [])
-    → (m u : ℕ) → u < s.len → m * s.len + u < x → underflows s j (counts path j) m u ≡ false
-none_underflows s below counts path x j known none m u inside h =
+    → HasStores s → (m u : ℕ) → u < s.len → m * s.len + u < x → underflows s j (counts path j) m u ≡ false
+none_underflows s below counts path x j known none stores m u inside h =
     ap (λ n. underflows s j (counts path j) n u) (sym (div-mul-add m s.len u inside))
     ∙ ap (underflows s j (counts path j) ((m * s.len + u) / s.len)) (sym (mod-mul-add m s.len u inside))
-    ∙ underflow_none s below counts path j (m * s.len + u) (none (m * s.len + u) h) known
+    ∙ underflow_none s below counts path stores j (m * s.len + u) (none (m * s.len + u) h) known
 
 -- Where no bit before a node's bit x has an event, no store at or below it underflows. A slot that brings two bits would
 -- list the events of the first alone, so at most one arrives in a slot.
@@ -57,20 +67,20 @@ unfolding ArriveSingly NoneEmpty
 none-empty [] counts path x are singly none = tt
 none-empty (s ∷ below) counts path x are singly none =
     λ j known. (
-      λ n t inside lt. none_underflows s below counts path x j known none n t inside lt,
-      none-empty below counts (child path j) (taken s (counts path j) x) are.2 (singly j known).1 (λ i lt. none_taken s below counts path x j i are known (singly j known).0 none lt),
+      none_underflows s below counts path x j known none,
+      none-empty below counts (child path j) (given s j (counts path j) x) are.2 (singly j known).1 (λ i lt. none_taken s below counts path x j i are known (singly j known).0 none lt),
     )
 
 -- and where no store underflows, no more of a leaf's bits come back than the leaf has given
 pub back-given : (chain : List FrameShape) (counts : Counts) (path : List ℕ) (x k : ℕ) → AreFrames chain → NoneEmpty chain counts path x → k < width chain
     → back_below chain counts path x k ≤ given_below chain counts path x k
-unfolding back_below given_below NoneEmpty
+unfolding back_below given_at NoneEmpty
 back-given [] counts path x k are full h = omega arith
 back-given (s ∷ below) counts path x k are full h =
     let j : ℕ = k / width below in
     let known : j < s.tribs = leaf-tributary s.tribs (width below) k h in
-    let x' : ℕ = taken s (counts path j) x in
-    let held : given_back s (counts path j) (x / s.len) ≤ x' = given_back-taken s (counts path j) j x are.0 are.1 known (full j known).0 in
+    let x' : ℕ = given s j (counts path j) x in
+    let held : given_back s (counts path j) (x / s.len) ≤ x' = given_back-given s (counts path j) j x are.0 are.1 known (full j known).0 in
     let fewer = back_below-grows below counts (child path j) (given_back s (counts path j) (x / s.len)) x' (k % width below) are.2 held in
     let rest = back-given below counts (child path j) x' (k % width below) are.2 (full j known).1 (leaf-below s.tribs (width below) k h) in
     omega arith
@@ -79,13 +89,13 @@ back-given (s ∷ below) counts path x k are full h =
 
 -- whatever events there are
 pub given-entered : (chain : List FrameShape) (counts : Counts) (path : List ℕ) (x k : ℕ) → AreFrames chain → given_below chain counts path x k ≤ entered_below chain counts path x k
-unfolding given_below entered_below
+unfolding given_at entered_at
 given-entered [] counts path x k are = omega arith
 given-entered (s ∷ []) counts path x k are =
-    subst (λ j. taken s (counts path j) x ≤ entered (counts path k) (begun s x)) (sym (div-one k)) (taken-entered s (counts path k) x are.0)
+    subst (λ j. given s j (counts path j) x ≤ entered_by (shape_numbers s) (counts path k) (begun s x)) (sym (div-one k)) (given-entered_by s k (counts path k) x are.0 are.1)
 given-entered (s ∷ t ∷ below) counts path x k are =
     let j : ℕ = k / width (t ∷ below) in
-    given-entered (t ∷ below) counts (child path j) (taken s (counts path j) x) (k % width (t ∷ below)) are.2
+    given-entered (t ∷ below) counts (child path j) (given s j (counts path j) x) (k % width (t ∷ below)) are.2
 
 -- ---- prefixes of lists
 

@@ -1,10 +1,11 @@
 -- The chains of the known shapes keep what the laws ask of a chain.
-use Rattle.std.proofs.Common.{[], ◌∷◌, refl}
+use Rattle.std.proofs.Common.{[], ◌∷◌}
+use Rattle.pdh_shape.specs.Frame.{FrameShape}
 use Rattle.pdh_shape.specs.Sets.{e2, e3, e4}
 use Rattle.pdh_shape.specs.laws.E2Laws.{e2_is_frame, e2_has_tributaries, e2_reads_evenly}
 use Rattle.pdh_shape.specs.laws.E3Laws.{e3_is_frame, e3_has_tributaries, e3_reads_evenly}
 use Rattle.pdh_shape.specs.laws.E4Laws.{e4_is_frame, e4_has_tributaries, e4_reads_evenly}
-use Rattle.pdh_nesting.specs.Chains.{AreFrames, HaveStores}
+use Rattle.pdh_nesting.specs.Chains.{AreFrames, ReadEvenly}
 
 pub e2_frames : AreFrames (e2 ∷ [])
 e2_frames = (e2_is_frame, e2_has_tributaries, tt)
@@ -21,17 +22,21 @@ e4_e3_frames = (e4_is_frame, e4_has_tributaries, e3_frames)
 pub e4_e3_e2_frames : AreFrames (e4 ∷ e3 ∷ e2 ∷ [])
 e4_e3_e2_frames = (e4_is_frame, e4_has_tributaries, e3_e2_frames)
 
-pub e2_stores : HaveStores (e2 ∷ [])
-e2_stores = (refl, e2_reads_evenly, tt)
+pub e2_even : ReadEvenly (e2 ∷ [])
+e2_even = (λ stores. e2_reads_evenly, tt)
 
-pub e3_stores : HaveStores (e3 ∷ [])
-e3_stores = (refl, e3_reads_evenly, tt)
+pub e3_even : ReadEvenly (e3 ∷ [])
+e3_even = (λ stores. e3_reads_evenly, tt)
 
-pub e3_e2_stores : HaveStores (e3 ∷ e2 ∷ [])
-e3_e2_stores = (refl, e3_reads_evenly, e2_stores)
+pub e3_e2_even : ReadEvenly (e3 ∷ e2 ∷ [])
+e3_e2_even = (λ stores. e3_reads_evenly, e2_even)
 
-pub e4_e3_stores : HaveStores (e4 ∷ e3 ∷ [])
-e4_e3_stores = (refl, e4_reads_evenly, e3_stores)
+pub e4_e3_even : ReadEvenly (e4 ∷ e3 ∷ [])
+e4_e3_even = (λ stores. e4_reads_evenly, e3_even)
 
-pub e4_e3_e2_stores : HaveStores (e4 ∷ e3 ∷ e2 ∷ [])
-e4_e3_e2_stores = (refl, e4_reads_evenly, e3_e2_stores)
+pub e4_e3_e2_even : ReadEvenly (e4 ∷ e3 ∷ e2 ∷ [])
+e4_e3_e2_even = (λ stores. e4_reads_evenly, e3_e2_even)
+
+-- a shape with the slots of E2, and without stores
+abbrev pub locked_e2 : FrameShape
+locked_e2 = record e2 { copies = 0 }

@@ -12,3 +12,4 @@ pub mod Keys
 pub mod KeyedEvents
 pub mod StepOrder
 pub mod Unchanged
+pub mod Scheduled

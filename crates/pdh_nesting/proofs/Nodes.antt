@@ -1,14 +1,18 @@
 -- How far one node has come: what it takes and has begun, bit by bit, and what comes back of it.
 use Rattle.std.proofs.Common.{◌≡◌, ℕ, zero, suc, ◌+◌, ◌*◌, ◌/◌, ◌%◌, ◌<◌, ◌≤◌, true, false, cond, eqb, refl, sym, ap, ◌∙◌, subst, inl, inr, arith, ◌⊎◌}
 use Rattle.std.proofs.Math.Dec.{eqb-suc-zero}
-use Rattle.std.proofs.Math.Nat.{div-mul-le_self}
-use Rattle.std.proofs.lemmas.Bool.{ltb-true, lt-ltb, le-ltb, cases_Bool, cases_lt}
+use Rattle.std.proofs.Math.Nat.{div-mul-le_self, mul-le-mul_right}
+use Rattle.std.proofs.lemmas.Bool.{eqb-true, ne_eqb, ltb-true, lt-ltb, le-ltb, cases_Bool, cases_lt}
 use Rattle.std.proofs.lemmas.Nat.{div-mul-add, mod-mul-add, div-add-mod', mod_below, le-div}
+use Rattle.pdh_shape.specs.declared.role.Role.{Role}
+use Rattle.pdh_shape.specs.declared.role.Role.TheVariants.{Align, Service, Control, Just, Info}
 use Rattle.pdh_shape.specs.Frame.{FrameShape, IsFrame}
-use Rattle.pdh_shape.specs.Tributary.{HasTributaries}
-use Rattle.pdh_line.specs.Sending.{lead, arrived, arrives_at, sent, came_before, begun, taken, entered, frames_found, given_back}
+use Rattle.pdh_shape.specs.Tributary.{reads_from, reads_below, HasTributaries}
+use Rattle.pdh_line.specs.Progress.{arrived, entered_by}
+use Rattle.pdh_shape.specs.OwnNumbers.{lead}
+use Rattle.pdh_line.specs.Sending.{arrives_at, sent, came_before, begun, shape_numbers, taken, given, entered, frames_found, given_back, HasStores}
 use Rattle.pdh_line.specs.Events.{underflows}
-use Rattle.pdh_line.proofs.SendingLaws.{sent-zero, sent-suc, came_before-first, came_before-start, came_before-suc, came_before-next, read_before-start, taken-frames}
+use Rattle.pdh_line.proofs.SendingLaws.{given-stores, given-locked, sent-locked, entered-stores, entered-locked, reads_below-suc, reads_below-all, sent-zero, sent-suc, came_before-first, came_before-start, came_before-suc, came_before-next, read_before-start, taken-frames}
 use Rattle.pdh_line.proofs.SameLines.{taken-grows}
 use Rattle.pdh_line.proofs.EventLaws.{read_before_came}
 
@@ -187,4 +191,144 @@ given_back-taken s counts j x frame has known none =
           let came : sent s counts n ≤ lead + arrived counts n = omega (arith, read, came_before-start s counts n frame, read_before-start s j counts n) in
           rw (le-ltb (x / s.len) 3 enough)
           (omega (arith, came, entered-is counts n (omega arith), taken-frames s counts n frame, taken-grows s counts (n * s.len) x frame upto))
+    ]
+
+-- ---- a node without stores
+
+module _ (s : FrameShape) (j : ℕ) (counts : ℕ → ℕ) (frame : IsFrame s) (has : HasTributaries s) (known : j < s.tribs) (locked : eqb s.copies 0 ≡ true) where
+  -- the bit of the tributary that it reads next before its bit x
+  abbrev next_read : ℕ → ℕ
+  next_read x = x / s.len * s.low + reads_below s j false (x % s.len)
+
+  next_read-suc : (x : ℕ) → next_read (suc x) ≡ next_read x + cond (reads_from j false (s.role (x % s.len))) 1 0
+  next_read-suc x =
+      let more : reads_below s j false (suc (x % s.len)) ≡ reads_below s j false (x % s.len) + cond (reads_from j false (s.role (x % s.len))) 1 0 = reads_below-suc s j false (x % s.len) in
+      elim (cases_lt (suc (x % s.len)) s.len) [
+        | inl inside ↦
+            let next = next_inside s x inside in
+            ap (λ n. n * s.low + reads_below s j false (suc x % s.len)) next.0 ∙ ap (λ t. x / s.len * s.low + reads_below s j false t) next.1 ∙ omega arith
+        | inr outside ↦
+            let below : x % s.len < s.len = mod_below x s.len frame.some_slots in
+            let last : suc (x % s.len) ≡ s.len = omega arith in
+            let next = next_frame s x frame last in
+            let whole : reads_below s j false (suc (x % s.len)) ≡ s.low = ap (reads_below s j false) last ∙ reads_below-all s j false has known in
+            ap (λ n. n * s.low + reads_below s j false (suc x % s.len)) next.0 ∙ ap (λ t. suc (x / s.len) * s.low + reads_below s j false t) next.1 ∙ omega arith
+      ]
+
+  next_read-grows : (x y : ℕ) → x ≤ y → next_read x ≤ next_read y
+  next_read-grows x zero h = let e : x ≡ 0 = omega arith in subst (λ y. next_read x ≤ next_read y) e (omega arith)
+  next_read-grows x (suc y) h =
+      elim (cases_lt y x) [
+        | inl lt ↦ let e : x ≡ suc y = omega arith in subst (λ y. next_read x ≤ next_read y) e (omega arith)
+        | inr ge ↦ omega (arith, next_read-grows x y ge, next_read-suc y)
+      ]
+
+  -- a bit that a slot before its bit x reads is taken by then,
+  pub read_given : (x y : ℕ) → y < x → reads_from j false (s.role (y % s.len)) ≡ true → next_read y < given s j counts x
+  read_given x y h reads =
+      let one : next_read (suc y) ≡ next_read y + 1 = next_read-suc y ∙ ap (λ b. next_read y + cond b 1 0) reads in
+      omega (arith, given-locked s j counts x locked, next_read-grows (suc y) x h)
+
+  -- and each bit that is taken by then was read by one of them
+  pub given_once : (x i : ℕ) → i < given s j counts x → (y : ℕ) × (y < x) × (reads_from j false (s.role (y % s.len)) ≡ true) × (next_read y ≡ i)
+  given_once x i h = read_by x (subst (λ n. i < n) (given-locked s j counts x locked) h)
+    where
+      read_by : (x : ℕ) → i < next_read x → (y : ℕ) × (y < x) × (reads_from j false (s.role (y % s.len)) ≡ true) × (next_read y ≡ i)
+      read_by zero h =
+          let q : 0 / s.len ≡ 0 = omega (arith, div-mul-add 0 s.len 0 frame.some_slots) in
+          let r : 0 % s.len ≡ 0 = omega (arith, mod-mul-add 0 s.len 0 frame.some_slots) in
+          let none : next_read 0 ≡ 0 = ap (λ n. n * s.low + reads_below s j false (0 % s.len)) q ∙ ap (λ t. 0 * s.low + reads_below s j false t) r ∙ omega arith in
+          absurd (omega arith)
+      read_by (suc x) h =
+          elim (cases_lt i (next_read x)) [
+            | inl earlier ↦ let found = read_by x earlier in (found.0, omega (arith, found.1), found.2, found.3)
+            | inr not_earlier ↦ elim (cases_Bool (reads_from j false (s.role (x % s.len)))) [
+              | inl reads ↦
+                  let one : next_read (suc x) ≡ next_read x + 1 = next_read-suc x ∙ ap (λ b. next_read x + cond b 1 0) reads in
+                  (x, omega arith, reads, omega arith)
+              | inr passed ↦
+                  let same : next_read (suc x) ≡ next_read x + 0 = next_read-suc x ∙ ap (λ b. next_read x + cond b 1 0) passed in
+                  absurd (omega arith)
+            ]
+          ]
+
+-- ---- a node of either kind
+
+-- a longer line takes no fewer bits of a tributary
+pub given-grows : (s : FrameShape) (j : ℕ) (counts : ℕ → ℕ) (x y : ℕ) → IsFrame s → HasTributaries s → j < s.tribs → x ≤ y → given s j counts x ≤ given s j counts y
+given-grows s j counts x y frame has known h =
+    elim (cases_Bool (eqb s.copies 0)) [
+      | inl locked ↦ omega (arith, given-locked s j counts x locked, given-locked s j counts y locked, next_read-grows s j counts frame has known locked x y h)
+      | inr stores ↦ omega (arith, given-stores s j counts x stores, given-stores s j counts y stores, taken-grows s counts x y frame h)
+    ]
+
+-- with stores the lead is taken before the first bit,
+pub lead_given : (s : FrameShape) (j : ℕ) (counts : ℕ → ℕ) (x k : ℕ) → IsFrame s → HasStores s → 0 < x → k < lead → k < given s j counts x
+lead_given s j counts x k frame stores some h = omega (arith, given-stores s j counts x stores, lead_taken s counts x k frame some h)
+
+-- and the bit that arrives in making a bit before bit x is taken by then
+pub arrival_given : (s : FrameShape) (j : ℕ) (counts : ℕ → ℕ) (x y : ℕ) → IsFrame s → HasStores s → y < x → arrives_at s (counts (y / s.len)) (y % s.len) ≡ true
+    → came_before s counts (y / s.len) (y % s.len) < given s j counts x
+arrival_given s j counts x y frame stores h arrives = omega (arith, given-stores s j counts x stores, arrival_taken s counts x y frame h arrives)
+
+reads_below-later : (s : FrameShape) (j t u : ℕ) → t ≤ u → reads_below s j false t ≤ reads_below s j false u
+reads_below-later s j t zero h = let e : t ≡ 0 = omega arith in subst (λ u. reads_below s j false t ≤ reads_below s j false u) e (omega arith)
+reads_below-later s j t (suc u) h =
+    elim (cases_lt u t) [
+      | inl lt ↦ let e : t ≡ suc u = omega arith in subst (λ u. reads_below s j false t ≤ reads_below s j false u) e (omega arith)
+      | inr ge ↦ omega (arith, reads_below-later s j t u ge, reads_below-suc s j false u)
+    ]
+
+-- no slot reads a tributary that the shape doesn't have
+reads_below-unknown : (s : FrameShape) (j t : ℕ) → HasTributaries s → s.tribs ≤ j → t ≤ s.len → reads_below s j false t ≡ 0
+reads_below-unknown s j zero has past inside = refl
+reads_below-unknown s j (suc t) has past inside =
+    reads_below-suc s j false t ∙ ap (λ b. reads_below s j false t + cond b 1 0) (not_read (s.role t) refl) ∙ omega (arith, reads_below-unknown s j t has past (omega arith))
+  where
+    not_read : (r : Role) → s.role t ≡ r → reads_from j false r ≡ false
+    not_read (Info i) e = ne_eqb i j (λ same. let known : i < s.tribs = has.info_known t i (omega arith) e in omega arith)
+    not_read (Just i) e = elim (cases_Bool (eqb i j)) [ inl same ↦ rw same refl | inr other ↦ rw other refl ]
+    not_read (Align signal) e = refl
+    not_read (Service number) e = refl
+    not_read (Control i copy) e = refl
+
+-- the slots before a slot read no more than a frame carries
+reads_below-most : (s : FrameShape) (j t : ℕ) → HasTributaries s → t ≤ s.len → reads_below s j false t ≤ s.low
+reads_below-most s j t has inside =
+    elim (cases_lt j s.tribs) [
+      | inl known ↦ omega (arith, reads_below-later s j t s.len inside, reads_below-all s j false has known)
+      | inr past ↦ omega (arith, reads_below-unknown s j t has past inside)
+    ]
+
+-- a node has taken no more than what the frames that it has begun take by their ends
+pub given-entered_by : (s : FrameShape) (j : ℕ) (counts : ℕ → ℕ) (x : ℕ) → IsFrame s → HasTributaries s → given s j counts x ≤ entered_by (shape_numbers s) counts (begun s x)
+given-entered_by s j counts x frame has =
+    elim (cases_Bool (eqb s.copies 0)) [
+      | inl locked ↦ omega (arith, given-locked s j counts x locked, entered-locked s counts (begun s x) locked, read_by_end)
+      | inr stores ↦ omega (arith, given-stores s j counts x stores, entered-stores s counts (begun s x) stores, taken-entered s counts x frame)
+    ]
+  where
+    inside : x % s.len < s.len
+    inside = mod_below x s.len frame.some_slots
+
+    read_by_end : x / s.len * s.low + reads_below s j false (x % s.len) ≤ begun s x * s.low
+    read_by_end =
+        elim (cases_Bool (eqb (x % s.len) 0)) [
+          | inl even ↦ rw (even, eqb-true (x % s.len) 0 even) (omega arith)
+          | inr odd ↦ rw odd (omega (arith, reads_below-most s j (x % s.len) has (omega (arith, inside))))
+        ]
+
+frames_found-few : (n : ℕ) → frames_found n ≤ n
+frames_found-few n = elim (cases_lt n 3) [ inl few ↦ rw (lt-ltb n 3 few) (omega arith) | inr enough ↦ rw (le-ltb n 3 enough) (omega arith) ]
+
+-- where no bit before bit x has an underflow, no more comes back than was taken
+pub given_back-given : (s : FrameShape) (counts : ℕ → ℕ) (j x : ℕ) → IsFrame s → HasTributaries s → j < s.tribs
+    → (HasStores s → (m u : ℕ) → u < s.len → m * s.len + u < x → underflows s j counts m u ≡ false) → given_back s counts (x / s.len) ≤ given s j counts x
+given_back-given s counts j x frame has known none =
+    elim (cases_Bool (eqb s.copies 0)) [
+      | inl locked ↦
+          let n : ℕ = x / s.len in
+          let most : frames_found n * s.low ≤ n * s.low = mul-le-mul_right s.low (frames_found-few n) in
+          omega (arith, given-locked s j counts x locked, sent-locked s counts (frames_found n) locked)
+      | inr stores ↦ omega (arith, given-stores s j counts x stores, given_back-taken s counts j x frame has known (none stores))
     ]

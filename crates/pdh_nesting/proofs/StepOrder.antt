@@ -1,22 +1,23 @@
 -- The events of a chain come in the order of their lists, so that the first event is that with the least list.
-use Rattle.std.proofs.Common.{◌≡◌, ℕ, zero, suc, ◌*◌, ◌/◌, ◌%◌, ◌<◌, ◌≤◌, Bool, true, false, cond, eqb, List, [], ◌∷◌, ◌++◌, length, map, get_or, Some, refl, sym, ap, ◌∙◌, subst, inl, inr, arith, append_assoc}
+use Rattle.std.proofs.Common.{◌≡◌, ℕ, zero, suc, ◌+◌, ◌*◌, ◌/◌, ◌%◌, ◌<◌, ◌≤◌, Bool, true, false, cond, eqb, List, [], ◌∷◌, ◌++◌, length, map, get_or, Some, refl, sym, ap, ◌∙◌, subst, inl, inr, arith, append_assoc}
 use Rattle.std.specs.Prelude.{flat_map, slice_get}
 use Rattle.std.specs.List.{range_with_len, AllPairs}
 use Rattle.std.proofs.lemmas.Bool.{eqb-true, cases_lt}
 use Rattle.pdh_shape.specs.declared.role.Role.{Role}
 use Rattle.pdh_shape.specs.declared.role.Role.TheVariants.{Align, Service, Control, Just, Info}
 use Rattle.pdh_shape.specs.Frame.{FrameShape}
-use Rattle.pdh_shape.specs.Tributary.{reads_from}
-use Rattle.pdh_line.specs.Sending.{lead, arrives_at, sends_more, came_before}
+use Rattle.pdh_shape.specs.Tributary.{reads_from, reads_below}
+use Rattle.pdh_shape.specs.OwnNumbers.{lead}
+use Rattle.pdh_line.specs.Sending.{arrives_at, sends_more, came_before}
 use Rattle.pdh_line.specs.Events.{Event, overflows, underflows, overflow_at, underflow_at}
+use Rattle.pdh_line.specs.Nodes.{child, Counts}
 use Rattle.pdh_line.proofs.Ranges.{and_true}
-use Rattle.pdh_nesting.specs.Chains.{child, top_len}
-use Rattle.pdh_nesting.specs.Sending.{Counts}
+use Rattle.pdh_nesting.specs.Chains.{top_len}
 use Rattle.pdh_nesting.specs.Events.{first_event}
 use Rattle.pdh_nesting.specs.StepOrder.{comes_before, Keyed, at_key, below_key, Before, IsLeast, keyed_in, keyed_below, keyed_events}
 use Rattle.pdh_nesting.proofs.Orders.{Each, Ordered, each-append, each-flat, each-weaker, across-by, ordered-append, ordered-flat, ordered-pairs}
 use Rattle.pdh_nesting.proofs.Keys.{comes_before-same, comes_before-self, comes_before-other, Begins, begins-below, begins-at, less-after, across-less, ordered-below, ordered-if, each-if, ordered-one, across-one}
-use Rattle.pdh_nesting.proofs.KeyedEvents.{keyed_made, keyed_lead, keyed_arrival, keyed_read, keyed_below-events}
+use Rattle.pdh_nesting.proofs.KeyedEvents.{keyed_made, keyed_lead, keyed_arrival, keyed_read, keyed_bit_read, keyed_below-events}
 
 -- ---- the events of a bit
 
@@ -136,7 +137,26 @@ module _ (s : FrameShape) (below : List FrameShape) (counts : Counts) (path : Li
         ordered-append Before (cond first leads []) (arrivals ++ reads) (ordered-if first leads ordered-leads) ordered-slot
         (across-less [] 0 1 (cond first leads []) (arrivals ++ reads) (omega arith) (each-if (Begins (0 ∷ [])) first leads begins-leads) begins-slot)
 
+    -- in a node without stores, those of the bits that a slot reads
+    ordered-bit_reads : Ordered Before (flat_map (keyed_bit_read s below counts path n t) (range_with_len 0 s.tribs))
+    ordered-bit_reads =
+        ordered-flat Before (keyed_bit_read s below counts path n t) 0 s.tribs
+        (λ j. ordered-if (reads_from j false (s.role t)) (keyed_made below counts path 1 j (bit j)) (ordered-made 1 j (bit j)))
+        (λ j i h h'. across-less (1 ∷ []) (suc j) (suc i) (keyed_bit_read s below counts path n t j) (keyed_bit_read s below counts path n t i) (omega arith) (begins j) (begins i))
+      where
+        bit : ℕ → ℕ
+        bit j = n * s.low + reads_below s j false t
+
+        begins : (j : ℕ) → Each (Begins (1 ∷ suc j ∷ [])) (keyed_bit_read s below counts path n t j)
+        begins j =
+            each-if (Begins (1 ∷ suc j ∷ [])) (reads_from j false (s.role t)) (keyed_made below counts path 1 j (bit j))
+            (each-weaker (Begins (1 ∷ suc j ∷ bit j ∷ [])) (Begins (1 ∷ suc j ∷ [])) (keyed_made below counts path 1 j (bit j)) (λ event begins. (bit j ∷ begins.0, begins.1)) (begins-made 1 j (bit j)))
+
 -- ---- the events of a chain
+
+ordered-either : (test : Bool) (a b : List Keyed) → Ordered Before a → Ordered Before b → Ordered Before (cond test a b)
+ordered-either true a b oa ob = oa
+ordered-either false a b oa ob = ob
 
 -- those in making a bit of a node's line come in the order of their lists
 pub keyed_in-ordered : (chain : List FrameShape) (counts : Counts) (path : List ℕ) (x : ℕ) → Ordered Before (keyed_in chain counts path x)
@@ -145,9 +165,11 @@ keyed_in-ordered [] counts path x = tt
 keyed_in-ordered (s ∷ below) counts path x =
     let n : ℕ = x / s.len in
     let t : ℕ = x % s.len in
-    subst (Ordered Before)
+    let inner : (j k : ℕ) → Ordered Before (keyed_in below counts (child path j) k) = λ j k. keyed_in-ordered below counts (child path j) k in
+    ordered-either (eqb s.copies 0) _ _ (ordered-bit_reads s below counts path inner n t)
+    (subst (Ordered Before)
     (sym (append_assoc (cond (eqb x 0) (flat_map (keyed_lead below counts path) (range_with_len 0 s.tribs)) []) (flat_map (keyed_arrival s below counts path n t) (range_with_len 0 s.tribs)) (flat_map (keyed_read s counts path n t) (range_with_len 0 s.tribs))))
-    (ordered-bit s below counts path (λ j k. keyed_in-ordered below counts (child path j) k) n t (eqb x 0))
+    (ordered-bit s below counts path inner n t (eqb x 0)))
 
 -- and so do those of a run,
 pub keyed_below-ordered : (chain : List FrameShape) (counts : Counts) (x : ℕ) → Ordered Before (keyed_below chain counts x)

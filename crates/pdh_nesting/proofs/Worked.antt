@@ -8,8 +8,10 @@ use Rattle.pdh_line.specs.Least.{least_below}
 use Rattle.pdh_line.specs.Tracking.{track, track_within, one_search, is_lost, after_loss, delivered, gap_of, completes_loss}
 use Rattle.pdh_line.specs.Receiving.{received, piece_bits}
 use Rattle.pdh_nesting.specs.Chains.{width}
-use Rattle.pdh_nesting.specs.Sending.{delay_below, delay}
+use Rattle.pdh_line.specs.Nodes.{delay_below}
+use Rattle.pdh_nesting.specs.Sending.{delay}
 use Rattle.pdh_nesting.specs.Receiving.{far}
+use Rattle.pdh_nesting.proofs.KnownChains.{locked_e2}
 
 abbrev chains : List (List FrameShape)
 chains = (e2 ∷ []) ∷ (e3 ∷ []) ∷ (e4 ∷ []) ∷ (e3 ∷ e2 ∷ []) ∷ (e4 ∷ e3 ∷ []) ∷ (e4 ∷ e3 ∷ e2 ∷ []) ∷ []
@@ -20,6 +22,11 @@ leaves = refl
 pub delays : map delay chains ≡ 444 ∷ 788 ∷ 1478 ∷ 856 ∷ 1544 ∷ 1062 ∷ []
 unfolding delay_below
 delays = refl
+
+-- a node without stores keeps a tributary short by the bits of its frames alone
+pub locked_delays : map delay ((locked_e2 ∷ []) ∷ (locked_e2 ∷ e2 ∷ []) ∷ (e2 ∷ locked_e2 ∷ []) ∷ []) ≡ 412 ∷ 856 ∷ 824 ∷ []
+unfolding delay_below
+locked_delays = refl
 
 -- ---- three E3 frames of zeros: the signal 1111010000, no alarm, the national bit, and zeros in all other slots
 unfoldable pub zeros : List Bool

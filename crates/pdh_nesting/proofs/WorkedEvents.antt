@@ -1,15 +1,17 @@
 -- Worked examples of events in chains and of the order of their lists, computed by the checker.
-use Rattle.std.proofs.Common.{◌≡◌, ℕ, ◌*◌, true, false, [], ◌∷◌, None, Some, refl, arith}
+use Rattle.std.proofs.Common.{◌≡◌, ℕ, ◌*◌, true, false, [], ◌∷◌, None, Some, map, refl, arith}
 use Rattle.std.specs.Prelude.{◌==◌, ◌&&◌, if◌then◌else◌}
 use Rattle.pdh_shape.specs.Sets.{e2, e3, set_role}
-use Rattle.pdh_line.specs.Sending.{arrived, sent, begun, taken}
+use Rattle.pdh_line.specs.Progress.{arrived}
+use Rattle.pdh_line.specs.Sending.{sent, begun, given}
 use Rattle.pdh_line.specs.Events.{Event}
 use Rattle.pdh_line.specs.Events.Kind.{Overflow, Underflow}
+use Rattle.pdh_line.specs.Nodes.{Counts}
 use Rattle.pdh_line.proofs.WithinTolerance.{within-each}
-use Rattle.pdh_nesting.specs.Sending.{Counts, AllWithin}
+use Rattle.pdh_nesting.specs.Sending.{AllWithin}
 use Rattle.pdh_nesting.specs.Events.{events_in, events_below, first_event}
 use Rattle.pdh_nesting.specs.StepOrder.{comes_before, keyed_in}
-use Rattle.pdh_nesting.proofs.KnownChains.{e3_e2_frames, e3_e2_stores}
+use Rattle.pdh_nesting.proofs.KnownChains.{locked_e2, e3_e2_frames, e3_e2_even}
 use Rattle.pdh_nesting.proofs.NoEvents.{first_event-none}
 
 -- the smaller number first, and of two lists of which one begins the other the longer
@@ -66,6 +68,34 @@ pub silent_before : events_in (e3 ∷ e2 ∷ []) silent_first [] 345 ≡ []
 unfolding silent_first events_in sent arrived set_role
 silent_before = refl
 
+-- ---- E2 nodes below a node without stores
+
+-- slot 12 is the first that reads its first tributary, and each frame reads 205 bits of it, whatever arrives
+pub locked_gives : map (given locked_e2 0 (λ n. 1000)) (0 ∷ 12 ∷ 13 ∷ 848 ∷ 860 ∷ 861 ∷ []) ≡ 0 ∷ 0 ∷ 1 ∷ 205 ∷ 205 ∷ 206 ∷ []
+unfolding set_role
+locked_gives = refl
+
+-- its first slot belongs to the alignment signal: it reads nothing, and no lead is taken
+pub locked_first : events_in (locked_e2 ∷ e2 ∷ []) silent_first [] 0 ≡ []
+unfolding silent_first events_in set_role
+locked_first = refl
+
+-- the event of the first E2 node, in making its bit 108: the first two sets of the node above read 102 bits of it, and so slot
+-- 28 of the third set reads this one
+pub locked_in : events_in (locked_e2 ∷ e2 ∷ []) silent_first [] 452 ≡ silent_underflow ∷ []
+unfolding silent_first silent_underflow events_in sent arrived set_role
+locked_in = refl
+
+-- its list is that of a bit that arrives
+pub locked_keyed : keyed_in (locked_e2 ∷ e2 ∷ []) silent_first [] 452 ≡ (1 ∷ 1 ∷ 108 ∷ 1 ∷ 5 ∷ [], silent_underflow) ∷ []
+unfolding silent_first silent_underflow keyed_in sent arrived set_role
+locked_keyed = refl
+
+-- it is the first event of the chain's first frame
+pub locked_before : events_below (locked_e2 ∷ e2 ∷ []) silent_first 452 ≡ []
+unfolding silent_first events_below events_in sent arrived set_role
+locked_before = refl
+
 -- ---- E3 over E2 where each frame brings the least that it carries
 
 unfoldable pub least_each : Counts
@@ -77,10 +107,10 @@ pub least-within : (x : ℕ) → AllWithin (e3 ∷ e2 ∷ []) least_each [] x
 unfolding least_each AllWithin
 least-within x =
     λ j known. (
-      within-each e3 (λ n. 377) (begun e3 x) (λ n. omega arith) (λ n. omega arith),
-      λ i known'. (within-each e2 (λ n. 205) (begun e2 (taken e3 (λ n. 377) x)) (λ n. omega arith) (λ n. omega arith), tt),
+      λ stores. within-each e3 (λ n. 377) (begun e3 x) (λ n. omega arith) (λ n. omega arith),
+      λ i known'. (λ stores. within-each e2 (λ n. 205) (begun e2 (given e3 j (λ n. 377) x)) (λ n. omega arith) (λ n. omega arith), tt),
     )
 
 -- so no run has an event
 pub least-none : (frames : ℕ) → first_event (e3 ∷ e2 ∷ []) least_each frames ≡ None
-least-none frames = first_event-none (e3 ∷ e2 ∷ []) least_each frames e3_e2_frames e3_e2_stores (least-within (frames * 1536))
+least-none frames = first_event-none (e3 ∷ e2 ∷ []) least_each frames e3_e2_frames e3_e2_even (least-within (frames * 1536))

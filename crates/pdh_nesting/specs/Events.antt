@@ -3,24 +3,39 @@
 use Rattle.std.specs.Prelude.{◌≡◌, ◌<◌, ℕ, ◌+◌, ◌*◌, ◌/◌, ◌%◌, false, ◌==◌, if◌then◌else◌, List, [], ◌∷◌, ◌++◌, flat_map, Option, slice_get}
 use Rattle.std.specs.List.{range_with_len}
 use Rattle.pdh_shape.specs.Frame.{FrameShape}
-use Rattle.pdh_line.specs.Sending.{lead, arrives_at, came_before, taken}
+use Rattle.pdh_shape.specs.Tributary.{reads_from, reads_below}
+use Rattle.pdh_shape.specs.OwnNumbers.{lead}
+use Rattle.pdh_line.specs.Sending.{HasStores, arrives_at, came_before, given}
+use Rattle.pdh_line.specs.Nodes.{child, Counts}
 use Rattle.pdh_line.specs.Events.{Event, underflows, overflow_at, underflow_at}
-use Rattle.pdh_nesting.specs.Chains.{child, top_len}
-use Rattle.pdh_nesting.specs.Sending.{Counts}
+use Rattle.pdh_nesting.specs.Chains.{top_len}
 
--- All events in making bit x of the line of the node at a path, in order: those of the leads, which are taken before the
--- first bit, by tributary; then for each tributary those in making the bit that arrives, and its overflow; then the
--- underflow of the read.
-unfoldable pub events_in : List FrameShape → Counts → List ℕ → ℕ → List Event
-events_in [] counts path x = []
-events_in (s ∷ below) counts path x =
+-- Those in making bit x of the line of the node at a path that has stores, by those in making each bit of a tributary: first
+-- those of the leads, which are taken before the first bit, by tributary; then for each tributary those in making the bit that
+-- arrives, and its overflow; then the underflow of the read.
+abbrev pub events_with_stores : FrameShape → Counts → List ℕ → (ℕ → ℕ → List Event) → ℕ → List Event
+events_with_stores s counts path made x =
     let n = x / s.len in
     let t = x % s.len in
     let tributaries = range_with_len 0 s.tribs in
-    let made = λ (j k : ℕ). events_in below counts (child path j) k in
     (if x == 0 then flat_map (λ j. flat_map (made j) (range_with_len 0 lead)) tributaries else [])
     ++ flat_map (λ j. (if arrives_at s (counts path j n) t then made j (came_before s (counts path j) n t) else []) ++ overflow_at s path j (counts path j) n t) tributaries
     ++ flat_map (λ j. underflow_at s path j (counts path j) n t) tributaries
+
+-- The same of a node without stores, which has no events of its own: those in making the bit that its slot reads, of the
+-- tributary that it reads.
+abbrev pub events_without_stores : {X : Type 0} → FrameShape → (ℕ → ℕ → List X) → ℕ → List X
+events_without_stores s made x =
+    let n = x / s.len in
+    let t = x % s.len in
+    flat_map (λ j. (if reads_from j false (s.role t) then made j (n * s.low + reads_below s j false t) else [])) (range_with_len 0 s.tribs)
+
+-- all events in making bit x of the line of the node at a path, in order
+unfoldable pub events_in : List FrameShape → Counts → List ℕ → ℕ → List Event
+events_in [] counts path x = []
+events_in (s ∷ below) counts path x =
+    let made = λ (j k : ℕ). events_in below counts (child path j) k in
+    (if s.copies == 0 then events_without_stores s made x else events_with_stores s counts path made x)
 
 -- all events in making the first x bits of the top's line, in order
 unfoldable pub events_below : List FrameShape → Counts → ℕ → List Event
@@ -34,4 +49,4 @@ first_event chain counts frames = slice_get (events_below chain counts (frames *
 unfoldable pub NoneEmpty : List FrameShape → Counts → List ℕ → ℕ → Type 0
 NoneEmpty [] counts path x = Unit {0}
 NoneEmpty (s ∷ below) counts path x =
-    (j : ℕ) → j < s.tribs → ((n t : ℕ) → t < s.len → n * s.len + t < x → underflows s j (counts path j) n t ≡ false) × NoneEmpty below counts (child path j) (taken s (counts path j) x)
+    (j : ℕ) → j < s.tribs → (HasStores s → (n t : ℕ) → t < s.len → n * s.len + t < x → underflows s j (counts path j) n t ≡ false) × NoneEmpty below counts (child path j) (given s j (counts path j) x)

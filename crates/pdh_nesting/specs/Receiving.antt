@@ -3,8 +3,9 @@ use Rattle.std.specs.Prelude.{ℕ, ◌/◌, ◌%◌, Bool, List, [], ◌∷◌}
 use Rattle.pdh_shape.specs.Frame.{FrameShape}
 use Rattle.pdh_line.specs.Sending.{front, given_back}
 use Rattle.pdh_line.specs.Receiving.{received}
-use Rattle.pdh_nesting.specs.Chains.{width, child}
-use Rattle.pdh_nesting.specs.Sending.{Counts, Content, line_with}
+use Rattle.pdh_nesting.specs.Chains.{width}
+use Rattle.pdh_line.specs.Nodes.{child, Counts}
+use Rattle.pdh_nesting.specs.Sending.{Content, line_with}
 
 -- what leaf k below a node receives, where this is the node's received line: a node's tributaries take what they receive as
 -- their received lines

@@ -1,15 +1,12 @@
 -- What a chain sends, and how far it has come.
-use Rattle.std.specs.Prelude.{◌≡◌, ℕ, suc, ◌+◌, ◌*◌, ◌/◌, ◌%◌, ◌<◌, ◌≤◌, Bool, false, List, [], ◌∷◌}
+use Rattle.std.specs.Prelude.{◌≡◌, ℕ, ◌+◌, ◌*◌, ◌<◌, ◌≤◌, Bool, false, List, [], ◌∷◌, ◌++◌, All}
 use Rattle.std.specs.List.{slice_index_or}
 use Rattle.pdh_shape.specs.declared.role.Service.{Service as Say}
 use Rattle.pdh_shape.specs.Frame.{FrameShape, idle}
-use Rattle.pdh_line.specs.Sending.{lead, line_bit, begun, taken, entered}
-use Rattle.pdh_line.specs.Tolerance.{allowance, IsWithin}
-use Rattle.pdh_nesting.specs.Chains.{width, child}
-
--- how many bits of each tributary, from 0, of the node at a path arrive in each of its frames
-abbrev pub Counts : Type 0
-Counts = List ℕ → ℕ → ℕ → ℕ
+use Rattle.pdh_line.specs.Sending.{HasStores, line_bit, begun, given}
+use Rattle.pdh_line.specs.Tolerance.{IsWithin}
+use Rattle.pdh_line.specs.Nodes.{nodes_of, begun_at, Counts, child, given_at, entered_at, delay_of}
+use Rattle.pdh_nesting.specs.Chains.{numbers_of, width}
 
 -- ---- the line
 
@@ -24,19 +21,12 @@ chain_line (s ∷ below) counts bits says path first x =
 -- ---- how far a chain has come, where the node at a path has made x bits of its line
 
 -- how many bits leaf k below it has given
-unfoldable pub given_below : List FrameShape → Counts → List ℕ → ℕ → ℕ → ℕ
-given_below [] counts path x k = x
-given_below (s ∷ below) counts path x k =
-    let j = k / width below in
-    given_below below counts (child path j) (taken s (counts path j) x) (k % width below)
+abbrev pub given_below : List FrameShape → Counts → List ℕ → ℕ → ℕ → ℕ
+given_below chain = given_at (numbers_of chain)
 
 -- how many bits leaf k below it enters: those of the frames that the leaf's own node has begun
-unfoldable pub entered_below : List FrameShape → Counts → List ℕ → ℕ → ℕ → ℕ
-entered_below [] counts path x k = x
-entered_below (s ∷ []) counts path x k = entered (counts path k) (begun s x)
-entered_below (s ∷ t ∷ below) counts path x k =
-    let j = k / width (t ∷ below) in
-    entered_below (t ∷ below) counts (child path j) (taken s (counts path j) x) (k % width (t ∷ below))
+abbrev pub entered_below : List FrameShape → Counts → List ℕ → ℕ → ℕ → ℕ
+entered_below chain = entered_at (numbers_of chain)
 
 -- ---- what a chain carries
 
@@ -67,49 +57,36 @@ pub record Agree (chain : List FrameShape) (counts : Counts) (x : ℕ) (a b : Co
 
 -- ---- the tolerance
 
--- each tributary of the node at a path and of all nodes below it is within the tolerance over the frames that its node has
--- begun
+-- each tributary that has a store, of the node at a path or of a node below it, is within the tolerance over the frames that
+-- its node has begun
 unfoldable pub AllWithin : List FrameShape → Counts → List ℕ → ℕ → Type 0
 AllWithin [] counts path x = Unit {0}
 AllWithin (s ∷ below) counts path x =
-    (j : ℕ) → j < s.tribs → IsWithin s (counts path j) (begun s x) × AllWithin below counts (child path j) (taken s (counts path j) x)
+    (j : ℕ) → j < s.tribs → (HasStores s → IsWithin s (counts path j) (begun s x)) × AllWithin below counts (child path j) (given s j (counts path j) x)
 
 -- ---- a schedule: how many frames each node has at most
 
 -- the node at a path, and each node below it, has at least the frames that it has begun
-unfoldable pub AllScheduled : List FrameShape → Counts → (List ℕ → ℕ) → List ℕ → ℕ → Type 0
-AllScheduled [] counts frames path x = Unit {0}
-AllScheduled (s ∷ below) counts frames path x =
-    (begun s x ≤ frames path) × ((j : ℕ) → j < s.tribs → AllScheduled below counts frames (child path j) (taken s (counts path j) x))
+abbrev pub AllScheduled : List FrameShape → Counts → (List ℕ → ℕ) → List ℕ → ℕ → Type 0
+AllScheduled chain counts frames path x = All (λ steps. begun_at (numbers_of chain) counts path x steps ≤ frames (path ++ steps)) (nodes_of (numbers_of chain))
 
--- each tributary of these nodes is within the tolerance over all frames that its node has
+-- each tributary of these nodes that has a store is within the tolerance over all frames that its node has
 unfoldable pub AllTolerated : List FrameShape → Counts → (List ℕ → ℕ) → List ℕ → Type 0
 AllTolerated [] counts frames path = Unit {0}
 AllTolerated (s ∷ below) counts frames path =
-    (j : ℕ) → j < s.tribs → IsWithin s (counts path j) (frames path) × AllTolerated below counts frames (child path j)
+    (j : ℕ) → j < s.tribs → (HasStores s → IsWithin s (counts path j) (frames path)) × AllTolerated below counts frames (child path j)
 
 -- ---- arrivals that fit the slots
 
--- in each frame that a node at or below a path has begun, no more bits of a tributary arrive than the frame has slots: so
--- at most one arrives in a slot
+-- in each frame that a node with stores at or below a path has begun, no more bits of a tributary arrive than the frame has
+-- slots: so at most one arrives in a slot
 unfoldable pub ArriveSingly : List FrameShape → Counts → List ℕ → ℕ → Type 0
 ArriveSingly [] counts path x = Unit {0}
 ArriveSingly (s ∷ below) counts path x =
-    (j : ℕ) → j < s.tribs → ((n : ℕ) → n < begun s x → counts path j n ≤ s.len) × ArriveSingly below counts (child path j) (taken s (counts path j) x)
+    (j : ℕ) → j < s.tribs → (HasStores s → (n : ℕ) → n < begun s x → counts path j n ≤ s.len) × ArriveSingly below counts (child path j) (given s j (counts path j) x)
 
 -- ---- the delay
 
--- by how many bits a node that holds back so many frames keeps a tributary short
-abbrev pub short_by : FrameShape → ℕ → ℕ
-short_by s frames = lead + allowance + frames * suc s.low
-
--- by how many bits a leaf is short, below a node that holds back so many frames: a node that is short by b bits holds back
--- the frames of these bits and four more
-unfoldable pub delay_below : List FrameShape → ℕ → ℕ
-delay_below [] frames = 0
-delay_below (s ∷ []) frames = short_by s frames
-delay_below (s ∷ t ∷ below) frames = delay_below (t ∷ below) (short_by s frames / t.len + 4)
-
--- the top holds back two frames
+-- by how many bits of a leaf what is received is behind what arrived at most, within the tolerance
 abbrev pub delay : List FrameShape → ℕ
-delay chain = delay_below chain 2
+delay chain = delay_of (numbers_of chain)

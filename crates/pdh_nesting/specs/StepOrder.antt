@@ -5,10 +5,12 @@
 use Rattle.std.specs.Prelude.{◌≡◌, ℕ, suc, ◌*◌, ◌/◌, ◌%◌, Bool, true, false, IsTrue, nat_lt, ◌==◌, if◌then◌else◌, List, [], ◌∷◌, ◌++◌, map, flat_map, slice_get, Some}
 use Rattle.std.specs.List.{range_with_len}
 use Rattle.pdh_shape.specs.Frame.{FrameShape}
-use Rattle.pdh_line.specs.Sending.{lead, arrives_at, came_before}
+use Rattle.pdh_shape.specs.OwnNumbers.{lead}
+use Rattle.pdh_line.specs.Sending.{arrives_at, came_before}
+use Rattle.pdh_line.specs.Nodes.{child, Counts}
 use Rattle.pdh_line.specs.Events.{Event, overflow_at, underflow_at}
-use Rattle.pdh_nesting.specs.Chains.{child, top_len}
-use Rattle.pdh_nesting.specs.Sending.{Counts}
+use Rattle.pdh_nesting.specs.Chains.{top_len}
+use Rattle.pdh_nesting.specs.Events.{events_without_stores}
 
 -- Lists are compared number by number. Where one is the beginning of the other, the longer one comes first: a bit is made
 -- before it overflows the store that it goes into.
@@ -29,17 +31,24 @@ at_key key events = map (λ event. (key, event)) events
 abbrev pub below_key : List ℕ → List Keyed → List Keyed
 below_key numbers events = map (λ event. (numbers ++ event.0, event.1)) events
 
--- all events in making bit x of the line of the node at a path, in order, each with the part of its list below that bit
-unfoldable pub keyed_in : List FrameShape → Counts → List ℕ → ℕ → List Keyed
-keyed_in [] counts path x = []
-keyed_in (s ∷ below) counts path x =
+-- Those in making bit x of the line of the node at a path that has stores, each with the part of its list below that bit, by
+-- those after a mark in making each bit of a tributary.
+abbrev pub keyed_with_stores : FrameShape → Counts → List ℕ → (ℕ → ℕ → ℕ → List Keyed) → ℕ → List Keyed
+keyed_with_stores s counts path made x =
     let n = x / s.len in
     let t = x % s.len in
     let tributaries = range_with_len 0 s.tribs in
-    let made = λ (mark j k : ℕ). below_key (mark ∷ suc j ∷ k ∷ []) (keyed_in below counts (child path j) k) in
     (if x == 0 then flat_map (λ j. flat_map (made 0 j) (range_with_len 0 lead)) tributaries else [])
     ++ flat_map (λ j. (if arrives_at s (counts path j n) t then made 1 j (came_before s (counts path j) n t) else []) ++ at_key (1 ∷ suc j ∷ []) (overflow_at s path j (counts path j) n t)) tributaries
     ++ flat_map (λ j. at_key (1 ∷ suc s.tribs ∷ []) (underflow_at s path j (counts path j) n t)) tributaries
+
+-- all events in making bit x of the line of the node at a path, in order, each with that part of its list; a bit that a node
+-- without stores reads has the mark of one that arrives
+unfoldable pub keyed_in : List FrameShape → Counts → List ℕ → ℕ → List Keyed
+keyed_in [] counts path x = []
+keyed_in (s ∷ below) counts path x =
+    let made = λ (mark j k : ℕ). below_key (mark ∷ suc j ∷ k ∷ []) (keyed_in below counts (child path j) k) in
+    (if s.copies == 0 then events_without_stores s (made 1) x else keyed_with_stores s counts path made x)
 
 -- all events in making the first x bits of the top's line, in order, each with its list
 unfoldable pub keyed_below : List FrameShape → Counts → ℕ → List Keyed

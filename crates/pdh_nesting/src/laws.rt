@@ -5,11 +5,13 @@ ghost use Rattle.pdh_shape.specs.declared.role.Service.{Service as Say};
 ghost use Rattle.pdh_shape.specs.Frame.{FrameShape, IsFrame};
 ghost use Rattle.pdh_shape.specs.Tributary.{HasTributaries};
 ghost use Rattle.pdh_line.specs.Events.{Event, IsQuiet};
-ghost use Rattle.pdh_line.specs.Sending.{store_size, came_before, read_before, front};
-ghost use Rattle.pdh_nesting.specs.Chains.{width, top_len, AreFrames, HaveStores};
+ghost use Rattle.pdh_shape.specs.OwnNumbers.{store_size};
+ghost use Rattle.pdh_line.specs.Sending.{came_before, read_before, front};
+ghost use Rattle.pdh_nesting.specs.Chains.{width, top_len, AreFrames, ReadEvenly};
 ghost use Rattle.pdh_nesting.specs.Events.{events_below, first_event, NoneEmpty};
+ghost use Rattle.pdh_line.specs.Nodes.{Counts};
 ghost use Rattle.pdh_nesting.specs.Receiving.{comes_back, back_below};
-ghost use Rattle.pdh_nesting.specs.Sending.{Counts, Content, Agree, content_of, line_with, given_below, entered_below, AllWithin, AllScheduled, AllTolerated, ArriveSingly, delay};
+ghost use Rattle.pdh_nesting.specs.Sending.{Content, Agree, content_of, line_with, given_below, entered_below, AllWithin, AllScheduled, AllTolerated, ArriveSingly, delay};
 ghost use Rattle.pdh_nesting.specs.StepOrder.{Keyed, IsLeast, keyed_below, keyed_events};
 
 /// Every event has a list of numbers, and the first event of so many frames of the top is that with
@@ -25,14 +27,14 @@ pub fn first_event_has_least_list()
         first_event chain counts frames ≡ Some event }
 {}
 
-/// Where each tributary of each node is within the tolerance, over the frames that its node begins
+/// Where each tributary that has a store is within the tolerance, over the frames that its node begins
 /// or over all that its node has, no store of the chain meets an event.
 pub fn no_event_within_tolerance()
     ensures begun { (chain : List FrameShape) (counts : Counts) (frames : ℕ) →
-        AreFrames chain → HaveStores chain → AllWithin chain counts [] (frames * top_len chain) →
+        AreFrames chain → ReadEvenly chain → AllWithin chain counts [] (frames * top_len chain) →
         first_event chain counts frames ≡ None }
     ensures scheduled { (chain : List FrameShape) (counts : Counts) (schedule : List ℕ → ℕ) (frames : ℕ) →
-        AreFrames chain → HaveStores chain → AllScheduled chain counts schedule [] (frames * top_len chain) →
+        AreFrames chain → ReadEvenly chain → AllScheduled chain counts schedule [] (frames * top_len chain) →
         AllTolerated chain counts schedule [] → first_event chain counts frames ≡ None }
 {}
 
@@ -40,7 +42,7 @@ pub fn no_event_within_tolerance()
 /// a tributary two bits.
 pub fn no_store_is_empty()
     ensures within { (chain : List FrameShape) (counts : Counts) (bits : ℕ) →
-        AreFrames chain → HaveStores chain → AllWithin chain counts [] bits →
+        AreFrames chain → ReadEvenly chain → AllWithin chain counts [] bits →
         NoneEmpty chain counts [] bits }
     ensures quiet { (chain : List FrameShape) (counts : Counts) (bits : ℕ) →
         AreFrames chain → ArriveSingly chain counts [] bits → events_below chain counts bits ≡ [] →
@@ -80,8 +82,7 @@ pub fn leaves_come_back()
 /// delay.
 pub fn leaves_come_back_in_time()
     ensures { (chain : List FrameShape) (counts : Counts) (frames leaf : ℕ) →
-        AreFrames chain → HaveStores chain → AllWithin chain counts [] (frames * top_len chain) →
-        leaf < width chain →
+        AreFrames chain → AllWithin chain counts [] (frames * top_len chain) → leaf < width chain →
         entered_below chain counts [] (frames * top_len chain) leaf
         ≤ back_below chain counts [] (frames * top_len chain) leaf + delay chain }
 {}

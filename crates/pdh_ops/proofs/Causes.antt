@@ -1,5 +1,5 @@
 -- What follows from the causes of a run.
-use Rattle.std.proofs.Common.{◌≡◌, ◌⊎◌, ℕ, List, Option, None, Some, Result, Ok, Err, refl, ap, subst, sym, ◌∙◌, inl, inr, arith}
+use Rattle.std.proofs.Common.{◌≡◌, ◌⊎◌, ℕ, List, Option, None, Some, Ok, Err, refl, ap, subst, inl, inr, arith}
 use Rattle.pdh_edge.specs.Counts.{one_more}
 use Rattle.pdh_edge.specs.Files.{ShelfState, Counts, SinkState, Looks, Rose}
 use Rattle.pdh_ops.specs.Answer.{Answer}

@@ -10,7 +10,8 @@ use Rattle.pdh_edge.specs.Files.Told.{Known}
 use Rattle.pdh_clock.specs.declared.bias.Bias.{Bias}
 use Rattle.pdh_shape.specs.declared.place.Level.{Level}
 use Rattle.pdh_shape.specs.declared.place.Path.{Path}
-use Rattle.pdh_clock.specs.Chain.{nodes_of, steps_of, stores_at}
+use Rattle.pdh_levels.specs.Levels.{nodes_in, level_at, stores_at}
+use Rattle.pdh_line.specs.Paths.{steps_of}
 use Rattle.pdh_clock.specs.Row.{Row}
 use Rattle.pdh_clock.specs.Contents.{Contents, frames_of}
 use Rattle.pdh_clock.specs.Made.{made}
@@ -38,10 +39,10 @@ use Rattle.pdh_ops.proofs.Refusing.{refuses_since, refuses_performs, size_refuse
 use Rattle.pdh_ops.proofs.ScheduleComes.{Begins, HasSchedule, schedule_refuses, comes_on}
 use Rattle.pdh_ops.proofs.OneOutput.{HasOutput, Writes, start_refused, append_refused, writing_done}
 use Rattle.pdh_chain.specs.declared.chain.Chain.{Chain}
-use Rattle.pdh_chain.specs.declared.chain.Chain.TheVariants.{E12, E23, E34, E13, E24, E14}
 use Rattle.pdh_chain.specs.Chains.{levels_of}
-use Rattle.pdh_chain.specs.Trees.{path_of}
-use Rattle.pdh_ops.proofs.Firsts.{same_on}
+use Rattle.pdh_levels.proofs.LevelLaws.{stores_is}
+use Rattle.pdh_chain.proofs.ChainLaws.{are_levels}
+use Rattle.pdh_shape.specs.OwnNumbers.{most_frames}
 
 -- ---- the check
 
@@ -97,16 +98,23 @@ inside_from clock path a (suc n) each =
     let none : run_outside clock path a ≡ None = each a (omega arith) (omega arith) in
     rw none (inside_from clock path (a + 1) n (λ i h h'. each i (omega arith) (omega arith)))
 
-pub tributary_outside : (clock : Contents) (path : List ℕ) (k : ℕ) (run : Run) → stores_at clock.levels path ≡ 4 → k < 4 → ((i : ℕ) → i < k → run_outside clock path i ≡ None) → run_outside clock path k ≡ Some run
+pub tributary_outside : (clock : Contents) (path : List ℕ) (n k : ℕ) (run : Run) → stores_at clock.levels path ≡ n → k < n → ((i : ℕ) → i < k → run_outside clock path i ≡ None) → run_outside clock path k ≡ Some run
     → first_outside_of clock path ≡ Some (outside_at path k run)
 unfolding first_outside_of
-tributary_outside clock path k run four low before here =
-    ap (λ n. outside_of clock path (range_with_len 0 n)) four ∙ outside_from clock path 0 4 k run (omega arith) (omega arith) (λ i h h'. before i h') here
+tributary_outside clock path n k run stores low before here =
+    ap (λ n. outside_of clock path (range_with_len 0 n)) stores ∙ outside_from clock path 0 n k run (omega arith) (omega arith) (λ i h h'. before i h') here
 
-pub tributaries_inside : (clock : Contents) (path : List ℕ) → stores_at clock.levels path ≡ 4 → ((i : ℕ) → i < 4 → run_outside clock path i ≡ None) → first_outside_of clock path ≡ None
+pub tributaries_inside : (clock : Contents) (path : List ℕ) (n : ℕ) → stores_at clock.levels path ≡ n → ((i : ℕ) → i < n → run_outside clock path i ≡ None) → first_outside_of clock path ≡ None
 unfolding first_outside_of
-tributaries_inside clock path four each =
-    ap (λ n. outside_of clock path (range_with_len 0 n)) four ∙ inside_from clock path 0 4 (λ i h h'. each i (omega arith))
+tributaries_inside clock path n stores each =
+    ap (λ n. outside_of clock path (range_with_len 0 n)) stores ∙ inside_from clock path 0 n (λ i h h'. each i (omega arith))
+
+-- a node of a chain has as many stores as its level has tributaries
+pub stores_of_node : (chain : Chain) (clock : Contents) (levels : List Level) (path : List ℕ) (level : Level) → clock.levels ≡ levels_of chain → levels ≡ levels_of chain → level_at levels path ≡ Some level
+    → stores_at clock.levels path ≡ level.tribs
+stores_of_node chain clock levels path level own same at =
+    ap (λ ls. stores_at ls path) own
+    ∙ stores_is (levels_of chain) path level (are_levels chain).each (ap (λ ls. level_at ls path) (sym same) ∙ at)
 
 -- the same of the nodes
 node_found : (chain : Chain) (clock : Contents) (nodes : List (List ℕ)) (k : ℕ) (out : OutOfTolerance) → k < length nodes → ((i : ℕ) → i < k → first_outside_of clock (get_or nodes i []) ≡ None)
@@ -123,34 +131,22 @@ nodes_inside chain clock (path ∷ paths) each =
     let none : first_outside_of clock path ≡ None = each 0 (omega arith) in
     rw none (nodes_inside chain clock paths (λ i h. each (suc i) (omega arith)))
 
-pub first_outside_is : (chain : Chain) (rows : List Row) (k : ℕ) (out : OutOfTolerance) → k < length (nodes_of (levels_of chain))
-    → ((i : ℕ) → i < k → first_outside_of (contents_of chain rows) (get_or (nodes_of (levels_of chain)) i []) ≡ None)
-    → first_outside_of (contents_of chain rows) (get_or (nodes_of (levels_of chain)) k []) ≡ Some out → checked chain rows ≡ ClockOutside chain out
+pub first_outside_is : (chain : Chain) (rows : List Row) (k : ℕ) (out : OutOfTolerance) → k < length (nodes_in (levels_of chain))
+    → ((i : ℕ) → i < k → first_outside_of (contents_of chain rows) (get_or (nodes_in (levels_of chain)) i []) ≡ None)
+    → first_outside_of (contents_of chain rows) (get_or (nodes_in (levels_of chain)) k []) ≡ Some out → checked chain rows ≡ ClockOutside chain out
 unfolding checked
-first_outside_is chain rows k out low before here = node_found chain (contents_of chain rows) (nodes_of (levels_of chain)) k out low before here
+first_outside_is chain rows k out low before here = node_found chain (contents_of chain rows) (nodes_in (levels_of chain)) k out low before here
 
-pub all_inside : (chain : Chain) (rows : List Row) → ((i : ℕ) → i < length (nodes_of (levels_of chain)) → first_outside_of (contents_of chain rows) (get_or (nodes_of (levels_of chain)) i []) ≡ None) → checked chain rows ≡ ClockInside chain
+pub all_inside : (chain : Chain) (rows : List Row) → ((i : ℕ) → i < length (nodes_in (levels_of chain)) → first_outside_of (contents_of chain rows) (get_or (nodes_in (levels_of chain)) i []) ≡ None) → checked chain rows ≡ ClockInside chain
 unfolding checked
-all_inside chain rows each = nodes_inside chain (contents_of chain rows) (nodes_of (levels_of chain)) each
-
--- the steps to the path of a node are the node's
-node_steps : (chain : Chain) (k : ℕ) → k < length (nodes_of (levels_of chain)) → steps_of (path_of (get_or (nodes_of (levels_of chain)) k [])) ≡ get_or (nodes_of (levels_of chain)) k []
-node_steps E12 k h = same_on (λ steps. steps_of (path_of steps)) (λ steps. steps) (nodes_of (levels_of E12)) k [] refl h
-node_steps E23 k h = same_on (λ steps. steps_of (path_of steps)) (λ steps. steps) (nodes_of (levels_of E23)) k [] refl h
-node_steps E34 k h = same_on (λ steps. steps_of (path_of steps)) (λ steps. steps) (nodes_of (levels_of E34)) k [] refl h
-node_steps E13 k h = same_on (λ steps. steps_of (path_of steps)) (λ steps. steps) (nodes_of (levels_of E13)) k [] refl h
-node_steps E24 k h = same_on (λ steps. steps_of (path_of steps)) (λ steps. steps) (nodes_of (levels_of E24)) k [] refl h
-node_steps E14 k h = same_on (λ steps. steps_of (path_of steps)) (λ steps. steps) (nodes_of (levels_of E14)) k [] refl h
-
-pub node_plain : (chain : Chain) (k : ℕ) (node : Path) → k < length (nodes_of (levels_of chain)) → node ≡ path_of (get_or (nodes_of (levels_of chain)) k []) → node ≡ path_of (steps_of node)
-node_plain chain k node low is = is ∙ ap path_of (sym (node_steps chain k low) ∙ ap steps_of (sym is))
+all_inside chain rows each = nodes_inside chain (contents_of chain rows) (nodes_in (levels_of chain)) each
 
 -- what the schedule answers of a node
-pub outside_now : (chain : Chain) (clock : Contents) (k : ℕ) (node : Path) (out : Option OutOfTolerance) → clock.levels ≡ levels_of chain → k < length (nodes_of (levels_of chain)) → node ≡ path_of (get_or (nodes_of (levels_of chain)) k [])
-    → out ≡ first_outside_of clock (steps_of node) → first_outside_of (contents_of chain clock.rows) (get_or (nodes_of (levels_of chain)) k []) ≡ out
-outside_now chain clock k node out levels low is said =
-    ap (first_outside_of (contents_of chain clock.rows)) (sym (node_steps chain k low) ∙ ap steps_of (sym is))
-    ∙ ap (λ l. first_outside_of (record { levels = l; rows = clock.rows }) (steps_of node)) (sym levels) ∙ sym said
+pub outside_now : (chain : Chain) (clock : Contents) (levels : List Level) (k : ℕ) (node : Path) (out : Option OutOfTolerance) → clock.levels ≡ levels_of chain → levels ≡ levels_of chain
+    → steps_of node ≡ get_or (nodes_in levels) k [] → out ≡ first_outside_of clock (steps_of node) → first_outside_of (contents_of chain clock.rows) (get_or (nodes_in (levels_of chain)) k []) ≡ out
+outside_now chain clock levels k node out own same steps said =
+    ap (first_outside_of (contents_of chain clock.rows)) (sym (steps ∙ ap (λ ls. get_or (nodes_in ls) k []) same))
+    ∙ ap (λ l. first_outside_of (record { levels = l; rows = clock.rows }) (steps_of node)) (sym own) ∙ sym said
 
 -- what was read is what the command comes to
 pub check_done : (chain : Chain) (a s b : ShelfState) (bytes : ℕ) (rows : List Row) → Looks a s → s.counts ≡ a.counts → HasLength schedule_name bytes s → Looks s b → b.counts ≡ s.counts → RowsAre chain s (Ok rows) → Performs (ClockCheck chain) a b (Ok (checked chain rows))
@@ -180,12 +176,12 @@ unfolding made_text
 made_text_is chain schedule frames bias text same each said =
     said ∙ ap (λ (l : List Level). text_with l (frames_of schedule.rows)) same ∙ ap (text_with (levels_of chain)) (λ i path. each path i)
 
-made_few : (chain : Chain) (frames : ℕ) (bias : Bias) → frames ≤ 16384 → clock_made chain frames bias ≡ Ok (ClockMade chain (rows_in_text (made_text chain frames bias)))
-made_few chain frames bias few = let test : nat_lt 16384 frames ≡ false = grind (arith, nat_tests) in rw test refl
+made_few : (chain : Chain) (frames : ℕ) (bias : Bias) → frames ≤ most_frames → clock_made chain frames bias ≡ Ok (ClockMade chain (rows_in_text (made_text chain frames bias)))
+made_few chain frames bias few = let test : nat_lt most_frames frames ≡ false = grind (arith, nat_tests) in rw test refl
 
-pub many_refused : (chain : Chain) (a : ShelfState) (frames : ℕ) (bias : Bias) → 16384 < frames → Performs (ClockMake chain frames bias) a a (Err (ManyFrames frames))
+pub many_refused : (chain : Chain) (a : ShelfState) (frames : ℕ) (bias : Bias) → most_frames < frames → Performs (ClockMake chain frames bias) a a (Err (ManyFrames frames))
 many_refused chain a frames bias many = record {
-  cause = λ files told. let test : nat_lt 16384 frames ≡ true = grind (arith, nat_tests) in rw test refl;
+  cause = λ files told. let test : nat_lt most_frames frames ≡ true = grind (arith, nat_tests) in rw test refl;
   outputs = refl;
   others = looks_others (IsOutput (ClockMake chain frames bias)) a a (looks_none a);
   counted = refl;
@@ -197,22 +193,22 @@ make_no_memory chain a frames bias = refuses_performs (ClockMake chain frames bi
 make_output : (chain : Chain) (frames : ℕ) (bias : Bias) → HasOutput (ClockMake chain frames bias) Schedule
 make_output chain frames bias = record { count = refl; name = refl }
 
-make_goes_on : (chain : Chain) (a : ShelfState) (frames : ℕ) (bias : Bias) → frames ≤ 16384 → GoesOn (ClockMake chain frames bias) a
+make_goes_on : (chain : Chain) (a : ShelfState) (frames : ℕ) (bias : Bias) → frames ≤ most_frames → GoesOn (ClockMake chain frames bias) a
 make_goes_on chain a frames bias few files told = ap reaches_outputs (made_few chain frames bias few)
 
-make_writes : (chain : Chain) (a : ShelfState) (frames : ℕ) (bias : Bias) (bytes : List ℕ) → frames ≤ 16384 → bytes ≡ made_text chain frames bias → Writes (ClockMake chain frames bias) a a bytes
+make_writes : (chain : Chain) (a : ShelfState) (frames : ℕ) (bias : Bias) (bytes : List ℕ) → frames ≤ most_frames → bytes ≡ made_text chain frames bias → Writes (ClockMake chain frames bias) a a bytes
 make_writes chain a frames bias bytes few same = record { looks = looks_none a; same = refl; goes_on = make_goes_on chain a frames bias few; content = λ files told. same }
 
-pub make_start_refused : (chain : Chain) (a c : ShelfState) (frames : ℕ) (bias : Bias) (stop : Stop) → frames ≤ 16384 → Touches schedule_name a c → IsStartStop Schedule a c stop → Performs (ClockMake chain frames bias) a c (Err stop)
+pub make_start_refused : (chain : Chain) (a c : ShelfState) (frames : ℕ) (bias : Bias) (stop : Stop) → frames ≤ most_frames → Touches schedule_name a c → IsStartStop Schedule a c stop → Performs (ClockMake chain frames bias) a c (Err stop)
 make_start_refused chain a c frames bias stop few touches cause =
     start_refused (ClockMake chain frames bias) Schedule a a c stop (make_output chain frames bias) (looks_none a) refl (make_goes_on chain a frames bias few) touches cause
 
-pub make_append_refused : (chain : Chain) (a c d : ShelfState) (frames : ℕ) (bias : Bias) (bytes : List ℕ) (stop : Stop) → frames ≤ 16384 → bytes ≡ made_text chain frames bias → Touches schedule_name a c → Starts schedule_name a c → Touches schedule_name c d →
+pub make_append_refused : (chain : Chain) (a c d : ShelfState) (frames : ℕ) (bias : Bias) (bytes : List ℕ) (stop : Stop) → frames ≤ most_frames → bytes ≡ made_text chain frames bias → Touches schedule_name a c → Starts schedule_name a c → Touches schedule_name c d →
     IsAppendStop Schedule bytes c d stop → Performs (ClockMake chain frames bias) a d (Err stop)
 make_append_refused chain a c d frames bias bytes stop few same starts started appends cause =
     append_refused (ClockMake chain frames bias) Schedule a a c d bytes stop (make_output chain frames bias) (make_writes chain a frames bias bytes few same) starts started appends cause
 
-pub make_done : (chain : Chain) (a c d : ShelfState) (frames : ℕ) (bias : Bias) (bytes : List ℕ) → frames ≤ 16384 → bytes ≡ made_text chain frames bias → Touches schedule_name a c → Starts schedule_name a c → Touches schedule_name c d →
+pub make_done : (chain : Chain) (a c d : ShelfState) (frames : ℕ) (bias : Bias) (bytes : List ℕ) → frames ≤ most_frames → bytes ≡ made_text chain frames bias → Touches schedule_name a c → Starts schedule_name a c → Touches schedule_name c d →
     Appends schedule_name bytes c d → Performs (ClockMake chain frames bias) a d (Ok (ClockMade chain (rows_in_text bytes)))
 make_done chain a c d frames bias bytes few same starts started touches appends =
     writing_done (ClockMake chain frames bias) Schedule a a c d bytes (ClockMade chain (rows_in_text bytes)) (make_output chain frames bias) (make_writes chain a frames bias bytes few same) starts started touches appends

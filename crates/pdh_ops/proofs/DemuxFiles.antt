@@ -1,7 +1,5 @@
 -- What the steps of `demux` leave of the files, and what the whole command comes to.
 use Rattle.std.proofs.Common.{◌≡◌, ◌≢◌, ℕ, ◌*◌, ◌<◌, ◌≤◌, List, [], ◌++◌, Option, None, Some, Ok, Err, length, take, refl, ap, sym, subst, ◌∙◌, inl, inr, arith, lit<, Vec, slice_index_or}
-use Rattle.std.proofs.Math.Seq.{take-length}
-use Rattle.std.proofs.lemmas.Bool.{cases_lt, cases_eq}
 use Rattle.std.specs.declared.alloc.Global.{Global}
 use Rattle.std.specs.Prelude.{unwrap_or}
 use Rattle.pdh_edge.specs.declared.shelf.Call.TheVariants.{Start as StartCall, Append as AppendCall}
@@ -19,7 +17,7 @@ use Rattle.pdh_ops.specs.declared.answer.Done.TheVariants.{Demuxed}
 use Rattle.pdh_ops.specs.declared.answer.Stop.{Stop}
 use Rattle.pdh_ops.specs.declared.answer.Stop.TheVariants.{NoAlignment}
 use Rattle.pdh_ops.specs.declared.file.File.{File}
-use Rattle.pdh_ops.proofs.Levels.{few_leaves}
+use Rattle.pdh_chain.proofs.ChainLaws.{few_leaves}
 use Rattle.pdh_ops.proofs.OutputNames.{output_name-differs}
 use Rattle.pdh_ops.proofs.Touching.{write_fails_since, starts_since}
 use Rattle.pdh_ops.proofs.LineStops.{BeginsWithLine}

@@ -11,7 +11,7 @@ pub mod ScheduleComes
 pub mod MuxComes
 pub mod Lists
 pub mod Firsts
-pub mod Levels
+pub mod Scheduled
 pub mod MuxMade
 pub mod MuxSent
 pub mod OneOutput

@@ -3,11 +3,11 @@ use Rattle.std.proofs.Common.{◌≡◌, ℕ, ◌/◌, ◌<◌, ◌≤◌, nat_l
 use Rattle.std.specs.Prelude.{is_ok}
 use Rattle.std.specs.Option.{option_map}
 use Rattle.std.proofs.lemmas.Bool.Decides.{nat_tests}
-use Rattle.pdh_edge.specs.declared.shelf.Call.TheVariants.{Size as SizeCall, Read as ReadCall}
-use Rattle.pdh_edge.specs.Files.{ShelfState, Looks, WhereTold, FailsToRead}
+use Rattle.pdh_edge.specs.declared.shelf.Call.TheVariants.{Read as ReadCall}
+use Rattle.pdh_edge.specs.Files.{ShelfState, Looks, WhereTold}
 use Rattle.pdh_edge.specs.Files.Told.{Known}
 use Rattle.pdh_words.specs.declared.commands.Command.{Command}
-use Rattle.pdh_ops.specs.Names.{line_name, name_of}
+use Rattle.pdh_ops.specs.Names.{line_name}
 use Rattle.pdh_ops.specs.Answer.{Answer, and_then}
 use Rattle.pdh_ops.specs.Demux.{frames_of, line_of}
 use Rattle.pdh_ops.specs.Reading.{HasLength, IsSizeStop, IsReadStop}
@@ -16,7 +16,6 @@ use Rattle.pdh_ops.specs.Commands.{AreTold, inputs, comes_to, reaches_outputs}
 use Rattle.pdh_ops.specs.Run.{FailsInTurn}
 use Rattle.pdh_ops.specs.Refusing.{Refuses}
 use Rattle.pdh_ops.specs.Steps.{FailsForLine, IsLineCause}
-use Rattle.pdh_ops.specs.declared.file.File.{File}
 use Rattle.pdh_ops.specs.declared.file.File.TheVariants.{Line}
 use Rattle.pdh_ops.specs.declared.answer.Stop.{Stop}
 use Rattle.pdh_ops.specs.declared.answer.Stop.TheVariants.{Memory, Usage, Read, Write, Missing, LongSchedule, BadRow, UnknownNode, CountOver, ShortNode, Short, Overflow, Underflow, ManyFrames, NoAlignment}
@@ -24,6 +23,7 @@ use Rattle.pdh_ops.proofs.Touching.{looks_same, read_fails_since}
 use Rattle.pdh_ops.proofs.Refusing.{size_stop, read_stop}
 use Rattle.pdh_chain.specs.declared.chain.Chain.{Chain}
 use Rattle.pdh_chain.specs.Chains.{frame_bytes_of}
+use Rattle.pdh_shape.specs.OwnNumbers.{most_frames}
 
 -- ---- the step
 
@@ -34,15 +34,15 @@ size_stops chain a b stop cause = elim (size_stop Line a b stop cause) [
 ]
 
 -- a line of so many bytes isn't refused
-served : (chain : Chain) (held : Option (List ℕ)) (bytes : ℕ) → Some bytes ≡ option_map length held → bytes / frame_bytes_of chain ≤ 16384 → is_ok (line_of chain held) ≡ true
+served : (chain : Chain) (held : Option (List ℕ)) (bytes : ℕ) → Some bytes ≡ option_map length held → bytes / frame_bytes_of chain ≤ most_frames → is_ok (line_of chain held) ≡ true
 served chain None bytes size few = absurd (cc)
 served chain (Some line) bytes size few =
     let same : bytes ≡ length line = cc in
-    let few' : frames_of chain line ≤ 16384 = subst (λ n. n / frame_bytes_of chain ≤ 16384) same few in
-    let test : nat_lt 16384 (frames_of chain line) ≡ false = grind (arith, nat_tests) in
+    let few' : frames_of chain line ≤ most_frames = subst (λ n. n / frame_bytes_of chain ≤ most_frames) same few in
+    let test : nat_lt most_frames (frames_of chain line) ≡ false = grind (arith, nat_tests) in
     rw test refl
 
-pub read_stops : (chain : Chain) (a s b : ShelfState) (bytes : ℕ) (stop : Stop) → Looks a s → s.counts ≡ a.counts → HasLength line_name bytes s → bytes / frame_bytes_of chain ≤ 16384 → IsReadStop Line s b stop → IsLineCause chain a b stop
+pub read_stops : (chain : Chain) (a s b : ShelfState) (bytes : ℕ) (stop : Stop) → Looks a s → s.counts ≡ a.counts → HasLength line_name bytes s → bytes / frame_bytes_of chain ≤ most_frames → IsReadStop Line s b stop → IsLineCause chain a b stop
 read_stops chain a s b bytes stop looks same known few cause = elim (read_stop Line s b stop cause) [
   | inl none ↦ subst (IsLineCause chain a b) (sym none) tt
   | inr fails ↦ subst (IsLineCause chain a b) (sym fails.0) (

@@ -1,5 +1,5 @@
 -- What the steps of `mux` before its outputs come to.
-use Rattle.std.proofs.Common.{◌≡◌, ℕ, suc, zero, ◌*◌, ◌<◌, ◌≤◌, nat_lt, List, [], Option, None, Some, Ok, Err, true, false, length, refl, ap, sym, ◌∙◌, inl, inr, subst, arith}
+use Rattle.std.proofs.Common.{◌≡◌, ℕ, suc, zero, ◌*◌, ◌<◌, ◌≤◌, nat_lt, List, [], Option, None, Some, Ok, Err, true, false, length, refl, ap, sym, ◌∙◌, subst, arith}
 use Rattle.std.specs.Prelude.{is_none, unwrap_or, slice_index, find}
 use Rattle.std.specs.Option.{option_map, option_map_or}
 use Rattle.std.specs.List.{range_with_len}
@@ -32,6 +32,7 @@ use Rattle.pdh_ops.specs.declared.answer.Stop.{Stop}
 use Rattle.pdh_ops.specs.declared.answer.Stop.TheVariants.{Memory, Usage, Read, Write, Missing, LongSchedule, BadRow, UnknownNode, CountOver, ShortNode, Short, Overflow, Underflow, ManyFrames, NoAlignment}
 use Rattle.pdh_ops.proofs.Touching.{has_length_still}
 use Rattle.pdh_chain.specs.declared.chain.Chain.{Chain}
+use Rattle.pdh_shape.specs.OwnNumbers.{most_frames}
 
 -- ---- the inputs as they are told
 
@@ -170,7 +171,7 @@ long_enough chain sizes a rows files k low are told long = let e = held_is chain
 short_comes : (chain : Chain) (sizes : InputSizes) (a : ShelfState) (rows : List Row) (k have need : ℕ) (files : Files) → AreSizes chain sizes a → AreTold (Mux chain) a.told files → IsShort chain rows sizes k have need →
     muxed chain files rows ≡ Err (Short (Leaf k) have need)
 short_comes chain sizes a rows k have need files are told short =
-    let few : nat_lt 16384 (frames_in rows) ≡ false = let f = short.few in grind (arith, nat_tests) in
+    let few : nat_lt most_frames (frames_in rows) ≡ false = let f = short.few in grind (arith, nat_tests) in
     let e = held_is chain sizes a files k short.leaf are told in
     let have_is : bits_held files k ≡ have = e ∙ sym short.have_is in
     let here : nat_lt (bits_held files k) (bits_needed chain rows k) ≡ true = let f = short.short in let n = short.need_is in grind (arith, nat_tests) in
@@ -180,19 +181,19 @@ short_comes chain sizes a rows k have need files are told short =
 -- a node is the first that is too short
 node_comes : (chain : Chain) (rows : List Row) (node : Path) (have need : ℕ) (files : Files) → IsShortNode chain rows node have need → muxed chain files rows ≡ Err (ShortNode node have need)
 node_comes chain rows node have need files short =
-    let few : nat_lt 16384 (frames_in rows) ≡ false = let f = short.few in grind (arith, nat_tests) in
+    let few : nat_lt most_frames (frames_in rows) ≡ false = let f = short.few in grind (arith, nat_tests) in
     rw few (stops (short_node chain rows) _ short.first)
   where
     stops : (first : Option Shortage) (rest : Answer) → option_map stop_of_shortage first ≡ Some (ShortNode node have need) → option_map_or (λ short. Err (stop_of_shortage short)) first rest ≡ Err (ShortNode node have need)
     stops None rest e = absurd (cc)
     stops (Some first) rest e = cc
 
-many_comes : (chain : Chain) (rows : List Row) (files : Files) → 16384 < frames_in rows → muxed chain files rows ≡ Err (ManyFrames (frames_in rows))
-many_comes chain rows files h = let many : nat_lt 16384 (frames_in rows) ≡ true = grind (arith, nat_tests) in rw many refl
+many_comes : (chain : Chain) (rows : List Row) (files : Files) → most_frames < frames_in rows → muxed chain files rows ≡ Err (ManyFrames (frames_in rows))
+many_comes chain rows files h = let many : nat_lt most_frames (frames_in rows) ≡ true = grind (arith, nat_tests) in rw many refl
 
 pub enough_refuses : (chain : Chain) (sizes : InputSizes) (rows : List Row) (a b : ShelfState) (stop : Stop) → AreSizes chain sizes a → HasRows chain a rows → IsEnoughStop chain rows sizes stop → Refuses (Mux chain) a b stop
 enough_refuses chain sizes rows a b (ManyFrames n) are has cause = λ files told.
-    ap (λ m. Err (ManyFrames m)) cause.0 ∙ sym (comes_muxed chain a rows files (all_are_held chain sizes a are) has told ∙ many_comes chain rows files (subst (λ m. 16384 < m) cause.0 cause.1))
+    ap (λ m. Err (ManyFrames m)) cause.0 ∙ sym (comes_muxed chain a rows files (all_are_held chain sizes a are) has told ∙ many_comes chain rows files (subst (λ m. most_frames < m) cause.0 cause.1))
 enough_refuses chain sizes rows a b (ShortNode node have need) are has cause = λ files told.
     sym (comes_muxed chain a rows files (all_are_held chain sizes a are) has told ∙ node_comes chain rows node have need files cause)
 enough_refuses chain sizes rows a b (Short (Leaf k) have need) are has cause = λ files told.

@@ -31,6 +31,7 @@ use Rattle.pdh_ops.proofs.OneOutput.{HasOutput, Writes, touches_again, others, s
 use Rattle.pdh_ops.proofs.MuxComes.{all_are_held, sizes_since, of_inputs_since, comes_muxed, no_short_leaf, long_enough}
 use Rattle.pdh_chain.specs.declared.chain.Chain.{Chain}
 use Rattle.pdh_chain.specs.Chains.{shapes_of, leaves_of}
+use Rattle.pdh_shape.specs.OwnNumbers.{most_frames}
 
 -- what the steps before the outputs have found
 pub record IsReady (chain : Chain) (a b : ShelfState) (sizes : InputSizes) (rows : List Row) (frames : ℕ) (leaves : List (Vec Bool Global)) : Type 0 where
@@ -60,9 +61,9 @@ told_now chain a b files looks told = subst (λ (t : List ℕ → Told). AreTold
 abbrev run_answer : (chain : Chain) → List Row → Answer
 run_answer chain rows = option_map_or (λ event. Err (stop_of_event event)) (event_of chain rows) (Ok (Muxed chain (frames_in rows)))
 
-runs_to : (chain : Chain) (files : Files) (rows : List Row) → frames_in rows ≤ 16384 → short_node chain rows ≡ None → ((i : ℕ) → i < leaves_of chain → nat_lt (bits_held files i) (bits_needed chain rows i) ≡ false) → muxed chain files rows ≡ run_answer chain rows
+runs_to : (chain : Chain) (files : Files) (rows : List Row) → frames_in rows ≤ most_frames → short_node chain rows ≡ None → ((i : ℕ) → i < leaves_of chain → nat_lt (bits_held files i) (bits_needed chain rows i) ≡ false) → muxed chain files rows ≡ run_answer chain rows
 runs_to chain files rows few scheduled long =
-    let test : nat_lt 16384 (frames_in rows) ≡ false = grind (arith, nat_tests) in
+    let test : nat_lt most_frames (frames_in rows) ≡ false = grind (arith, nat_tests) in
     rw (test, scheduled, no_short_leaf chain files rows long) refl
 
 enough_comes : (chain : Chain) (a : ShelfState) (sizes : InputSizes) (rows : List Row) (frames : ℕ) (files : Files) → AreSizes chain sizes a → HasRows chain a rows → AreEnough chain rows sizes frames → AreTold (Mux chain) a.told files →

@@ -25,7 +25,7 @@ use Rattle.pdh_clock.specs.declared.fault.ScheduleFault.{ScheduleFault}
 use Rattle.pdh_clock.proofs.Laws.{schedule_of_sound}
 use Rattle.pdh_chain.specs.declared.chain.Chain.{Chain}
 use Rattle.pdh_chain.specs.Chains.{shapes_of, levels_of, leaves_of, frame_bytes_of}
-use Rattle.pdh_chain.proofs.ChainLaws.{are_frames}
+use Rattle.pdh_chain.proofs.ChainLaws.{are_frames, some_bits, whole_bytes}
 use Rattle.pdh_ops.specs.Names.{schedule_name, leaf_name}
 use Rattle.pdh_ops.specs.Answer.{Answer, and_then, status_of}
 use Rattle.pdh_ops.specs.Schedules.{Files, bytes_in, rows_of, rows_or_stop, rows_in, frames_in}
@@ -41,9 +41,10 @@ use Rattle.pdh_ops.specs.declared.answer.Done.TheVariants.{Muxed}
 use Rattle.pdh_ops.specs.declared.answer.Stop.{Stop}
 use Rattle.pdh_ops.specs.declared.answer.Stop.TheVariants.{Memory, Usage, Read, Write, Missing, LongSchedule, BadRow, UnknownNode, CountOver, ShortNode, Short, Overflow, Underflow, ManyFrames, NoAlignment}
 use Rattle.pdh_ops.specs.declared.file.File.TheVariants.{Leaf}
-use Rattle.pdh_ops.proofs.Levels.{leaves-are, some_bits, whole_bytes, arrive_singly}
+use Rattle.pdh_ops.proofs.Scheduled.{arrive_singly}
 use Rattle.pdh_ops.proofs.MuxComes.{each_long}
 use Rattle.pdh_ops.proofs.MuxMade.{all_made}
+use Rattle.pdh_shape.specs.OwnNumbers.{most_frames}
 
 -- ---- what holds where the command did its work
 
@@ -72,7 +73,7 @@ pub record IsDone (chain : Chain) (files : Files) (rows : List Row) : Type 0 whe
   pub long : (k : ℕ) → k < leaves_of chain → nat_lt (bits_held files k) (bits_needed chain rows k) ≡ false
 
 muxed_done : (chain : Chain) (files : Files) (rows : List Row) (done : Done) → ◌≡◌ {A = Answer} (Ok done) (muxed chain files rows) → IsDone chain files rows
-muxed_done chain files rows done h = go (nat_lt 16384 (frames_in rows)) (short_node chain rows) (short_leaf chain files rows) (event_of chain rows) refl refl refl h
+muxed_done chain files rows done h = go (nat_lt most_frames (frames_in rows)) (short_node chain rows) (short_leaf chain files rows) (event_of chain rows) refl refl refl h
   where
     go : (many : Bool) (node : Option Shortage) (short : Option ℕ) (event : Option Event) → short_node chain rows ≡ node → short_leaf chain files rows ≡ short → event_of chain rows ≡ event →
         ◌≡◌ {A = Answer} (Ok done) (cond many (Err (ManyFrames (frames_in rows)))
@@ -157,7 +158,7 @@ gives chain files line leaf n did is low few =
     prefix_of _ (leaf_bits files leaf) _
     (ap (λ bits. far (shapes_of chain) bits leaf) (line_front chain files rows line n did.done is there)
     ∙ far-prefix (shapes_of chain) (counts rows) (λ leaf i. slice_index_or (leaf_bits files leaf) i false) (leaf_bits files) (λ n. idle) (frames_in rows) n leaf (are_frames chain) (λ k i. refl)
-    (arrive_singly chain rows (line_len chain rows) (rows_sound chain (bytes_in files schedule_name) rows did.rows)) quiet (long_there chain files rows leaf did.done low) there (subst (λ n. leaf < n) (leaves-are chain) low))
+    (arrive_singly chain rows (line_len chain rows) (rows_sound chain (bytes_in files schedule_name) rows did.rows)) quiet (long_there chain files rows leaf did.done low) there (low))
 
 -- ---- the run
 

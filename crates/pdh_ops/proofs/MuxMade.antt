@@ -24,7 +24,7 @@ use Rattle.pdh_chain.specs.Muxes.{PutsFrames, Muxes, StopsAtEvent, frames_of_lin
 use Rattle.pdh_ops.specs.Schedules.{frames_in}
 use Rattle.pdh_ops.specs.Mux.{line_len, event_of, has_event, frames_made, stop_of_kind}
 use Rattle.pdh_ops.specs.MuxSteps.{AreBits, IsSent, IsMade}
-use Rattle.pdh_ops.proofs.Levels.{leaves-are, some_bits}
+use Rattle.pdh_chain.proofs.ChainLaws.{some_bits}
 use Rattle.pdh_edge.specs.MemLists.{inputs_of, outputs_of, items_of}
 use Rattle.pdh_ops.specs.declared.answer.Stop.{Stop}
 use Rattle.pdh_ops.specs.declared.answer.Stop.TheVariants.{Overflow, Underflow}
@@ -59,7 +59,7 @@ put_line chain rows leaves inputs inputs_now outputs outputs_now line frames lis
   where
     agrees : (k i : ℕ) → k < width (shapes_of chain) → i < length (puts.given k) → slice_index_or (puts.given k) i false ≡ slice_index_or (lists k) i false
     agrees k i known h =
-        let low : k < leaves_of chain = subst (λ n. k < n) (sym (leaves-are chain)) known in
+        let low : k < leaves_of chain = known in
         let here : k < length leaves = subst (λ n. k < n) (sym is.all) low in
         let told : inputs.told k ≡ Some (lists k) = ap (λ (o : Inputs). o.told k) is.inputs_are ∙ told_list leaves k here (lists k) (λ d. bits k d low) in
         begins (inputs_now.told k) (puts.given k) (lists k) (sym told ∙ puts.takes.bits k) i h

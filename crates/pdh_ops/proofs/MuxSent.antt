@@ -1,17 +1,19 @@
 -- What making the line of `mux` never meets: a node without frames, a list that is used up, a call that failed.
-use Rattle.std.proofs.Common.{◌≡◌, ℕ, zero, suc, ◌+◌, ◌*◌, ◌<◌, ◌≤◌, inl, inr, List, [], ◌∷◌, Vec, Bool, None, length, refl, ap, sym, ◌∙◌, subst, arith}
+use Rattle.std.proofs.Common.{◌≡◌, ℕ, zero, suc, ◌*◌, ◌<◌, ◌≤◌, inl, inr, List, [], ◌∷◌, Vec, Bool, length, refl, ap, sym, ◌∙◌, subst, arith}
 use Rattle.std.specs.Prelude.{IsTrue, map, nat_lt, slice_get, slice_index_or}
 use Rattle.std.specs.declared.alloc.Global.{Global}
 use Rattle.std.proofs.lemmas.Bool.{ltb-true}
 use Rattle.pdh_shape.specs.Frame.{FrameShape}
 use Rattle.pdh_shape.specs.declared.place.Path.{Path}
-use Rattle.pdh_line.specs.Sending.{taken}
+use Rattle.pdh_line.specs.Sending.{given}
 use Rattle.pdh_edge.specs.Files.{Rose}
 use Rattle.pdh_edge.specs.Ports.{Inputs, Outputs}
 use Rattle.pdh_edge.specs.MemLists.{inputs_of, outputs_of, items_of, length_of, bits_held}
-use Rattle.pdh_nesting.specs.Chains.{width, child, top_len}
-use Rattle.pdh_nesting.specs.Sending.{Counts, AllScheduled, given_below}
+use Rattle.pdh_nesting.specs.Chains.{top_len}
+use Rattle.pdh_line.specs.Nodes.{child, Counts}
+use Rattle.pdh_nesting.specs.Sending.{AllScheduled, given_below}
 use Rattle.pdh_nesting.proofs.Given.{given-entered}
+use Rattle.pdh_nesting.proofs.Scheduled.{scheduled-top, scheduled-below}
 use Rattle.pdh_clock.specs.Row.{Row}
 use Rattle.pdh_clock.specs.Contents.{counts, frame_count}
 use Rattle.pdh_chain.specs.declared.chain.Chain.{Chain}
@@ -20,26 +22,24 @@ use Rattle.pdh_chain.specs.Muxes.{LacksFrames, LacksBelow, StopsForFrame, StopsA
 use Rattle.pdh_chain.proofs.ChainLaws.{are_frames}
 use Rattle.pdh_chain.proofs.ShortLists.{mux_short}
 use Rattle.pdh_ops.specs.Schedules.{frames_in}
-use Rattle.pdh_ops.specs.Mux.{short_node, bits_needed}
 use Rattle.pdh_ops.specs.MuxSteps.{CanSend}
-use Rattle.pdh_ops.proofs.Levels.{leaves-are, all_scheduled}
+use Rattle.pdh_ops.proofs.Scheduled.{all_scheduled}
 
 -- ---- frames
 
 -- where each node has the frames that it begins, none lacks one
 none_lacks : (shapes : List FrameShape) (counts : Counts) (scheduled : List ℕ → ℕ) (path : List ℕ) (x : ℕ) (node : List ℕ) → AllScheduled shapes counts scheduled path x → LacksFrames shapes counts scheduled path x node → ⊥
-unfolding AllScheduled LacksFrames
+unfolding LacksFrames
 none_lacks [] counts scheduled path x node all lacks = lacks
 none_lacks (s ∷ below) counts scheduled path x node all lacks = elim lacks [
-  | inl here ↦ omega (arith, here.1, all.0)
-  | inr there ↦ none_lacks below counts scheduled (child path there.0) (taken s (counts path there.0) x) node (all.1 there.0 there.1) there.2
+  | inl here ↦ omega (arith, here.1, scheduled-top s below counts scheduled path x all)
+  | inr there ↦ none_lacks below counts scheduled (child path there.0) (given s there.0 (counts path there.0) x) node (scheduled-below s below counts scheduled path x there.0 there.1 all) there.2
 ]
 
 none_lacks_below : (shapes : List FrameShape) (counts : Counts) (scheduled : List ℕ → ℕ) (x : ℕ) (node : List ℕ) → AllScheduled shapes counts scheduled [] x → LacksBelow shapes counts scheduled x node → ⊥
-unfolding AllScheduled
 none_lacks_below [] counts scheduled x node all lacks = lacks
 none_lacks_below (s ∷ below) counts scheduled x node all lacks =
-    none_lacks below counts scheduled (child [] lacks.0) (taken s (counts [] lacks.0) x) node (all.1 lacks.0 lacks.1) lacks.2
+    none_lacks below counts scheduled (child [] lacks.0) (given s lacks.0 (counts [] lacks.0) x) node (scheduled-below s below counts scheduled [] x lacks.0 lacks.1 all) lacks.2
 
 pub has_frames : (chain : Chain) (rows : List Row) (frames : ℕ) (inputs : Inputs) (node : Path) → CanSend chain rows frames inputs → StopsForFrame (shapes_of chain) (counts rows) (frame_count rows) frames node → ⊥
 has_frames chain rows frames inputs node can stops =
@@ -51,7 +51,7 @@ has_frames chain rows frames inputs node can stops =
 -- where each leaf's list has what must enter, none is used up
 pub has_bits : (chain : Chain) (rows : List Row) (frames leaf : ℕ) (inputs inputs_now : Inputs) → CanSend chain rows frames inputs → StopsAtEnd (shapes_of chain) (counts rows) frames leaf inputs inputs_now → ⊥
 has_bits chain rows frames leaf inputs inputs_now can stops =
-    let low : leaf < leaves_of chain = subst (λ n. leaf < n) (sym (leaves-are chain)) stops.known in
+    let low : leaf < leaves_of chain = stops.known in
     let same : frames * top_len (shapes_of chain) ≡ frames_in rows * top_len (shapes_of chain) = ap (λ n. n * top_len (shapes_of chain)) can.frames_are in
     let entered = given-entered (shapes_of chain) (counts rows) [] (frames_in rows * top_len (shapes_of chain)) leaf (are_frames chain) in
     omega (arith, subst (λ x. inputs.left leaf < given_below (shapes_of chain) (counts rows) [] x leaf) same stops.short, entered, can.long leaf low)

@@ -22,7 +22,7 @@ use Rattle.pdh_clock.specs.declared.fault.ScheduleFault.{ScheduleFault}
 use Rattle.pdh_clock.specs.declared.fault.ScheduleFault.TheVariants.{TooLong, BadRow as RowIsBad, UnknownNode as NodeIsUnknown, CountOver as CountIsOver, Memory as NoMemory}
 use Rattle.pdh_chain.specs.declared.chain.Chain.{Chain}
 use Rattle.pdh_chain.specs.Chains.{shapes_of, levels_of, leaves_of, delay_of}
-use Rattle.pdh_chain.proofs.ChainLaws.{are_frames}
+use Rattle.pdh_chain.proofs.ChainLaws.{are_frames, read_evenly, all_stores}
 use Rattle.pdh_ops.specs.Names.{name_of, schedule_name}
 use Rattle.pdh_ops.specs.Answer.{Answer, and_then, status_of}
 use Rattle.pdh_ops.specs.Schedules.{Files, bytes_in, rows_of, rows_or_stop, rows_in, frames_in, stop_of_fault}
@@ -37,8 +37,9 @@ use Rattle.pdh_ops.specs.declared.file.File.TheVariants.{Leaf}
 use Rattle.pdh_ops.specs.declared.answer.Done.TheVariants.{Muxed}
 use Rattle.pdh_ops.specs.declared.answer.Stop.{Stop}
 use Rattle.pdh_ops.specs.declared.answer.Stop.TheVariants.{Memory, Usage, Read, Write, Missing, LongSchedule, BadRow, UnknownNode, CountOver, ShortNode, Short, Overflow, Underflow, ManyFrames, NoAlignment}
-use Rattle.pdh_ops.proofs.Levels.{leaves-are, have_stores, all_scheduled, scheduled-fewer}
+use Rattle.pdh_ops.proofs.Scheduled.{all_scheduled, scheduled-fewer}
 use Rattle.pdh_ops.proofs.MuxGivesBack.{DidMux, mux_done, frames_there, line_front, stop_status}
+use Rattle.pdh_shape.specs.OwnNumbers.{most_frames}
 
 -- ---- no event
 
@@ -51,7 +52,7 @@ all_within chain files none within =
 within_none : (chain : Chain) (files : Files) → short_node chain (rows_in chain files) ≡ None → AreWithin chain files → event_of chain (rows_in chain files) ≡ None
 unfolding event_of
 within_none chain files none within =
-    first_event-none (shapes_of chain) (counts (rows_in chain files)) (frames_in (rows_in chain files)) (are_frames chain) (have_stores chain) (all_within chain files none within)
+    first_event-none (shapes_of chain) (counts (rows_in chain files)) (frames_in (rows_in chain files)) (are_frames chain) (read_evenly chain) (all_within chain files none within)
 
 -- an answer that names an event
 abbrev names_event : Answer → Bool
@@ -60,7 +61,7 @@ names_event (Err (Underflow place)) = true
 names_event answer = false
 
 muxed_none : (chain : Chain) (files : Files) (rows : List Row) → (short_node chain rows ≡ None → event_of chain rows ≡ None) → names_event (muxed chain files rows) ≡ false
-muxed_none chain files rows none = go (nat_lt 16384 (frames_in rows)) (short_node chain rows) (short_leaf chain files rows) (event_of chain rows) none
+muxed_none chain files rows none = go (nat_lt most_frames (frames_in rows)) (short_node chain rows) (short_leaf chain files rows) (event_of chain rows) none
   where
     go : (many : Bool) (node : Option Shortage) (short : Option ℕ) (event : Option Event) → (node ≡ None → event ≡ None) →
         names_event (cond many (Err (ManyFrames (frames_in rows)))
@@ -131,13 +132,13 @@ behind : (chain : Chain) (files : Files) (line : List ℕ) (leaf n : ℕ) → Di
 behind chain files line leaf n did is low few within =
     let rows : List Row = rows_in chain files in
     let x : ℕ = n * top_len (shapes_of chain) in
-    let known : leaf < width (shapes_of chain) = subst (λ n. leaf < n) (leaves-are chain) low in
+    let known : leaf < width (shapes_of chain) = low in
     let there = frames_there chain files rows line n did.done is few in
     let got : length (far (shapes_of chain) (take x (bits_of line)) leaf) ≡ back_below (shapes_of chain) (counts rows) [] x leaf =
     ap (λ bits. length (far (shapes_of chain) bits leaf)) (line_front chain files rows line n did.done is there)
     ∙ far-length (shapes_of chain) (counts rows) (λ leaf i. slice_index_or (leaf_bits files leaf) i false) (λ n. idle) [] 0 x leaf (are_frames chain) known in
-    let scheduled = scheduled-fewer (shapes_of chain) (counts rows) (frame_count rows) [] x (line_len chain rows) (are_frames chain) (mul-le-mul_right (top_len (shapes_of chain)) there) (all_scheduled chain rows did.done.scheduled) in
-    let short = delayed (shapes_of chain) (counts rows) n leaf (are_frames chain) (have_stores chain) (scheduled-within (shapes_of chain) (counts rows) (frame_count rows) [] x scheduled within) known in
+    let scheduled = scheduled-fewer (shapes_of chain) (counts rows) (frame_count rows) [] x (line_len chain rows) (are_frames chain) (all_stores chain) (mul-le-mul_right (top_len (shapes_of chain)) there) (all_scheduled chain rows did.done.scheduled) in
+    let short = delayed (shapes_of chain) (counts rows) n leaf (are_frames chain) (scheduled-within (shapes_of chain) (counts rows) (frame_count rows) [] x scheduled within) known in
     subst (λ k. entered_below (shapes_of chain) (counts rows) [] x leaf ≤ k + delay_of chain) (sym got) short
 
 answer_delayed : (chain : Chain) (a b : ShelfState) (k l : SinkState) (status : ℕ) (answer : Answer) → Performs (Mux chain) a b answer → IsTold answer k l status → IsDelayed (Some (Mux chain)) a b status

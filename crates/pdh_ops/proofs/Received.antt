@@ -16,7 +16,6 @@ use Rattle.pdh_chain.proofs.ChainLaws.{are_frames}
 use Rattle.pdh_chain.proofs.ShortLists.{demux_short}
 use Rattle.pdh_ops.specs.Demux.{output_of}
 use Rattle.pdh_ops.specs.Steps.{AreBytes, IsReceived}
-use Rattle.pdh_ops.proofs.Levels.{leaves-are}
 use Rattle.pdh_ops.specs.declared.demux.Received.{Received}
 
 -- ---- empty lists
@@ -40,8 +39,7 @@ shares_in_room chain bits k room inputs inputs_now outputs outputs_now opened ho
     let low : k < leaves_of chain = omega (arith, less, length-replicate {A = List Bool} (leaves_of chain) []) in
     let empty : bits_held outputs k ≡ 0 = ap (λ (o : Outputs). bits_held o k) opened ∙ ap length_of (empty_list (leaves_of chain) k low) in
     let most = demux_short (shapes_of chain) bits inputs inputs_now outputs outputs_now (are_frames chain) put k in
-    let share : bits / width (shapes_of chain) ≡ bits / leaves_of chain = ap (λ n. bits / n) (sym (leaves-are chain)) in
-    omega (arith, most, empty, share, enough k low)
+    omega (arith, most, empty, enough k low)
 
 -- ---- the line
 
@@ -57,7 +55,7 @@ all_given (Some rest) given bits told long =
 list_put : (chain : Chain) (given : List Bool) (k : ℕ) (outputs outputs_now : Outputs) → k < leaves_of chain → outputs.told k ≡ Some [] → outputs_now.told k ≡ after (received_of (shapes_of chain) given k) (outputs.told k) →
     outputs_now.told k ≡ Some (far (shapes_of chain) given k)
 list_put chain given k outputs outputs_now low empty put =
-    let known : nat_lt k (width (shapes_of chain)) ≡ true = ap (nat_lt k) (sym (leaves-are chain)) ∙ lt-ltb k (leaves_of chain) low in
+    let known : nat_lt k (width (shapes_of chain)) ≡ true = lt-ltb k (leaves_of chain) low in
     let bits : received_of (shapes_of chain) given k ≡ far (shapes_of chain) given k = rw known refl in
     put ∙ ap (after (received_of (shapes_of chain) given k)) empty ∙ ap Some bits
 

@@ -25,24 +25,25 @@ use Rattle.pdh_ops.specs.declared.answer.Stop.{Stop}
 use Rattle.pdh_ops.specs.declared.answer.Stop.TheVariants.{Memory, Usage, Read, Write, Missing, LongSchedule, BadRow, UnknownNode, CountOver, ShortNode, Short, Overflow, Underflow, ManyFrames, NoAlignment}
 use Rattle.pdh_chain.specs.declared.chain.Chain.{Chain}
 use Rattle.pdh_chain.specs.Chains.{levels_of}
+use Rattle.pdh_shape.specs.OwnNumbers.{most_bytes}
 
 -- ---- the step
 
-long_rows : (chain : Chain) (text : List ℕ) → 33554432 < length text → rows_of chain text ≡ Err LongSchedule
+long_rows : (chain : Chain) (text : List ℕ) → most_bytes < length text → rows_of chain text ≡ Err LongSchedule
 unfolding rows_of schedule_of
-long_rows chain text h = let test : nat_lt 33554432 (length text) ≡ true = grind (arith, nat_tests) in rw test refl
+long_rows chain text h = let test : nat_lt most_bytes (length text) ≡ true = grind (arith, nat_tests) in rw test refl
 
-short_text : (held : Option (List ℕ)) (bytes : ℕ) → Some bytes ≡ option_map length held → bytes ≤ 33554432 → length (unwrap_or held []) ≤ 33554432
+short_text : (held : Option (List ℕ)) (bytes : ℕ) → Some bytes ≡ option_map length held → bytes ≤ most_bytes → length (unwrap_or held []) ≤ most_bytes
 short_text None bytes e few = absurd (cc)
 short_text (Some text) bytes e few = let same : bytes ≡ length text = cc in omega arith
 
-pub long_stops : (chain : Chain) (a : ShelfState) (bytes : ℕ) → HasLength schedule_name bytes a → 33554432 < bytes → RowsAre chain a (Err LongSchedule)
+pub long_stops : (chain : Chain) (a : ShelfState) (bytes : ℕ) → HasLength schedule_name bytes a → most_bytes < bytes → RowsAre chain a (Err LongSchedule)
 long_stops chain a bytes known long text told =
     let e : Some bytes ≡ Some (length text) = known.told (Some text) told in
     let same : bytes ≡ length text = cc in
-    long_rows chain text (subst (λ n. 33554432 < n) same long)
+    long_rows chain text (subst (λ n. most_bytes < n) same long)
 
-pub read_stops : (chain : Chain) (a b : ShelfState) (bytes : ℕ) (stop : Stop) → HasLength schedule_name bytes a → bytes ≤ 33554432 → IsReadStop Schedule a b stop → IsScheduleStop chain a b stop
+pub read_stops : (chain : Chain) (a b : ShelfState) (bytes : ℕ) (stop : Stop) → HasLength schedule_name bytes a → bytes ≤ most_bytes → IsReadStop Schedule a b stop → IsScheduleStop chain a b stop
 read_stops chain a b bytes stop known few cause = elim (read_stop Schedule a b stop cause) [
   | inl none ↦ subst (IsScheduleStop chain a b) (sym none) tt
   | inr fails ↦ subst (IsScheduleStop chain a b) (sym fails.0) (refl, fails.1, λ held told. short_text held bytes (known.told held told) few)
@@ -82,7 +83,7 @@ pub record HasSchedule (command : Command) (k : ℕ) (a : ShelfState) : Type 0 w
   pub held : OfInputs command a (AreHeld command (inputs command).count)
 
 -- a call for its text failed in its turn
-text_fails : (command : Command) (k : ℕ) (a b : ShelfState) → HasSchedule command k a → FailsToRead ReadCall schedule_name a b → WhereTold (a.told schedule_name) (λ held. length (unwrap_or held []) ≤ 33554432) → FailsInTurn command Schedule a b
+text_fails : (command : Command) (k : ℕ) (a b : ShelfState) → HasSchedule command k a → FailsToRead ReadCall schedule_name a b → WhereTold (a.told schedule_name) (λ held. length (unwrap_or held []) ≤ most_bytes) → FailsInTurn command Schedule a b
 text_fails command k a b has fails short = record {
   at = k;
   known = has.known;

@@ -1,7 +1,7 @@
 -- What a run answers: its status and its text.
 use Rattle.std.specs.Prelude.{ℕ, List, ◌++◌, codes, decimal, Result, Ok, Err}
 use Rattle.pdh_shape.specs.declared.place.Place.{Place}
-use Rattle.pdh_words.specs.Paths.{path_text}
+use Rattle.pdh_line.specs.Paths.{steps_of, path_text}
 use Rattle.pdh_chain.specs.Chains.{name_of as name_of_chain}
 use Rattle.pdh_ops.specs.Names.{name_of}
 use Rattle.pdh_ops.specs.declared.answer.Done.{Done}
@@ -39,12 +39,12 @@ status_of (NoAlignment bits) = 11
 -- a place as texts have it: tributaries are counted from 1, frames and slots from 0
 abbrev pub place_text : Place → List ℕ
 place_text place =
-    path_text place.path ++ codes " tributary " ++ decimal place.trib ++ codes " frame " ++ decimal place.frame ++ codes " slot " ++ decimal place.slot
+    path_text (steps_of place.path) ++ codes " tributary " ++ decimal place.trib ++ codes " frame " ++ decimal place.frame ++ codes " slot " ++ decimal place.slot
 
 -- a tributary that isn't within the tolerance, and the run of frames that shows it: the frame behind the run is named
 abbrev pub outside_text : OutOfTolerance → List ℕ
 outside_text out =
-    path_text out.node ++ codes " tributary " ++ decimal out.trib ++ codes " frames " ++ decimal out.run.from ++ codes " to " ++ decimal out.run.to ++ codes " sum " ++ decimal out.run.sum
+    path_text (steps_of out.node) ++ codes " tributary " ++ decimal out.trib ++ codes " frames " ++ decimal out.run.from ++ codes " to " ++ decimal out.run.to ++ codes " sum " ++ decimal out.run.sum
 
 -- each text is one line
 abbrev pub done_text : Done → List ℕ
@@ -64,7 +64,7 @@ stop_text LongSchedule = codes "schedule: too long\n"
 stop_text (BadRow line) = codes "schedule: line " ++ decimal line ++ codes ": bad row\n"
 stop_text (UnknownNode line) = codes "schedule: line " ++ decimal line ++ codes ": unknown node\n"
 stop_text (CountOver line count most) = codes "schedule: line " ++ decimal line ++ codes ": count " ++ decimal count ++ codes " over " ++ decimal most ++ codes "\n"
-stop_text (ShortNode node have need) = codes "short: " ++ path_text node ++ codes ": have " ++ decimal have ++ codes " frames, need " ++ decimal need ++ codes "\n"
+stop_text (ShortNode node have need) = codes "short: " ++ path_text (steps_of node) ++ codes ": have " ++ decimal have ++ codes " frames, need " ++ decimal need ++ codes "\n"
 stop_text (Short file have need) = codes "short: " ++ name_of file ++ codes ": have " ++ decimal have ++ codes " bits, need " ++ decimal need ++ codes "\n"
 stop_text (Overflow place) = codes "overflow: " ++ place_text place ++ codes "\n"
 stop_text (Underflow place) = codes "underflow: " ++ place_text place ++ codes "\n"

@@ -4,9 +4,9 @@ use Rattle.std.specs.List.{range_with_len}
 use Rattle.std.specs.Option.{option_map_or}
 use Rattle.pdh_clock.specs.declared.bias.Bias.{Bias}
 use Rattle.pdh_chain.specs.Chains.{levels_of}
-use Rattle.pdh_chain.specs.Trees.{path_of}
+use Rattle.pdh_line.specs.Paths.{path_of}
 use Rattle.pdh_chain.specs.declared.chain.Chain.{Chain}
-use Rattle.pdh_clock.specs.Chain.{nodes_of, stores_at, low_at}
+use Rattle.pdh_levels.specs.Levels.{nodes_in, stores_at, low_at}
 use Rattle.pdh_clock.specs.Row.{Row}
 use Rattle.pdh_clock.specs.Contents.{Contents, counts, frame_count}
 use Rattle.pdh_rows.specs.Outside.{Run, first_outside}
@@ -20,6 +20,7 @@ use Rattle.pdh_ops.specs.declared.answer.OutOfTolerance.{OutOfTolerance}
 use Rattle.pdh_ops.specs.declared.answer.Done.{Done}
 use Rattle.pdh_ops.specs.declared.answer.Done.TheVariants.{ClockInside, ClockOutside, ClockMade}
 use Rattle.pdh_ops.specs.declared.answer.Stop.TheVariants.{ManyFrames}
+use Rattle.pdh_shape.specs.OwnNumbers.{most_frames}
 
 -- ---- `clock check`
 
@@ -52,7 +53,7 @@ first_of chain clock (path ∷ paths) = option_map_or (ClockOutside chain) (firs
 
 -- the nodes in order, each before those below it
 unfoldable pub checked : Chain → List Row → Done
-checked chain rows = first_of chain (contents_of chain rows) (nodes_of (levels_of chain))
+checked chain rows = first_of chain (contents_of chain rows) (nodes_in (levels_of chain))
 
 -- ---- `clock make`
 
@@ -66,4 +67,4 @@ rows_in_text text = count_by (λ byte. byte == 10) text
 
 -- the schedule of so many frames, or too many frames
 abbrev pub clock_made : Chain → ℕ → Bias → Answer
-clock_made chain frames bias = if nat_lt 16384 frames then Err (ManyFrames frames) else Ok (ClockMade chain (rows_in_text (made_text chain frames bias)))
+clock_made chain frames bias = if nat_lt most_frames frames then Err (ManyFrames frames) else Ok (ClockMade chain (rows_in_text (made_text chain frames bias)))

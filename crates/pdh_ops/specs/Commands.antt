@@ -15,6 +15,7 @@ use Rattle.pdh_words.specs.declared.commands.Command.TheVariants.{Demux, Mux, Cl
 use Rattle.pdh_ops.specs.declared.file.File.{File}
 use Rattle.pdh_ops.specs.declared.file.File.TheVariants.{Schedule}
 use Rattle.pdh_ops.specs.declared.answer.Stop.TheVariants.{Overflow, Underflow, NoAlignment}
+use Rattle.pdh_shape.specs.OwnNumbers.{most_bytes}
 
 -- so many names, in order
 pub record Names : Type 0 where
@@ -84,5 +85,5 @@ AreHeld command k files = (i : ℕ) → i < k → is_none (files ((inputs comman
 -- The bytes of an input are read where no step before refuses the inputs: those of the schedule where all inputs are held
 -- and its text isn't too long, and those of any other file where nothing refuses before the outputs.
 abbrev pub IsReadDue : Command → File → Files → Type 0
-IsReadDue command Schedule files = AreHeld command (inputs command).count files × (length (bytes_in files schedule_name) ≤ 33554432)
+IsReadDue command Schedule files = AreHeld command (inputs command).count files × (length (bytes_in files schedule_name) ≤ most_bytes)
 IsReadDue command file files = reaches_outputs (comes_to command files) ≡ true

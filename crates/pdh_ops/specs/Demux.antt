@@ -10,6 +10,7 @@ use Rattle.pdh_ops.specs.declared.file.File.TheVariants.{Line}
 use Rattle.pdh_ops.specs.declared.answer.Done.TheVariants.{Demuxed}
 use Rattle.pdh_ops.specs.declared.answer.Stop.{Stop}
 use Rattle.pdh_ops.specs.declared.answer.Stop.TheVariants.{Missing, ManyFrames, NoAlignment}
+use Rattle.pdh_shape.specs.OwnNumbers.{most_frames}
 
 -- how many whole frames a line holds
 abbrev pub frames_of : Chain → List ℕ → ℕ
@@ -18,7 +19,7 @@ frames_of chain line = length line / frame_bytes_of chain
 -- the line that is held, or why it is refused before it is read
 abbrev pub line_of : Chain → Option (List ℕ) → Result (List ℕ) Stop
 line_of chain None = Err (Missing Line)
-line_of chain (Some line) = (if nat_lt 16384 (frames_of chain line) then Err (ManyFrames (frames_of chain line)) else Ok line)
+line_of chain (Some line) = (if nat_lt most_frames (frames_of chain line) then Err (ManyFrames (frames_of chain line)) else Ok line)
 
 -- how many frames of the line are delivered at the top
 abbrev pub frames_received : Chain → List ℕ → ℕ

@@ -1,6 +1,5 @@
 pub mod Names
 pub mod Answer
-pub mod Leaves
 pub mod Demux
 pub mod Schedules
 pub mod Mux

@@ -16,7 +16,7 @@ use Rattle.pdh_clock.specs.Row.{Row}
 use Rattle.pdh_clock.specs.Contents.{counts}
 use Rattle.pdh_clock.specs.Begun.{Shortage, shortage}
 use Rattle.pdh_chain.specs.Chains.{shapes_of, leaves_of}
-use Rattle.pdh_chain.specs.Trees.{path_of}
+use Rattle.pdh_line.specs.Paths.{path_of}
 use Rattle.pdh_chain.specs.Muxes.{place_of}
 use Rattle.pdh_chain.specs.declared.chain.Chain.{Chain}
 use Rattle.pdh_ops.specs.Names.{leaf_name, name_of}
@@ -27,6 +27,7 @@ use Rattle.pdh_ops.specs.declared.file.File.TheVariants.{Schedule, Leaf}
 use Rattle.pdh_ops.specs.declared.answer.Done.TheVariants.{Muxed}
 use Rattle.pdh_ops.specs.declared.answer.Stop.{Stop}
 use Rattle.pdh_ops.specs.declared.answer.Stop.TheVariants.{Missing, ShortNode, Short, Overflow, Underflow, ManyFrames}
+use Rattle.pdh_shape.specs.OwnNumbers.{most_frames}
 
 -- ---- the inputs
 
@@ -85,7 +86,7 @@ stop_of_shortage short = ShortNode (path_of short.path) short.have short.need
 -- the line of so many frames, or the first refusal: too many frames, a short node, a short leaf, an event
 abbrev pub muxed : Chain → Files → List Row → Answer
 muxed chain files rows =
-    if nat_lt 16384 (frames_in rows) then Err (ManyFrames (frames_in rows))
+    if nat_lt most_frames (frames_in rows) then Err (ManyFrames (frames_in rows))
     else option_map_or (λ short. Err (stop_of_shortage short)) (short_node chain rows)
     (option_map_or (λ leaf. Err (Short (Leaf leaf) (bits_held files leaf) (bits_needed chain rows leaf))) (short_leaf chain files rows)
     (option_map_or (λ event. Err (stop_of_event event)) (event_of chain rows) (Ok (Muxed chain (frames_in rows)))))

@@ -15,7 +15,7 @@ use Rattle.pdh_clock.specs.Row.{Row}
 use Rattle.pdh_clock.specs.Contents.{counts, frame_count}
 use Rattle.pdh_ops.specs.Names.{schedule_name, leaf_name}
 use Rattle.pdh_ops.specs.Reading.{HasLength}
-use Rattle.pdh_ops.specs.Schedules.{Files, bytes_in, rows_of, frames_in}
+use Rattle.pdh_ops.specs.Schedules.{bytes_in, rows_of, frames_in}
 use Rattle.pdh_ops.specs.Mux.{mux_inputs, all_held, leaf_bits, short_node, stop_of_shortage, bits_needed, event_of, frames_made, stop_of_event}
 use Rattle.pdh_ops.specs.Commands.{OfInputs}
 use Rattle.pdh_words.specs.declared.commands.Command.TheVariants.{Mux}
@@ -24,6 +24,7 @@ use Rattle.pdh_ops.specs.declared.mux.InputSizes.{InputSizes}
 use Rattle.pdh_ops.specs.declared.mux.Made.{Made}
 use Rattle.pdh_ops.specs.declared.answer.Stop.{Stop}
 use Rattle.pdh_ops.specs.declared.answer.Stop.TheVariants.{ShortNode, Short, Overflow, Underflow, ManyFrames}
+use Rattle.pdh_shape.specs.OwnNumbers.{most_frames}
 
 -- the sizes of the inputs
 pub record AreSizes (chain : Chain) (sizes : InputSizes) (state : ShelfState) : Type 0 where
@@ -45,19 +46,19 @@ IsLong chain rows sizes k = bits_needed chain rows k ≤ 8 * slice_index sizes.l
 -- there are no more frames than a line may have, each node has those that it begins, and the leaves are long enough
 pub record AreEnough (chain : Chain) (rows : List Row) (sizes : InputSizes) (frames : ℕ) : Type 0 where
   pub frames_are : frames ≡ frames_in rows
-  pub few : frames ≤ 16384
+  pub few : frames ≤ most_frames
   pub scheduled : short_node chain rows ≡ None
   pub long : (k : ℕ) → k < leaves_of chain → IsLong chain rows sizes k
 
 -- this node is the first that has fewer frames than it begins
 pub record IsShortNode (chain : Chain) (rows : List Row) (node : Path) (have need : ℕ) : Type 0 where
-  pub few : frames_in rows ≤ 16384
+  pub few : frames_in rows ≤ most_frames
   pub first : option_map stop_of_shortage (short_node chain rows) ≡ Some (ShortNode node have need)
 
 -- leaf k is the first that is too short
 pub record IsShort (chain : Chain) (rows : List Row) (sizes : InputSizes) (k have need : ℕ) : Type 0 where
   pub leaf : k < leaves_of chain
-  pub few : frames_in rows ≤ 16384
+  pub few : frames_in rows ≤ most_frames
   pub scheduled : short_node chain rows ≡ None
   pub have_is : have ≡ 8 * slice_index sizes.leaves k
   pub need_is : need ≡ bits_needed chain rows k
@@ -66,7 +67,7 @@ pub record IsShort (chain : Chain) (rows : List Row) (sizes : InputSizes) (k hav
 
 -- why the frames or the leaves are refused
 abbrev pub IsEnoughStop : Chain → List Row → InputSizes → Stop → Type 0
-IsEnoughStop chain rows sizes (ManyFrames n) = (n ≡ frames_in rows) × (16384 < n)
+IsEnoughStop chain rows sizes (ManyFrames n) = (n ≡ frames_in rows) × (most_frames < n)
 IsEnoughStop chain rows sizes (ShortNode node have need) = IsShortNode chain rows node have need
 IsEnoughStop chain rows sizes (Short (Leaf k) have need) = IsShort chain rows sizes k have need
 IsEnoughStop chain rows sizes _ = ⊥

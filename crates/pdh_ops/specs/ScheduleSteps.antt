@@ -10,6 +10,7 @@ use Rattle.pdh_ops.specs.Schedules.{rows_of}
 use Rattle.pdh_ops.specs.declared.file.File.TheVariants.{Schedule}
 use Rattle.pdh_ops.specs.declared.answer.Stop.{Stop}
 use Rattle.pdh_ops.specs.declared.answer.Stop.TheVariants.{Memory, Read, LongSchedule, BadRow, UnknownNode, CountOver}
+use Rattle.pdh_shape.specs.OwnNumbers.{most_bytes}
 
 -- where the schedule's text is told, it has these rows, or is refused so
 abbrev pub RowsAre : Chain → ShelfState → Result (List Row) Stop → Type 0
@@ -18,7 +19,7 @@ RowsAre chain state rows = (text : List ℕ) → state.told schedule_name ≡ Kn
 -- why there is no schedule: memory is wanting, the call for its text, which isn't too long, failed, or the text is refused
 abbrev pub IsScheduleStop : Chain → ShelfState → ShelfState → Stop → Type 0
 IsScheduleStop chain old new Memory = ⊤
-IsScheduleStop chain old new (Read file) = (file ≡ Schedule) × FailsToRead ReadCall schedule_name old new × WhereTold (old.told schedule_name) (λ held. length (unwrap_or held []) ≤ 33554432)
+IsScheduleStop chain old new (Read file) = (file ≡ Schedule) × FailsToRead ReadCall schedule_name old new × WhereTold (old.told schedule_name) (λ held. length (unwrap_or held []) ≤ most_bytes)
 IsScheduleStop chain old new LongSchedule = RowsAre chain old (Err LongSchedule)
 IsScheduleStop chain old new (BadRow line) = RowsAre chain old (Err (BadRow line))
 IsScheduleStop chain old new (UnknownNode line) = RowsAre chain old (Err (UnknownNode line))

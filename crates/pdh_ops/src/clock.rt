@@ -1,31 +1,32 @@
-ghost use Rattle.std.specs.Prelude.{◌≡◌, ◌≤◌, count_by, ◌==◌, IfOk, IfErr};
+ghost use Rattle.std.specs.Prelude.{◌≡◌, ◌≤◌, count_by, ◌==◌, IfOk, IfErr, IsSome};
 ghost use Rattle.pdh_words.specs.declared.commands.Command.TheVariants.{ClockCheck, ClockMake};
-ghost use Rattle.pdh_clock.specs.Chain.{stores_at, steps_of};
+ghost use Rattle.pdh_levels.specs.Levels.{level_at};
+ghost use Rattle.pdh_line.specs.Paths.{steps_of, path_of};
 ghost use Rattle.pdh_chain.specs.Chains.{levels_of};
-ghost use Rattle.pdh_chain.specs.Trees.{path_of};
 ghost use Rattle.pdh_ops.specs.Clock.{first_outside_of, checked as checked_rows, made_text as text_made, rows_in_text};
 ghost use Rattle.pdh_ops.specs.Run.{Performs};
 ghost use Rattle.pdh_ops.specs.declared.answer.Stop.TheVariants.{Memory};
+ghost use Rattle.pdh_shape.specs.OwnNumbers.{most_frames};
 
 use crate::answer::{Done, OutOfTolerance, Stop};
 use crate::file::File;
 use crate::files::{append, size, start};
-use crate::node::{node_at, node_count};
 use crate::schedule::read_schedule;
-use crate::top::MOST_FRAMES;
-use pdh_chain::{Chain, levels};
+use pdh_chain::Chain;
 use pdh_clock::{Bias, Schedule};
 use pdh_edge::Shelf;
-use pdh_shape::Path;
+use pdh_levels::{level_of, node_at, node_count};
+use pdh_shape::{MOST_FRAMES, Path};
 use std::alloc::Global;
 
 // The first tributary of a node that isn't within the tolerance.
-fn outside_of(clock: &Schedule, node: Path) -> Option<OutOfTolerance>
-    requires stores { stores_at clock.now.levels (steps_of node) ≡ 4 }
+fn outside_of(chain: Chain, clock: &Schedule, node: Path) -> Option<OutOfTolerance>
+    requires levels { clock.now.levels ≡ levels_of chain }
+    requires known { IsSome (level_at (levels_of chain) (steps_of node)) }
     requires plain { node ≡ path_of (steps_of node) }
     ensures { result ≡ first_outside_of clock.now (steps_of node) }
 {
-    for index in 0..4u8 {
+    for index in 0..level_of(chain.levels(), &node).tribs {
         if let Err(run) = clock.within(&node, index) {
             let trib = index + 1;
             return Some(OutOfTolerance { node, trib, run });
@@ -39,8 +40,8 @@ fn checked(chain: Chain, clock: &Schedule) -> Done
     requires { clock.now.levels ≡ levels_of chain }
     ensures { result ≡ checked_rows chain clock.now.rows }
 {
-    for place in 0..node_count(chain) {
-        if let Some(out) = outside_of(clock, node_at(chain, place)) {
+    for place in 0..node_count(chain.levels()) {
+        if let Some(out) = outside_of(chain, clock, node_at(chain.levels(), place)) {
             return Done::ClockOutside(chain, out);
         }
     }
@@ -58,12 +59,11 @@ pub fn check<S: Shelf>(alloc: Global, chain: Chain, shelf: &mut S) -> Result<Don
 
 // The text of the schedule of so many frames.
 fn made_text(alloc: Global, chain: Chain, frames: u64, bias: Bias) -> Result<Vec<u8>, Stop>
-    requires { frames ≤ 16384 }
+    requires { frames ≤ most_frames }
     ensures text { IfOk result (λ text. text.items ≡ text_made chain frames bias) }
     ensures err { IfErr result (λ stop. stop ≡ Memory) }
 {
-    let levels = levels(alloc, chain)?;
-    let clock = Schedule::from_ppm(alloc, &levels, frames, bias)?;
+    let clock = Schedule::from_ppm(alloc, chain.levels(), frames, bias)?;
     Ok(clock.text(alloc)?)
 }
 

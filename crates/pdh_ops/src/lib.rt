@@ -9,10 +9,8 @@ mod files;
 mod leaf;
 mod line;
 mod mux;
-mod node;
 mod program;
 mod report;
 mod schedule;
-mod top;
 
 pub use program::{Ran, run};

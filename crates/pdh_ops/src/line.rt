@@ -8,9 +8,9 @@ ghost use Rattle.pdh_ops.specs.Run.{IsCounted};
 use crate::answer::Stop;
 use crate::file::File;
 use crate::files::{read, size};
-use crate::top::MOST_FRAMES;
 use pdh_chain::{Chain, frame_bytes};
 use pdh_edge::Shelf;
+use pdh_shape::MOST_FRAMES;
 use std::alloc::Global;
 
 // The bytes of the line, if it has no more frames than a line may have.

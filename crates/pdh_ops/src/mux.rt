@@ -14,19 +14,18 @@ ghost use Rattle.pdh_ops.specs.Refusing.{Refuses};
 ghost use Rattle.pdh_ops.specs.declared.answer.Stop.TheVariants.{Overflow, Underflow};
 ghost use Rattle.pdh_ops.specs.MuxSteps.{AreSizes, AllHeld, HasRows, AreEnough, IsEnoughStop, AreLeaves, CanSend, IsSent, IsMade};
 ghost use Rattle.pdh_words.specs.declared.commands.Command.TheVariants.{Mux};
+ghost use Rattle.pdh_shape.specs.OwnNumbers.{most_frames};
 
 use crate::answer::{Done, Stop};
 use crate::file::File;
 use crate::files::{append, read, size, start};
-use crate::leaf::{leaf_count, leaf_place};
-use crate::node::plain;
+use crate::leaf::leaf_count;
 use crate::schedule::read_schedule;
-use crate::top::{MOST_FRAMES, TOP};
 use pdh_bits::{bits_of, bytes_of};
 use pdh_chain::{Chain, MuxStop, frame_bytes};
 use pdh_clock::Schedule;
 use pdh_edge::{Drain, Feed, MemPort, Port, Shelf};
-use pdh_shape::Place;
+use pdh_shape::{MOST_FRAMES, Place, TOP};
 use std::alloc::{AllocError, Global};
 
 // The sizes of the inputs, in bytes. Where a chain has fewer leaves than 64, the rest is 0.
@@ -59,26 +58,6 @@ fn read_sizes<S: Shelf>(chain: Chain, shelf: &mut S) -> Result<InputSizes, Stop>
     Ok(InputSizes { schedule, leaves })
 }
 
-// How many bits of a leaf enter by the end of so many frames of the top: those of the frames that
-// the leaf's node begins.
-fn entered(chain: Chain, clock: &Schedule, frames: u64, leaf: u8) -> u64
-    requires levels { clock.now.levels ≡ levels_of chain }
-    requires rows { All (IsRowOf (levels_of chain)) clock.now.rows }
-    requires frames { frames ≡ frames_in clock.now.rows }
-    requires few { frames ≤ 16384 }
-    requires scheduled { short_node chain clock.now.rows ≡ None }
-    requires leaf { leaf < leaves_of chain }
-    ensures value { result ≡ bits_needed chain clock.now.rows leaf }
-    ensures small { result < 2 ^ 32 }
-{
-    let place = leaf_place(chain, leaf);
-    let begun = clock.begun(&place.node, frames);
-    if begun == 0 {
-        return 0;
-    }
-    24 + clock.total(&place.node, begun, place.trib)
-}
-
 // The frames of the line, if they are few enough, each node has the frames that it begins, and each
 // leaf has the bits that enter by their end.
 fn frames(chain: Chain, clock: &Schedule, sizes: &InputSizes) -> Result<u64, Stop>
@@ -92,10 +71,10 @@ fn frames(chain: Chain, clock: &Schedule, sizes: &InputSizes) -> Result<u64, Sto
         return Err(Stop::ManyFrames(frames));
     }
     if let Some(short) = clock.short(frames) {
-        return Err(Stop::ShortNode(plain(short.node), short.have, short.need));
+        return Err(Stop::ShortNode(short.node, short.have, short.need));
     }
     for leaf in 0..leaf_count(chain) {
-        let need = entered(chain, clock, frames, leaf);
+        let need = clock.entered(u32::from(leaf), frames) as u64;
         let have = sizes.leaves[leaf as usize];
         if have < (need + 7) / 8 {
             return Err(Stop::Short(File::Leaf(leaf), 8 * have, need));
@@ -196,7 +175,7 @@ fn make(
 ) -> Result<Made, AllocError>
     requires levels { clock.now.levels ≡ levels_of chain }
     requires frames { frames ≡ frames_in clock.now.rows }
-    requires few { frames ≤ 16384 }
+    requires few { frames ≤ most_frames }
     requires scheduled { short_node chain clock.now.rows ≡ None }
     requires count { length leaves.items ≡ leaves_of chain }
     requires long { (k : ℕ) (d : Vec Bool Global) → k < leaves_of chain → bits_needed chain clock.now.rows k ≤ length (slice_index_or leaves.items k d).items }

@@ -1,6 +1,6 @@
 ghost use Rattle.std.specs.Prelude.{◌≡◌, ◌≤◌, ◌++◌, length, decimal, codes};
 ghost use Rattle.pdh_chain.specs.Chains.{name_of as name_of_chain};
-ghost use Rattle.pdh_words.specs.Paths.{path_text};
+ghost use Rattle.pdh_line.specs.Paths.{steps_of, path_text};
 ghost use Rattle.pdh_ops.specs.Names.{name_of};
 ghost use Rattle.pdh_ops.specs.Answer.{text_of, done_text as done_of, stop_text as stop_of, place_text as place_of, outside_text as outside_of};
 ghost use Rattle.pdh_ops.specs.Run.{IsTold};
@@ -177,7 +177,7 @@ fn short(file: File, have: u64, need: u64) -> Text
 // The line of a node with too few frames.
 #[tactic(auto, using(crate::proofs::Texts::digits, crate::proofs::Texts::path_len))]
 fn short_node(node: Path, have: u64, need: u64) -> Text
-    ensures { result ≡ codes "short: " ++ path_text node ++ codes ": have " ++ decimal have ++ codes " frames, need " ++ decimal need ++ codes "\n" }
+    ensures { result ≡ codes "short: " ++ path_text (steps_of node) ++ codes ": have " ++ decimal have ++ codes " frames, need " ++ decimal need ++ codes "\n" }
 {
     let mut text = Text::new();
     text.text("short: ");

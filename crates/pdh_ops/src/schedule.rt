@@ -10,9 +10,10 @@ ghost use Rattle.pdh_ops.specs.ScheduleSteps.{RowsAre, IsScheduleStop};
 use crate::answer::Stop;
 use crate::file::File;
 use crate::files::read;
-use pdh_chain::{Chain, levels};
-use pdh_clock::{MOST_BYTES, Schedule};
+use pdh_chain::Chain;
+use pdh_clock::Schedule;
 use pdh_edge::Shelf;
+use pdh_shape::MOST_BYTES;
 use std::alloc::Global;
 
 /// The schedule of its file, which has so many bytes.
@@ -34,6 +35,5 @@ pub fn read_schedule<S: Shelf>(
         return Err(Stop::LongSchedule);
     }
     let text = read(alloc, shelf, File::Schedule, bytes)?;
-    let levels = levels(alloc, chain)?;
-    Ok(Schedule::read(alloc, &levels, &text)?)
+    Ok(Schedule::read(alloc, chain.levels(), &text)?)
 }

@@ -6,8 +6,9 @@ use Rattle.std.specs.List.{range_with_len}
 use Rattle.std.proofs.lemmas.Bool.{cases_lt}
 use Rattle.std.proofs.lemmas.Bool.Decides.{nat_tests}
 use Rattle.std.proofs.Math.Nat.{mul-add}
-use Rattle.pdh_line.specs.Sending.{arrived}
-use Rattle.pdh_line.specs.Tolerance.{allowance, arrived_over}
+use Rattle.pdh_line.specs.Progress.{arrived}
+use Rattle.pdh_shape.specs.OwnNumbers.{allowance}
+use Rattle.pdh_line.specs.Tolerance.{arrived_over}
 use Rattle.pdh_line.proofs.FillBounds.{arrived-run}
 use Rattle.pdh_rows.specs.declared.tolerance.Bound.TheVariants.{Most, Least}
 use Rattle.pdh_rows.specs.declared.tolerance.Span.{Span}

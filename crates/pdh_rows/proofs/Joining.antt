@@ -4,7 +4,7 @@ use Rattle.std.specs.List.{flat_map}
 use Rattle.std.proofs.lemmas.List.{length-replicate, get_or-replicate}
 use Rattle.std.proofs.lemmas.List.Concat.{length-flat_map, get_or-flat_map}
 use Rattle.std.proofs.lemmas.List.Sums.{sum_by_more, sum_by-cons}
-use Rattle.pdh_line.specs.Sending.{arrived}
+use Rattle.pdh_line.specs.Progress.{arrived}
 use Rattle.pdh_line.proofs.SendingLaws.{arrived-suc}
 use Rattle.std.proofs.Math.Nat.{suc-mul}
 use Rattle.pdh_rows.specs.Rows.{NodeRow, node_frames}

@@ -6,7 +6,8 @@ use Rattle.std.specs.List.{range_with_len}
 use Rattle.std.proofs.lemmas.Bool.Decides.{nat_tests}
 use Rattle.std.proofs.lemmas.List.FromFn.{get_or-range_with_len, length-range_with_len}
 use Rattle.pdh_shape.specs.Frame.{FrameShape}
-use Rattle.pdh_line.specs.Tolerance.{allowance, arrived_over, IsWithin}
+use Rattle.pdh_shape.specs.OwnNumbers.{allowance}
+use Rattle.pdh_line.specs.Tolerance.{arrived_over, IsWithin}
 use Rattle.pdh_rows.specs.Outside.{breaks, run_between, first_start, first_outside}
 
 -- where none is found no element passes the test

@@ -2,7 +2,7 @@
 use Rattle.std.proofs.Common.{◌≡◌, ℕ, suc, ◌+◌, ◌-◌, ◌*◌, ◌/◌, ◌<◌, ◌≤◌, inl, inr, sym, ap, ◌∙◌, subst, arith}
 use Rattle.std.proofs.lemmas.Bool.{cases_lt}
 use Rattle.std.proofs.Math.Nat.{mul-le-mul_left, mul-le-mul_right, lt-div-mul-add, div-mul-le_self, add-mul, mul-add, suc-mul}
-use Rattle.pdh_line.specs.Tolerance.{allowance}
+use Rattle.pdh_shape.specs.OwnNumbers.{allowance}
 use Rattle.pdh_rows.specs.Bounds.{Passes, Keeps, AllKeep, IsFirstEnd, IsFirstStart, IsCrossing, NeverCrosses}
 
 -- over a number of frames from frame a on both sums grow evenly

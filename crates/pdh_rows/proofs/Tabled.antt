@@ -6,7 +6,7 @@ use Rattle.std.proofs.lemmas.List.Sums.{sum_by_more}
 use Rattle.std.proofs.lemmas.List.Sorted.{IsNonDecreasingBy-from_all_adjacent}
 use Rattle.std.proofs.Math.Nat.{mul-le-mul_right}
 use Rattle.pdh_rows.specs.declared.table.Table.{Table}
-use Rattle.pdh_line.specs.Sending.{arrived}
+use Rattle.pdh_line.specs.Progress.{arrived}
 use Rattle.pdh_rows.specs.Rows.{NodeRow}
 use Rattle.pdh_rows.specs.Rows.{node_frames, node_frame_count, node_counts}
 use Rattle.pdh_rows.specs.Stored.{IsTable, rows_of, row_frames, row_bits}

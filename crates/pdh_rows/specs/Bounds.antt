@@ -1,7 +1,7 @@
 -- The two bounds of the tolerance, each as two sums over frames, and the runs of frames that pass a bound.
 use Rattle.std.specs.Prelude.{◌≡◌, ℕ, suc, ◌+◌, ◌*◌, ◌<◌, ◌≤◌, nat_lt, nat_le, ◌==◌, ◌&&◌, ◌||◌, Bool, Option, Some, None, if◌then◌else◌}
-use Rattle.pdh_line.specs.Sending.{arrived}
-use Rattle.pdh_line.specs.Tolerance.{allowance}
+use Rattle.pdh_line.specs.Progress.{arrived}
+use Rattle.pdh_shape.specs.OwnNumbers.{allowance}
 use Rattle.pdh_rows.specs.declared.table.TribRow.{TribRow}
 use Rattle.pdh_rows.specs.declared.tolerance.Bound.{Bound}
 use Rattle.pdh_rows.specs.declared.tolerance.Bound.TheVariants.{Most, Least}

@@ -4,7 +4,8 @@ use Rattle.std.specs.List.{range_with_len}
 use Rattle.std.specs.Option.{option_map, option_and_then}
 use Rattle.std.specs.Result.{result_err}
 use Rattle.pdh_rows.specs.declared.outside.Outside.{Outside}
-use Rattle.pdh_line.specs.Tolerance.{allowance, arrived_over}
+use Rattle.pdh_shape.specs.OwnNumbers.{allowance}
+use Rattle.pdh_line.specs.Tolerance.{arrived_over}
 
 -- where a frame carries `low` bits or one more: more bits arrive in a run of so many frames than they carry at most, by
 -- more than the allowance, or fewer than they carry at least

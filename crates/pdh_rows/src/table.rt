@@ -5,7 +5,7 @@ ghost use Rattle.std.specs.List.Sorted.{IsNonDecreasing};
 ghost use Rattle.pdh_rows.specs.Stored.{IsTable, node_row, rows_of, row_frames, row_bits, sum_with};
 ghost use Rattle.pdh_rows.specs.Rows.{node_frame_count, node_counts};
 ghost use Rattle.pdh_rows.specs.Bounds.{IsTribRow};
-ghost use Rattle.pdh_line.specs.Sending.{arrived};
+ghost use Rattle.pdh_line.specs.Progress.{arrived};
 
 use std::alloc::{AllocError, Global};
 

@@ -1,8 +1,8 @@
 //! Whether the arrivals of a tributary are within the tolerance, row by row.
 
 ghost use Rattle.std.specs.Prelude.{◌≡◌, ◌≤◌, ◌<◌, ◌+◌, ◌-◌, ◌*◌, ◌^◌, ℕ, [], length, slice_index, MatchOption};
-ghost use Rattle.pdh_line.specs.Sending.{arrived};
-ghost use Rattle.pdh_line.specs.Tolerance.{allowance};
+ghost use Rattle.pdh_line.specs.Progress.{arrived};
+ghost use Rattle.pdh_shape.specs.OwnNumbers.{allowance};
 ghost use Rattle.pdh_rows.specs.Bounds.{gains_of, losses_of, gains, losses, Passes, AllKeep, IsFirstEnd, IsFirstStart, IsFirstBreak, IsPart, IsCrossing, NeverCrosses, earlier as earlier_of};
 ghost use Rattle.pdh_rows.specs.Rows.{node_frame_count, node_counts};
 ghost use Rattle.pdh_rows.specs.Outside.{first_outside, run_in};
@@ -11,8 +11,8 @@ ghost use Rattle.pdh_rows.specs.Stored.{IsTable, rows_of};
 use crate::outside::Outside;
 use crate::table::Table;
 
-// By how many bits the arrivals of a run may pass what its frames carry at least and at most.
-const ALLOWANCE: u128 = 8;
+// The allowance, as a summand of the sums of a table.
+const ALLOWANCE: u128 = pdh_shape::ALLOWANCE as u128;
 
 // A bound of the tolerance: in a run of frames arrive no more bits than it carries at most, or no fewer than it carries at
 // least, each up to the allowance.

@@ -6,16 +6,10 @@ ghost use Rattle.pdh_rx.specs.Node.{node_meaning};
 
 use crate::{Rx, RxNode, Tail};
 use pdh_edge::{Drain, Failed, MemPort};
-use pdh_shape::{E2, Path};
+use pdh_shape::{E2, TOP};
 use pdh_watch::Quiet;
 use std::alloc::{AllocError, Global};
 use std::test::Fail;
-
-const TOP: Path = Path {
-    depth: 0,
-    first: 0,
-    second: 0,
-};
 
 // The leaves 0 to 3.
 fn tails(alloc: Global) -> Result<Vec<Tail>, AllocError>

@@ -8,6 +8,7 @@ use Rattle.pdh_shape.specs.declared.role.Mark.TheVariants.{Framing, Multi, Other
 use Rattle.pdh_shape.specs.declared.role.Marks.{Marks}
 use Rattle.pdh_shape.specs.declared.role.Service.{Service}
 use Rattle.pdh_shape.specs.declared.role.Duty.{Duty}
+use Rattle.pdh_shape.specs.OwnNumbers.{most_slots}
 
 -- the shape of a multiplexer's frame
 pub record FrameShape : Type 0 where
@@ -79,7 +80,7 @@ pub record IsFrame (s : FrameShape) : Type 0 where
   -- a frame has a slot (G.742, Table 1)
   pub some_slots : 0 < s.len
   -- and not more than this project's own limit
-  pub few_slots : s.len ≤ 16384
+  pub few_slots : s.len ≤ most_slots
   -- a frame that is right doesn't complete a loss after three that are right (G.742, 4)
   pub no_loss : s.loses clean clean clean clean ≡ false
 

@@ -8,13 +8,14 @@ use Rattle.pdh_shape.specs.declared.role.Mark.TheVariants.{Framing, Multi, Other
 use Rattle.pdh_shape.specs.Frame.{FrameShape, slots, clean, is_align, is_framing}
 use Rattle.pdh_shape.specs.Tributary.{reads_from, controls, is_control, is_just}
 use Rattle.pdh_shape.specs.Walk.{walk}
+use Rattle.pdh_shape.specs.OwnNumbers.{most_slots}
 
 -- ---- the numbers and the loss rule
 
 abbrev pub keeps_numbers : FrameShape → Bool
 keeps_numbers s =
     nat_lt 0 s.len
-    && (nat_le s.len 16384
+    && (nat_le s.len most_slots
     && (not (s.loses clean clean clean clean)
     && ((s.copies == 0) || (s.copies % 2 == 1))))
 

@@ -1,3 +1,4 @@
+pub mod OwnNumbers
 pub mod Frame
 pub mod Tributary
 pub mod Walk

@@ -1,6 +1,7 @@
 //! Frame shapes: what each slot of a frame carries, and when frame alignment is lost.
 #![tactic(auto)]
 
+mod own_numbers;
 mod place;
 mod plans;
 mod role;
@@ -9,7 +10,8 @@ mod set_plan;
 mod sets;
 mod shape;
 
-pub use place::{Level, Path, Place};
+pub use own_numbers::{ALLOWANCE, LEAD, MOST_BYTES, MOST_FRAMES, STORE_SIZE, THRESHOLD};
+pub use place::{Level, Path, Place, TOP};
 pub use plans::{E2Plan, E3Plan, E4Plan};
 pub use role::{Duty, Mark, Marks, Role, Service};
 pub use set_frame::{E2, E3, E4, SetFrame};

@@ -11,6 +11,13 @@ pub struct Path {
     pub second: u8,
 }
 
+/// The path of the top.
+pub const TOP: Path = Path {
+    depth: 0,
+    first: 0,
+    second: 0,
+};
+
 /// Where an event stands: in a slot of a frame of a multiplexer's line.
 #[derive(Clone, Copy, Debug, PartialEq, Eq)]
 pub struct Place {

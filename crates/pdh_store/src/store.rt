@@ -1,13 +1,10 @@
 ghost use Rattle.std.specs.Prelude.{◌≡◌, ◌<◌, ◌≤◌, ◌↔◌, [], ◌∷◌, ◌++◌, length, nat_le, IsErr, IfOk, OnOk, OnErr};
-ghost use Rattle.pdh_line.specs.Sending.{threshold, store_size};
+ghost use Rattle.pdh_shape.specs.OwnNumbers.{threshold, store_size};
 
 use circular_buffer::HeapCircularBuffer;
+use pdh_shape::{STORE_SIZE, THRESHOLD};
 use std::alloc::{AllocError, Global};
 use std::marker::Model;
-
-const STORE_SIZE: usize = 48;
-
-const THRESHOLD: u32 = 24;
 
 /// The refusal of a store that holds as many bits as it may.
 #[derive(Clone, Copy, Debug, PartialEq, Eq)]
@@ -18,7 +15,7 @@ pub struct Overflow;
 pub struct Underflow;
 
 /// The elastic store of one tributary, as positive justification needs it (ITU-T G.742, 5): at most
-/// 48 bits, which leave in the order of their arrival. The size and the threshold of 24 bits are
+/// [`STORE_SIZE`] bits, which leave in the order of their arrival. The size and the threshold are
 /// this project's own. Only `open` takes memory.
 #[derive(Drop)]
 pub struct Store {
@@ -27,7 +24,7 @@ pub struct Store {
 
 impl Model for Store {
     ghost use Rattle.std.specs.Prelude.{◌≡◌, ◌≤◌, Bool, List, length};
-    ghost use Rattle.pdh_line.specs.Sending.{store_size};
+    ghost use Rattle.pdh_shape.specs.OwnNumbers.{store_size};
 
     // the bits, from the oldest to the newest
     ghost Value = { List Bool };
@@ -38,7 +35,7 @@ impl Model for Store {
 }
 
 impl Store {
-    /// An empty store with room for 48 bits, or the refusal of memory for it.
+    /// An empty store with room for its bits, or the refusal of memory for it.
     pub fn open(alloc: Global) -> Result<Store, AllocError>
         ensures { IfOk result (λ store. store ≡ []) }
     {
@@ -46,7 +43,7 @@ impl Store {
         Ok(Store { ring })
     }
 
-    /// Appends a bit that arrives, or refuses it where 48 bits are held, and then keeps them all.
+    /// Appends a bit that arrives, or refuses it where as many are held as may be, and then keeps them all.
     pub fn arrive(&mut self, bit: bool) -> Result<(), Overflow>
         ensures full { IsErr result ↔ (length self.old ≡ store_size) }
         ensures room { OnOk result (length self.old < store_size) }
@@ -69,7 +66,7 @@ impl Store {
         self.ring.pop_front().ok_or(Underflow)
     }
 
-    /// How many bits are held, from 0 to 48.
+    /// How many bits are held, from 0 to [`STORE_SIZE`].
     pub fn fill(&self) -> u32
         ensures count { result ≡ length self.now }
         ensures bounded { length self.now ≤ store_size }
@@ -78,7 +75,7 @@ impl Store {
     }
 
     /// Whether a frame that begins now carries an additional bit, so that its justifiable slot isn't
-    /// justified (ITU-T G.742, 5): exactly where 24 bits or more are held.
+    /// justified (ITU-T G.742, 5): exactly where as many bits as [`THRESHOLD`] says or more are held.
     pub fn carries_more(&self) -> bool
         ensures { result ≡ nat_le threshold (length self.now) }
     {

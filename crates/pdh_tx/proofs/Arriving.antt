@@ -3,7 +3,8 @@ use Rattle.std.proofs.Common.{◌≡◌, inl, inr, ℕ, suc, ◌+◌, ◌≤◌,
 use Rattle.std.proofs.lemmas.Bool.{cases_lt, lt-leb, le-leb}
 use Rattle.pdh_shape.specs.Frame.{FrameShape, IsFrame}
 use Rattle.pdh_shape.specs.declared.place.Path.{Path}
-use Rattle.pdh_line.specs.Sending.{store_size, arrives_at, came_before, read_before}
+use Rattle.pdh_shape.specs.OwnNumbers.{store_size}
+use Rattle.pdh_line.specs.Sending.{arrives_at, came_before, read_before}
 use Rattle.pdh_line.specs.Events.{overflows}
 use Rattle.pdh_line.proofs.SendingLaws.{came_before-suc}
 use Rattle.pdh_tx.specs.declared.tx.TxStop.TheVariants.{Overflow}

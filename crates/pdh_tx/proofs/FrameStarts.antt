@@ -5,7 +5,8 @@ use Rattle.std.proofs.lemmas.Bool.{ne_eqb, eq-eqb, lt-ltb, le-ltb, lt-leb, le-le
 use Rattle.pdh_edge.specs.Ports.{Inputs, nothing}
 use Rattle.pdh_shape.specs.declared.place.Path.{Path}
 use Rattle.pdh_shape.specs.Frame.{FrameShape, IsFrame}
-use Rattle.pdh_line.specs.Sending.{lead, threshold, sends_more, came_before, read_before}
+use Rattle.pdh_shape.specs.OwnNumbers.{lead, threshold}
+use Rattle.pdh_line.specs.Sending.{sends_more, came_before, read_before}
 use Rattle.pdh_line.proofs.SendingLaws.{came_before-first, came_before-start, read_before-start, sent-zero, sends_more-fill}
 use Rattle.pdh_tx.specs.declared.tx.TxStop.{TxStop}
 use Rattle.pdh_tx.specs.declared.tx.TxStop.TheVariants.{NoFrame}

@@ -11,6 +11,7 @@ use Rattle.pdh_shape.specs.Frame.{FrameShape, IsFrame}
 use Rattle.pdh_shape.specs.Tributary.{HasTributaries}
 use Rattle.pdh_line.specs.Sending.{came_before, taken, slot_bit, line_bit}
 use Rattle.pdh_line.proofs.SentFrames.{line_bit-at}
+use Rattle.pdh_line.proofs.Parts.{all_left, all_right}
 use Rattle.pdh_tx.specs.declared.tx.TxStop.{TxStop}
 use Rattle.pdh_tx.specs.declared.position.Position.{Position}
 use Rattle.pdh_tx.specs.declared.tributary.FrameShare.{FrameShare}
@@ -29,12 +30,6 @@ all_first P x xs all = all 0 x (omega arith)
 
 all_rest : {X : Type 0} (P : X → Type 0) (x : X) (xs : List X) → All P (x ∷ xs) → All P xs
 all_rest P x xs all k d h = all (suc k) d (omega arith)
-
-all_left : {X : Type 0} (P : X → Type 0) (xs ys : List X) → All P (xs ++ ys) → All P xs
-all_left P xs ys all k d h = subst P (get_or_append_left xs ys d k h) (all k d (let e = length-append xs ys in omega arith))
-
-all_right : {X : Type 0} (P : X → Type 0) (xs ys : List X) → All P (xs ++ ys) → All P ys
-all_right P xs ys all k d h = subst P (get_or-append-add xs ys k d) (all (length xs + k) d (let e = length-append xs ys in omega arith))
 
 all_at : {X Y : Type 0} (P : Y → Type 0) (f : X → List Y) (xs : List X) → All P (flat_map f xs) → (j : ℕ) (x : X) → slice_get xs j ≡ Some x → All P (f x)
 all_at {X = X} P f [] all j x e = absurd (none e)

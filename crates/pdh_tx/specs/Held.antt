@@ -5,7 +5,7 @@ use Rattle.pdh_edge.specs.Ports.{Inputs, Takes}
 use Rattle.pdh_shape.specs.declared.place.Place.{Place}
 use Rattle.pdh_shape.specs.declared.role.Service.{Service}
 use Rattle.pdh_shape.specs.Frame.{idle}
-use Rattle.pdh_line.specs.Sending.{lead, store_size}
+use Rattle.pdh_shape.specs.OwnNumbers.{lead, store_size}
 use Rattle.pdh_tx.specs.declared.tx.TxStop.{TxStop}
 use Rattle.pdh_tx.specs.declared.tx.TxStop.TheVariants.{Overflow}
 use Rattle.pdh_tx.specs.Meaning.{Plan, Supply, Meaning, Agrees, IsUsedUp}

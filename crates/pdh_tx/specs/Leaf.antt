@@ -2,7 +2,7 @@
 use Rattle.std.specs.Prelude.{ℕ, ◌==◌, nat_le, if◌then◌else◌, [], Some, None}
 use Rattle.pdh_tx.specs.declared.tx.TxStop.TheVariants.{Ended}
 use Rattle.std.specs.Prelude.{List, ◌∷◌, map}
-use Rattle.pdh_tx.specs.Meaning.{Plan, Meaning}
+use Rattle.pdh_tx.specs.Meaning.{Meaning}
 
 abbrev pub leaf_meaning : ℕ → Meaning
 leaf_meaning leaf = record {

@@ -8,7 +8,9 @@ use Rattle.pdh_shape.specs.declared.role.Service.{Service}
 use Rattle.pdh_shape.specs.declared.place.Path.{Path}
 use Rattle.pdh_shape.specs.declared.place.Level.{Level}
 use Rattle.pdh_shape.specs.Frame.{idle}
-use Rattle.pdh_clock.specs.Chain.{level_at, steps_of}
+use Rattle.pdh_levels.specs.Levels.{level_at, level_numbers}
+use Rattle.pdh_line.specs.Paths.{steps_of}
+use Rattle.pdh_line.specs.Progress.{FrameNumbers}
 use Rattle.pdh_clock.specs.Contents.{Contents, frame_count, counts}
 use Rattle.pdh_tx.specs.declared.tx.TxStop.{TxStop}
 use Rattle.pdh_tx.specs.declared.tx.TxStop.TheVariants.{Failed, Ended}
@@ -32,22 +34,16 @@ pub record Supply : Type 0 where
 
 -- ---- nodes
 
--- a node of a tree: its path, and the numbers of its frame that a schedule's level has too
+-- a node of a tree: its path, and the numbers of its frame
 pub record NodeFrame : Type 0 where
   pub path : Path
-  pub len : ℕ
-  pub tribs : ℕ
-  pub low : ℕ
-  pub locked : Bool
+  pub numbers : FrameNumbers
 
 -- it is a node of a chain with these levels, and its level has the same numbers
 pub record IsNodeOf (levels : List Level) (node : NodeFrame) : Type 0 where
   pub level : Level
   pub at : level_at levels (steps_of node.path) ≡ Some level
-  pub len : level.len ≡ node.len
-  pub tribs : level.tribs ≡ node.tribs
-  pub low : level.low ≡ node.low
-  pub locked : level.locked ≡ node.locked
+  pub numbers : level_numbers level ≡ node.numbers
 
 -- ---- a multiplexer
 

@@ -10,7 +10,8 @@ use Rattle.pdh_shape.specs.declared.role.Service.{Service}
 use Rattle.pdh_shape.specs.declared.role.Role.{Role}
 use Rattle.pdh_shape.specs.declared.role.Role.TheVariants.{Align, Service as ServiceSlot, Control, Just, Info}
 use Rattle.pdh_shape.specs.Frame.{FrameShape, idle}
-use Rattle.pdh_line.specs.Sending.{lead, arrives_at, sends_more, came_before, read_before, taken, Source, payload_bit, slot_bit, odd_before, line_bit}
+use Rattle.pdh_shape.specs.OwnNumbers.{lead}
+use Rattle.pdh_line.specs.Sending.{arrives_at, sends_more, came_before, read_before, taken, shape_numbers, Source, payload_bit, slot_bit, odd_before, line_bit}
 use Rattle.pdh_line.specs.Events.{overflows, underflows}
 use Rattle.pdh_tx.specs.declared.tx.TxStop.{TxStop}
 use Rattle.pdh_tx.specs.declared.tx.TxStop.TheVariants.{Overflow, Underflow, NoFrame}
@@ -99,7 +100,7 @@ node_obstacle s path ms plan size x =
 -- ---- a node as a whole
 
 abbrev pub node_frame : FrameShape → Path → NodeFrame
-node_frame s path = record { path = path; len = s.len; tribs = s.tribs; low = s.low; locked = false }
+node_frame s path = record { path = path; numbers = shape_numbers s }
 
 abbrev pub node_meaning : FrameShape → Path → List Meaning → Meaning
 node_meaning s path ms = record {

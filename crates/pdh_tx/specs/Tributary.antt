@@ -1,7 +1,7 @@
 -- What contracts see of a tributary.
 use Rattle.std.specs.Prelude.{ℕ, Bool, List, length, nat_le}
 use Rattle.pdh_shape.specs.declared.role.Service.{Service}
-use Rattle.pdh_line.specs.Sending.{threshold}
+use Rattle.pdh_shape.specs.OwnNumbers.{threshold}
 use Rattle.pdh_tx.specs.declared.tributary.FrameShare.{FrameShare}
 use Rattle.pdh_tx.specs.declared.tributary.Tributary.{Tributary}
 use Rattle.pdh_tx.specs.Meaning.{Plan, Supply, Meaning}

@@ -1,5 +1,5 @@
 ghost use Rattle.std.specs.Prelude.{◌≡◌, ◌<◌, ◌≤◌, ◌^◌, ℕ, suc, true, false, length, map, slice_get, Some, OnOk, IfErr, ◌==◌};
-ghost use Rattle.pdh_line.specs.Sending.{lead};
+ghost use Rattle.pdh_shape.specs.OwnNumbers.{lead};
 ghost use Rattle.pdh_tx.specs.Meaning.{plan_of, IsNodeOf, HoldsAll};
 ghost use Rattle.pdh_tx.specs.Tributary.{placed_in, held_in, meaning_in, share_in, child_in, store_in, would_carry};
 ghost use Rattle.pdh_tx.specs.Node.{any_leaf, node_frame, IsDisjoint, EachInChain, EachPlaced, IsDecided, Advance, Blocked, taken_to, came_to, read_to, led_to, lead_at, leads, beginning};
@@ -108,6 +108,7 @@ fn decide_all<S: Shape, C: Tx>(
     clock: &Schedule,
 )
     requires count { length tributaries.old.items ≡ S.TRIBS }
+    requires stores { (S.shape.copies == 0) ≡ false }
     requires node { IsNodeOf clock.now.levels (node_frame S.shape path) }
     requires scheduled { frame < (plan_of clock.now).frames path }
     ensures child { map child_in tributaries.new.items ≡ map child_in tributaries.old.items }

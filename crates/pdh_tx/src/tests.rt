@@ -7,29 +7,10 @@ ghost use Rattle.pdh_tx.specs.Node.{node_meaning};
 use crate::{Leaf, Node, Tx, TxStop};
 use pdh_clock::Schedule;
 use pdh_edge::{Feed, MemPort};
-use pdh_shape::{E2, Level, Path};
+use pdh_levels::E2_LEVEL;
+use pdh_shape::{E2, TOP};
 use std::alloc::{AllocError, Global};
 use std::test::Fail;
-
-const TOP: Path = Path {
-    depth: 0,
-    first: 0,
-    second: 0,
-};
-
-// The level of four streams of 2048 kbit/s in one of 8448 kbit/s.
-const E12: Level = Level {
-    len: 848,
-    tribs: 4,
-    low: 205,
-    locked: false,
-    rate: 8_448_000,
-    per: 1,
-    ppm: 30,
-    trib_rate: 2_048_000,
-    trib_per: 1,
-    trib_ppm: 50,
-};
 
 // The leaves 0 to 3.
 fn leaves(alloc: Global) -> Result<Vec<Leaf>, AllocError>
@@ -91,7 +72,7 @@ fn make_bits<T: Tx, F: Feed>(
 #[test]
 fn frame_of_zeros(rt: HostRuntime) -> Result<(), Fail> {
     let alloc = rt.alloc();
-    let clock = Schedule::read(alloc, &[E12], b"/ 1 205 205 205 205\n")?;
+    let clock = Schedule::read(alloc, &[E2_LEVEL], b"/ 1 205 205 205 205\n")?;
     let mut feed = zeros(alloc)?;
     let mut node = node(alloc)?;
     assert_eq!(rt; node.fill(0), 0);

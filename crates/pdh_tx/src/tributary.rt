@@ -1,16 +1,14 @@
 ghost use Rattle.std.specs.Prelude.{◌≡◌, ◌<◌, ◌≤◌, ℕ, suc, All, OnOk, OnErr, IfOk, IfErr, None, length, nat_le};
 ghost use Rattle.pdh_shape.specs.Frame.{idle};
-ghost use Rattle.pdh_line.specs.Sending.{lead, threshold};
+ghost use Rattle.pdh_shape.specs.OwnNumbers.{lead, threshold};
 ghost use Rattle.pdh_tx.specs.Meaning.{Plan, Supply, plan_of, IsNodeOf, HoldsAll, Fits, Met};
 ghost use Rattle.pdh_tx.specs.Held.{Placed, Held, Gains, Halts, arrival, lead_of, first_some};
 
 use crate::{Tx, TxStop};
 use pdh_clock::Schedule;
 use pdh_edge::Feed;
-use pdh_shape::Place;
+use pdh_shape::{LEAD, Place};
 use pdh_store::{Store, Underflow};
-
-const LEAD: u32 = 24;
 
 /// What a frame brings and carries of a tributary.
 #[derive(Clone, Copy, Debug, PartialEq, Eq)]

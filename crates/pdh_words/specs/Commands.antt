@@ -1,23 +1,17 @@
 -- The command that the words of a command line are.
-use Rattle.std.specs.Prelude.{ℕ, ◌&&◌, List, [], ◌∷◌, codes, Option, Some, None, if◌then◌else◌}
+use Rattle.std.specs.Prelude.{ℕ, ◌&&◌, List, [], ◌∷◌, codes, Option, Some, None, find, if◌then◌else◌}
 use Rattle.std.specs.Str.{bytes_eq}
 use Rattle.pdh_clock.specs.Text.{◌>>=◌, number_of}
 use Rattle.pdh_clock.specs.declared.bias.Bias.{Bias}
 use Rattle.pdh_clock.specs.declared.bias.Bias.TheVariants.{Nominal, Fast, Slow, Mixed}
 use Rattle.pdh_chain.specs.declared.chain.Chain.{Chain}
-use Rattle.pdh_chain.specs.declared.chain.Chain.TheVariants.{E12, E23, E34, E13, E24, E14}
+use Rattle.pdh_chain.specs.Chains.{chains, name_of}
 use Rattle.pdh_words.specs.declared.commands.Command.{Command}
 use Rattle.pdh_words.specs.declared.commands.Command.TheVariants.{Demux, Mux, ClockCheck, ClockMake}
 
 -- the chain of a word
 abbrev pub chain_of : List ℕ → Option Chain
-chain_of word =
-    (if bytes_eq word (codes "e12") then Some E12
-    else (if bytes_eq word (codes "e23") then Some E23
-    else (if bytes_eq word (codes "e34") then Some E34
-    else (if bytes_eq word (codes "e13") then Some E13
-    else (if bytes_eq word (codes "e24") then Some E24
-    else (if bytes_eq word (codes "e14") then Some E14 else None))))))
+chain_of word = find (λ chain. bytes_eq word (name_of chain)) chains
 
 -- the clock offsets of a word
 abbrev pub bias_of : List ℕ → Option Bias

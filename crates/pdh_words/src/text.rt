@@ -1,5 +1,5 @@
-ghost use Rattle.std.specs.Prelude.{◌≡◌, ◌+◌, ◌++◌, ◌≤◌, [], length, decimal};
-ghost use Rattle.pdh_words.specs.Paths.{path_text};
+ghost use Rattle.std.specs.Prelude.{◌≡◌, ◌+◌, ◌++◌, ◌≤◌, [], codes, length, decimal};
+ghost use Rattle.pdh_line.specs.Paths.{steps_of, path_text};
 
 use arrayvec::ArrayString;
 use itoa::Buffer;
@@ -49,19 +49,29 @@ impl Text {
         self.held.push_str(buffer.format(n));
     }
 
-    /// Appends the text of a node's path: `/`, `/A` or `/A/B`.
-    pub fn path(&mut self, path: &Path)
-        requires { length self.old + length (path_text path.now) ≤ 320 }
-        ensures bytes { self.new ≡ self.old ++ path_text path.now }
-        ensures len { length self.new ≤ length self.old + 42 }
+    /// Appends a slash and a step of a path.
+    fn step(&mut self, number: u8)
+        requires { length self.old + 1 + length (decimal number) ≤ 320 }
+        ensures bytes { self.new ≡ self.old ++ codes "/" ++ decimal number }
+        ensures len { length self.new ≤ length self.old + 21 }
     {
         self.text("/");
-        if path.depth > 0 {
-            self.number(u64::from(path.first));
-        }
-        if path.depth > 1 {
-            self.text("/");
-            self.number(u64::from(path.second));
+        self.number(u64::from(number));
+    }
+
+    /// Appends the text of a node's path: `/`, `/A` or `/A/B`.
+    pub fn path(&mut self, path: &Path)
+        requires { length self.old + length (path_text (steps_of path.now)) ≤ 320 }
+        ensures bytes { self.new ≡ self.old ++ path_text (steps_of path.now) }
+        ensures len { length self.new ≤ length self.old + 42 }
+    {
+        match path.depth {
+            0 => self.text("/"),
+            1 => self.step(path.first),
+            _ => {
+                self.step(path.first);
+                self.step(path.second);
+            }
         }
     }
 

@@ -3,22 +3,17 @@ ghost use Rattle.std.specs.String.{string_bytes};
 ghost use Rattle.pdh_words.specs.Commands.{chain_of, bias_of, conversion_of, making_of, command_of};
 
 use crate::commands::Command;
-use pdh_chain::Chain;
+use pdh_chain::{Chain, all_chains};
 use pdh_clock::{Bias, number};
 
 // The chain that a word names.
 fn chain(word: &str) -> Option<Chain>
     ensures { result ≡ chain_of word.now }
 {
-    match word {
-        "e12" => Some(Chain::E12),
-        "e23" => Some(Chain::E23),
-        "e34" => Some(Chain::E34),
-        "e13" => Some(Chain::E13),
-        "e24" => Some(Chain::E24),
-        "e14" => Some(Chain::E14),
-        _ => None,
-    }
+    all_chains()
+        .iter()
+        .copied()
+        .find(|chain| word == chain.name())
 }
 
 // The clock offsets that a word names.
@@ -61,7 +56,7 @@ fn making(chain_word: &str, frames: &str, bias_word: &str) -> Option<Command>
 
 /// The command of the words, without the program's own name, if they are a row of the table: `mux CHAIN`, `demux CHAIN`,
 /// `clock check CHAIN`, or `clock make CHAIN FRAMES BIAS` with a number and `nominal`, `fast`, `slow` or `mixed`. CHAIN is
-/// `e12`, `e23`, `e34`, `e13`, `e24` or `e14`.
+/// the name of a chain.
 pub fn command(words: &[String]) -> Option<Command>
     ensures { result ≡ command_of (map string_bytes words.now) }
 {

@@ -8,6 +8,7 @@ use Rattle.pdh_shape.specs.declared.role.Role.{Role}
 use Rattle.pdh_shape.specs.declared.role.Role.TheVariants.{Control, Just}
 use Rattle.pdh_shape.specs.declared.role.Mark.{Mark}
 use Rattle.pdh_shape.specs.declared.role.Mark.TheVariants.{Framing, Multi, Other}
+use Rattle.pdh_shape.specs.OwnNumbers.{most_slots}
 use Rattle.pdh_shape.specs.Frame.{FrameShape, IsFrame, HasMarks, slots, clean, is_align, is_marked, is_framing, framing_before}
 use Rattle.pdh_shape.specs.Tributary.{HasTributaries, ReadsEvenly, reads_from, controls, is_control, is_just, reads_below}
 use Rattle.pdh_shape.specs.laws.Ranges.{and_true, list_all-at, count_push, count-range_grows, count-made}
@@ -47,7 +48,7 @@ parts_of s kept =
 
 record Numbers (s : FrameShape) : Type 0 where
   some_slots : 0 < s.len
-  few_slots : s.len ≤ 16384
+  few_slots : s.len ≤ most_slots
   no_loss : s.loses clean clean clean clean ≡ false
   odd : (s.copies ≡ 0) ⊎ (s.copies % 2 ≡ 1)
 

@@ -8,7 +8,7 @@ use Rattle.pdh_chain.proofs.Muxed.{leaves_held, nodes_held, sent, stopped, faile
 use Rattle.pdh_chain.proofs.making.mux_with.Goals as goal
 
 pub returns-in-Err-clause-err : goal.returns-in-Err-clause-err
-returns-in-Err-clause-err g c = (c.in-Err.ensures.cause.failed, nothing_put (g.S.Shape.shape ∷ g.C.ChainTx.shapes) _ _ _ _ _ _ c.start.ensures.inputs c.start.ensures.outputs)
+returns-in-Err-clause-err g c = (c.in-Err.ensures.cause.failed, nothing_put (g.S.Shape.shape ∷ g.C.ChainTx.shapes) _ _ _ _ _ _ c.requires.stores c.start.ensures.inputs c.start.ensures.outputs)
 
 pub send_frames-requires-clause-lists : goal.send_frames-requires-clause-lists
 send_frames-requires-clause-lists g c =
@@ -30,7 +30,7 @@ returns-in-Ok-clause-ok g c =
     let few : 0 + suc (length g.C.ChainTx.shapes) ≤ 3 = omega (arith, c.requires.depth) in
     let whole = g.met.S.Shape.len_is ∙ sym c.LEN-2.ensures in
     rw (sym c.in_default.ensures.inputs, sym c.in_default.ensures.outputs)
-    (sent shapes (counts c.args.clock.now.rows) (frame_count c.args.clock.now.rows) are (refl, refl, few) _ c.LEN-2.result c.in_ok-node.ensures.meaning whole _ _ _ c.args.frames _ _ _ _ c.in_ok-node.ensures.fresh.held c.in-Ok.ensures.sent)
+    (sent shapes (counts c.args.clock.now.rows) (frame_count c.args.clock.now.rows) are c.requires.stores (refl, refl, few) _ c.LEN-2.result c.in_ok-node.ensures.meaning whole _ _ _ c.args.frames _ _ _ _ c.in_ok-node.ensures.fresh.held c.in-Ok.ensures.sent)
 
 pub returns-in-Err-Sender-clause-err : goal.returns-in-Err-Sender-clause-err
 returns-in-Err-Sender-clause-err g c =
@@ -42,7 +42,7 @@ returns-in-Err-Sender-clause-err g c =
     let stops = rw c.in-Err-Sender.field-0-is at c.in-Err-Sender.ensures.stops in
     rw (c.stop_of.ensures, sym c.in_default.ensures.inputs, sym c.in_default.ensures.outputs)
     (stop_since shapes (counts c.args.clock.now.rows) (frame_count c.args.clock.now.rows) c.args.frames _ _ _ _ _ _ _ _ _ _ _ since.0 since.1
-    (stopped shapes (counts c.args.clock.now.rows) (frame_count c.args.clock.now.rows) are (refl, refl, few) _ c.LEN-2.result c.in_ok-node.ensures.meaning whole _ c.args.frames c.in-Err-Sender.stop _ _ _ _ _ _ _ _ c.requires.scheduled
+    (stopped shapes (counts c.args.clock.now.rows) (frame_count c.args.clock.now.rows) are c.requires.stores (refl, refl, few) _ c.LEN-2.result c.in_ok-node.ensures.meaning whole _ c.args.frames c.in-Err-Sender.stop _ _ _ _ _ _ _ _ c.requires.scheduled
     c.in_ok-node.ensures.fresh.held stops))
 
 pub returns-clause-err : goal.returns-clause-err
@@ -53,5 +53,5 @@ returns-clause-err g c =
     let whole = g.met.S.Shape.len_is ∙ sym c.LEN-2.ensures in
     let since = g.met.P.Port.kept_counts c.args.port.now c.start.new.self c.start.ensures.kept in
     let fails = rw c.in-Err-WriteFailed.field-0-is at c.in-Err-WriteFailed.ensures.fails in
-    let stop = failed shapes (counts c.args.clock.now.rows) (frame_count c.args.clock.now.rows) are (refl, refl, few) _ c.LEN-2.result c.in_ok-node.ensures.meaning whole _ c.args.frames _ _ _ _ _ _ c.in_ok-node.ensures.fresh.held fails in
+    let stop = failed shapes (counts c.args.clock.now.rows) (frame_count c.args.clock.now.rows) are c.requires.stores (refl, refl, few) _ c.LEN-2.result c.in_ok-node.ensures.meaning whole _ c.args.frames _ _ _ _ _ _ c.in_ok-node.ensures.fresh.held fails in
     rw (sym c.in_default.ensures.inputs, sym c.in_default.ensures.outputs) (omega (arith, stop.0, since.1), stop.1)

@@ -1,11 +1,7 @@
-use Rattle.std.proofs.Common.{ap, sym, subst, ◌<◌, ◌∙◌}
-use Rattle.pdh_clock.specs.Chain.{AreLevels}
+use Rattle.std.proofs.Common.{ap, subst, ◌<◌, ◌∙◌}
 use Rattle.pdh_edge.specs.Ports.{Outputs}
 use Rattle.pdh_edge.proofs.Holding.{inputs_hold}
 use Rattle.pdh_chain.proofs.tests.run.Goals as goal
-
-pub read-requires : goal.read-requires
-read-requires c = subst AreLevels (sym c.deref.ensures.value) c.in_ok-levels.ensures.sound
 
 pub room-requires : goal.room-requires
 room-requires c = record { held = ap (λ (o : Outputs). o.holds 0) c.in_ok-port.ensures.outputs }

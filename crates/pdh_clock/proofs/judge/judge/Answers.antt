@@ -1,9 +1,9 @@
 use Rattle.std.proofs.Common.{◌≤◌, Ok, Err, sym, arith}
 use Rattle.std.proofs.lemmas.Result.{err_from_is_err_and}
 use Rattle.std.proofs.lemmas.List.Elements.{All-weaker}
-use Rattle.pdh_clock.specs.Chain.{steps_of}
+use Rattle.pdh_line.specs.Paths.{steps_of}
 use Rattle.pdh_clock.specs.Parsed.{row_found}
-use Rattle.pdh_clock.proofs.Levels.{level_is}
+use Rattle.pdh_levels.proofs.LevelLaws.{level_is}
 use Rattle.pdh_clock.proofs.Judging.{judged_by_counts}
 use Rattle.pdh_clock.proofs.judge.judge.Goals as goal
 

@@ -2,12 +2,13 @@ use Rattle.std.proofs.Common.{◌≡◌, ◌∙◌, ◌-◌, [], length, get_or,
 use Rattle.std.specs.Vec.{with_item}
 use Rattle.pdh_clock.specs.declared.tree.NodeRows.{NodeRows}
 use Rattle.pdh_clock.specs.declared.tree.Tree.{Tree}
-use Rattle.pdh_clock.specs.Chain.{steps_of, nodes_of}
+use Rattle.pdh_line.specs.Paths.{steps_of}
+use Rattle.pdh_levels.specs.Levels.{nodes_in, place_of}
 use Rattle.pdh_clock.specs.Begun.{NoneShort}
 use Rattle.pdh_clock.specs.Made.{offset_of}
 use Rattle.pdh_clock.specs.Making.{last_step}
-use Rattle.pdh_clock.specs.Stored.{contents_of, node_path, place_of}
-use Rattle.pdh_clock.proofs.Levels.{level_in, level_is}
+use Rattle.pdh_clock.specs.Stored.{contents_of, node_path}
+use Rattle.pdh_levels.proofs.LevelLaws.{level_in, level_is}
 use Rattle.pdh_clock.proofs.Trees.{Changes, IsTree_changed, path_of_node, place_of_node}
 use Rattle.pdh_clock.proofs.MadeRows.{made_rows}
 use Rattle.pdh_clock.proofs.MadeTrees.{begun_is_made, made-few, none_short_made}
@@ -54,9 +55,9 @@ makes : (c : goal.After-drop-index_mut-4) → IsMadeNode c.args.tree.now c.args.
     c.level_of-level.result c.clocks_of-clocks.result.height c.clocks_of-clocks.result.line c.begun-frames.result
 makes c =
     let tree = c.args.tree.now in
-    let path : steps_of c.index.result.now.path ≡ get_or (nodes_of tree.levels.items) c.args.place [] =
+    let path : steps_of c.index.result.now.path ≡ get_or (nodes_in tree.levels.items) c.args.place [] =
     ap node_path c.index.ensures ∙ path_of_node tree c.args.place _ [] c.requires.tree c.requires.inside in
-    let path' : node_path (node_after c) ≡ get_or (nodes_of tree.levels.items) c.args.place [] =
+    let path' : node_path (node_after c) ≡ get_or (nodes_in tree.levels.items) c.args.place [] =
     ap node_path c.index_mut.ensures.value ∙ path_of_node tree c.args.place _ [] c.requires.tree c.requires.inside in
     record {
       inside = c.requires.inside;

@@ -3,7 +3,7 @@ use Rattle.std.proofs.lemmas.Result.{err_from_is_err_and}
 use Rattle.std.proofs.lemmas.Bool.{eqb-true}
 use Rattle.std.proofs.lemmas.List.{nil_from_length}
 use Rattle.pdh_clock.specs.declared.row.FoundRow.{FoundRow}
-use Rattle.pdh_clock.specs.Chain.{steps_of}
+use Rattle.pdh_line.specs.Paths.{steps_of}
 use Rattle.pdh_clock.specs.Contents.{IsRowOf}
 use Rattle.pdh_clock.specs.Judged.{is_passed_over, row_judged}
 use Rattle.pdh_clock.specs.Parsed.{row_found}

@@ -1,5 +1,5 @@
 use Rattle.std.proofs.Common.{◌≡◌, ℕ, ◌<◌, None}
-use Rattle.pdh_clock.specs.Chain.{steps_of}
+use Rattle.pdh_line.specs.Paths.{steps_of}
 use Rattle.pdh_ops.specs.Clock.{run_outside}
 use Rattle.pdh_ops.proofs.clock.outside_of.Given as goal
 

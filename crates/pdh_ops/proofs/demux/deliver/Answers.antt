@@ -1,4 +1,4 @@
-use Rattle.std.proofs.Common.{◌≡◌, ◌<◌, ap, sym, ◌∙◌, subst}
+use Rattle.std.proofs.Common.{ap, ◌∙◌}
 use Rattle.pdh_edge.specs.MemLists.{room_of}
 use Rattle.pdh_edge.proofs.InRoom.{puts_in_room}
 use Rattle.pdh_chain.specs.Chains.{leaves_of}

@@ -1,5 +1,4 @@
-use Rattle.std.proofs.Common.{◌<◌, ap, ◌∙◌, refl, arith, below_more}
-use Rattle.pdh_edge.specs.MemLists.{room_of}
+use Rattle.std.proofs.Common.{ap, ◌∙◌, refl, arith, below_more}
 use Rattle.pdh_edge.specs.Ports.{Outputs}
 use Rattle.pdh_ops.proofs.demux.make_room.Goals as goal
 

@@ -1,7 +1,5 @@
-use Rattle.std.proofs.Common.{◌≤◌, ◌/◌, arith}
 use Rattle.std.proofs.lemmas.Result.{err_from_is_err_and}
-use Rattle.pdh_chain.specs.Chains.{frame_bytes_of}
-use Rattle.pdh_ops.proofs.LineStops.{size_stops, read_stops}
+use Rattle.pdh_ops.proofs.LineStops.{size_stops}
 use Rattle.pdh_ops.proofs.line.read_line.Goals as goal
 
 pub returns-in_err-bytes-clause-err : goal.returns-in_err-bytes-clause-err

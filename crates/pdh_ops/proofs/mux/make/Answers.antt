@@ -1,10 +1,6 @@
-use Rattle.std.proofs.Common.{◌≡◌, ◌<◌, ◌≤◌, ℕ, Bool, Vec, length, ap, sym, ◌∙◌, subst, arith}
-use Rattle.std.specs.declared.alloc.Global.{Global}
-use Rattle.pdh_edge.specs.Ports.{Inputs, Outputs}
-use Rattle.pdh_edge.specs.MemLists.{length_of}
+use Rattle.std.proofs.Common.{◌<◌, sym, subst}
 use Rattle.pdh_edge.proofs.Holding.{inputs_hold}
 use Rattle.pdh_chain.specs.Chains.{leaves_of}
-use Rattle.pdh_ops.specs.MuxSteps.{CanSend}
 use Rattle.pdh_ops.proofs.MuxMade.{IsOpened, sent_made}
 use Rattle.pdh_ops.proofs.MuxSent.{list_left}
 use Rattle.pdh_ops.proofs.mux.make.Goals as goal

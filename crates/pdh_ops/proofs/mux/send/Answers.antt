@@ -1,4 +1,4 @@
-use Rattle.std.proofs.Common.{◌≡◌, ◌<◌, ap, sym, ◌∙◌, subst}
+use Rattle.std.proofs.Common.{◌<◌, sym, subst}
 use Rattle.pdh_edge.specs.MemLists.{mem_outputs, bits_held, room_of}
 use Rattle.pdh_edge.proofs.InRoom.{puts_in_room}
 use Rattle.pdh_ops.proofs.MuxSent.{has_frames, has_bits, none_rose, in_room}

@@ -1,11 +1,11 @@
 use Rattle.std.proofs.Common.{◌≤◌, length, append_assoc, ap, arith}
-use Rattle.pdh_words.specs.Paths.{path_text}
+use Rattle.pdh_line.specs.Paths.{steps_of, path_text}
 use Rattle.pdh_ops.proofs.Texts.{path_len}
 use Rattle.pdh_ops.proofs.report.placed.Goals as goal
 
 pub path-requires : goal.path-requires
 path-requires c =
-    let path : length (path_text c.args.place.path) ≤ 42 = path_len c.args.place.path (omega arith) (omega arith) in
+    let path : length (path_text (steps_of c.args.place.path)) ≤ 42 = path_len c.args.place.path (omega arith) (omega arith) in
     omega (arith, ap length c.new-text.ensures)
 
 pub returns : goal.returns

@@ -1,4 +1,4 @@
-use Rattle.std.proofs.Common.{sym, subst, ◌≤◌, arith}
+use Rattle.std.proofs.Common.{sym, subst, arith}
 use Rattle.std.proofs.lemmas.Result.{err_from_is_err_and}
 use Rattle.pdh_edge.specs.Files.{Holds}
 use Rattle.pdh_ops.specs.Names.{schedule_name}
@@ -16,9 +16,9 @@ returns-in_err-text-clause-err g c =
 pub returns-in_err-read-clause-err : goal.returns-in_err-read-clause-err
 returns-in_err-read-clause-err g c =
     let p = err_from_is_err_and c.from_residual-in_err-read.result c.from_residual-in_err-read.ensures.1 in
-    let said = rw (c.deref.ensures.value, c.in_ok-levels.ensures.levels) at c.in_err-read.ensures.rows in
-    rw (p.1, p.2) (fault_stops c.args.chain _ _ c.deref-2.result.now c.in_err-read.field-0.0 (subst (Holds ((g.S.Shelf.state c.args.shelf.now).told schedule_name)) (sym c.deref-2.ensures.value) c.in_ok-text.ensures.ok) said)
+    let said = rw c.levels.ensures.value at c.in_err-read.ensures.rows in
+    rw (p.1, p.2) (fault_stops c.args.chain _ _ c.deref.result.now c.in_err-read.field-0.0 (subst (Holds ((g.S.Shelf.state c.args.shelf.now).told schedule_name)) (sym c.deref.ensures.value) c.in_ok-text.ensures.ok) said)
 
 pub returns-clause-rows : goal.returns-clause-rows
 returns-clause-rows g c =
-    rows_read c.args.chain (g.S.Shelf.state c.args.shelf.now) c.deref-2.result.now c.in_ok-read.field-0.rows (subst (Holds ((g.S.Shelf.state c.args.shelf.now).told schedule_name)) (sym c.deref-2.ensures.value) c.in_ok-text.ensures.ok) (rw (c.deref.ensures.value, c.in_ok-levels.ensures.levels) at c.in_ok-read.ensures.rows)
+    rows_read c.args.chain (g.S.Shelf.state c.args.shelf.now) c.deref.result.now c.in_ok-read.field-0.rows (subst (Holds ((g.S.Shelf.state c.args.shelf.now).told schedule_name)) (sym c.deref.ensures.value) c.in_ok-text.ensures.ok) (rw c.levels.ensures.value at c.in_ok-read.ensures.rows)

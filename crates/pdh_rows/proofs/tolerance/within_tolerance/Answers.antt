@@ -1,6 +1,6 @@
 use Rattle.std.proofs.Common.{◌≡◌, ◌-◌, ◌∙◌, Some, ap, sym, arith}
 use Rattle.std.specs.Option.{option_map}
-use Rattle.pdh_line.specs.Sending.{arrived}
+use Rattle.pdh_line.specs.Progress.{arrived}
 use Rattle.pdh_rows.specs.declared.tolerance.Bound.TheVariants.{Most, Least}
 use Rattle.pdh_rows.specs.Rows.{node_counts, node_frame_count}
 use Rattle.pdh_rows.specs.Bounds.{gains, losses}

@@ -1,10 +1,14 @@
-use Rattle.std.proofs.Common.{◌≡◌, ◌<◌, ◌≤◌, ◌+◌, ℕ, length, sym, ap, ◌∙◌, arith, leb, inl, inr}
+use Rattle.std.proofs.Common.{◌≡◌, ◌<◌, ◌≤◌, ◌+◌, ◌==◌, ℕ, false, length, refl, sym, ap, ◌∙◌, arith, leb, inl, inr}
 use Rattle.std.specs.Option.{option_map_or}
 use Rattle.std.proofs.lemmas.Bool.{cases_lt, cases_eq}
 use Rattle.std.proofs.lemmas.List.{length-set}
 use Rattle.std.proofs.Math.Seq.{map-set_same}
-use Rattle.pdh_line.specs.Sending.{threshold}
-use Rattle.pdh_clock.specs.Chain.{len_at, steps_of}
+use Rattle.pdh_shape.specs.OwnNumbers.{threshold}
+use Rattle.pdh_levels.specs.Levels.{len_at, level_stores, stores_at}
+use Rattle.pdh_line.specs.Progress.{FrameNumbers, stores_of}
+use Rattle.pdh_line.specs.Sending.{shape_numbers}
+use Rattle.pdh_shape.specs.Frame.{FrameShape}
+use Rattle.pdh_line.specs.Paths.{steps_of}
 use Rattle.pdh_tx.specs.Meaning.{plan_of}
 use Rattle.pdh_tx.specs.Tributary.{child_in, store_in, share_in, would_carry}
 use Rattle.pdh_tx.proofs.Moving.{slice_get_set, inside}
@@ -15,6 +19,16 @@ before j i h other = elim (cases_lt j i) [
   | inl less ↦ less
   | inr more ↦ absurd (other (omega arith))
 ]
+
+-- each tributary of a shape with control bits has a store
+all_stores : (s : FrameShape) → (s.copies == 0) ≡ false → stores_of (shape_numbers s) ≡ s.tribs
+all_stores s stores = rw stores refl
+
+pub count-arriving-requires-clause-in_range : goal.count-arriving-requires-clause-in_range
+count-arriving-requires-clause-in_range g c =
+    let stores : stores_at c.args.clock.now.levels (steps_of c.args.path) ≡ g.S.Shape.TRIBS =
+    ap (λ o. option_map_or level_stores o 0) c.requires.node.at ∙ ap stores_of c.requires.node.numbers ∙ all_stores g.S.Shape.shape c.requires.stores ∙ g.met.S.Shape.tribs_is in
+    omega (arith, stores)
 
 pub loop-trib-preserved : goal.loop-trib-preserved
 loop-trib-preserved g c =
@@ -38,7 +52,7 @@ loop-trib-preserved g c =
       fits = λ j h. elim (cases_eq j i) [
         | inl same ↦
             let most : counts i ≤ len_at c.args.clock.now.levels (steps_of c.args.path) = omega (arith, c.count-arriving.ensures.value, c.count-arriving.ensures.most) in
-            let len : len_at c.args.clock.now.levels (steps_of c.args.path) ≡ g.S.Shape.LEN = ap (λ o. option_map_or (λ level. level.len) o 0) c.requires.node.at ∙ c.requires.node.len ∙ g.met.S.Shape.len_is in
+            let len : len_at c.args.clock.now.levels (steps_of c.args.path) ≡ g.S.Shape.LEN = ap (λ o. option_map_or (λ level. level.len) o 0) c.requires.node.at ∙ ap (λ (n : FrameNumbers). n.len) c.requires.node.numbers ∙ g.met.S.Shape.len_is in
             omega (arith, most, len, ap counts same)
         | inr other ↦ inv.fits j (before j i h other)
       ];

@@ -3,7 +3,7 @@ use Rattle.std.proofs.lemmas.Bool.{lt-ltb}
 use Rattle.std.proofs.lemmas.Result.{on_ok_weaker, IfErr-weaker}
 use Rattle.std.proofs.lemmas.List.{length-map}
 use Rattle.pdh_shape.specs.Frame.{FrameShape}
-use Rattle.pdh_line.specs.Sending.{lead}
+use Rattle.pdh_shape.specs.OwnNumbers.{lead}
 use Rattle.pdh_tx.specs.Meaning.{plan_of, Plan, Supply, Meaning}
 use Rattle.pdh_tx.specs.Tributary.{placed_in, held_in, meaning_in}
 use Rattle.pdh_tx.specs.Node.{taken_to}

@@ -3,7 +3,7 @@ use Rattle.std.specs.List.{range_with_len}
 use Rattle.std.proofs.lemmas.Option.{slice_get_read, slice_get-map}
 use Rattle.std.proofs.lemmas.List.{length-set}
 use Rattle.std.proofs.Math.Seq.{map-set_same}
-use Rattle.pdh_line.specs.Sending.{lead}
+use Rattle.pdh_shape.specs.OwnNumbers.{lead}
 use Rattle.pdh_tx.specs.Meaning.{plan_of, Plan, Meaning}
 use Rattle.pdh_tx.specs.Held.{first_some, lead_of}
 use Rattle.pdh_tx.specs.Tributary.{placed_in, held_in, meaning_in}

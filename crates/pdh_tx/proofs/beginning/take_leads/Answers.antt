@@ -2,7 +2,7 @@ use Rattle.std.proofs.Common.{rules, ◌≡◌, ◌<◌, ◌+◌, ℕ, suc, map,
 use Rattle.std.specs.Prelude.{flat_map}
 use Rattle.std.specs.List.{range_with_len}
 use Rattle.pdh_shape.specs.Frame.{FrameShape}
-use Rattle.pdh_line.specs.Sending.{lead}
+use Rattle.pdh_shape.specs.OwnNumbers.{lead}
 use Rattle.pdh_tx.specs.declared.tx.TxStop.{TxStop}
 use Rattle.pdh_tx.specs.Meaning.{plan_of, Plan, Meaning}
 use Rattle.pdh_tx.specs.Tributary.{placed_in, held_in, meaning_in}

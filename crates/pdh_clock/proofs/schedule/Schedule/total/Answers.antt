@@ -1,5 +1,6 @@
 use Rattle.std.proofs.Common.{◌*◌, ◌≤◌, subst}
-use Rattle.pdh_clock.specs.Chain.{len_at, steps_of}
+use Rattle.pdh_levels.specs.Levels.{len_at}
+use Rattle.pdh_line.specs.Paths.{steps_of}
 use Rattle.pdh_clock.specs.Contents.{Contents}
 use Rattle.pdh_clock.proofs.Served.{total_most}
 use Rattle.pdh_clock.proofs.schedule.Schedule.total.Goals as goal

@@ -4,7 +4,8 @@ use Rattle.pdh_shape.specs.declared.place.Level.{Level}
 use Rattle.pdh_rows.specs.Rows.{node_counts, node_frame_count}
 use Rattle.pdh_rows.specs.Stored.{rows_of}
 use Rattle.pdh_rows.specs.Outside.{first_outside, run_in}
-use Rattle.pdh_clock.specs.Chain.{steps_of, low_at, level_at}
+use Rattle.pdh_line.specs.Paths.{steps_of}
+use Rattle.pdh_levels.specs.Levels.{low_at, level_at}
 use Rattle.pdh_clock.specs.Contents.{Contents, counts, frame_count}
 use Rattle.pdh_clock.specs.Stored.{rows_in}
 use Rattle.pdh_clock.proofs.Served.{same_counts}

@@ -4,11 +4,13 @@ use Rattle.pdh_rows.specs.Stored.{rows_of, node_row}
 use Rattle.std.specs.Vec.{with_item}
 use Rattle.pdh_clock.specs.declared.tree.NodeRows.{NodeRows}
 use Rattle.pdh_clock.specs.declared.tree.Tree.{Tree}
-use Rattle.pdh_clock.specs.Chain.{steps_of, stores_at}
+use Rattle.pdh_line.specs.Paths.{steps_of}
+use Rattle.pdh_levels.specs.Levels.{stores_at}
 use Rattle.pdh_clock.specs.Stored.{IsSmallRow, at_path, node_path}
 use Rattle.pdh_clock.proofs.Trees.{IsNodeAt, PutsRow, node_found, place_inside, changes_put, IsTree_changed, rows_put}
 use Rattle.pdh_clock.proofs.Growing.{IsSmallNodeRow, small_stored, frames_fit, bits_fit}
 use Rattle.pdh_clock.proofs.tree.Tree.add.Goals as goal
+use Rattle.pdh_shape.specs.OwnNumbers.{most_bytes}
 
 pub index_mut-requires : goal.index_mut-requires
 index_mut-requires c = omega (arith, place_inside c.args.self.now (steps_of c.args.node.now) c.requires.tree c.requires.row.node, c.place-place.ensures)
@@ -27,7 +29,7 @@ add-requires-clause-tribs c = c.requires.row.stores
 small : (c : goal.After-add-arg-1) → All IsSmallNodeRow (rows_of c.index_mut.result.now.table)
 small c = small_stored (node_path c.index_mut.result.now) (rows_of c.index_mut.result.now.table) (subst (All IsSmallRow) (found c).rows_are c.requires.all_small)
 
-few : (c : goal.After-add-arg-1) → 11 * length (rows_of c.index_mut.result.now.table) ≤ 33554432
+few : (c : goal.After-add-arg-1) → 11 * length (rows_of c.index_mut.result.now.table) ≤ most_bytes
 few c = omega (arith, c.requires.few, ap length (found c).rows_are, length-map (rows_of c.index_mut.result.now.table) (at_path (node_path c.index_mut.result.now)))
 
 pub add-requires-clause-frames_fit : goal.add-requires-clause-frames_fit

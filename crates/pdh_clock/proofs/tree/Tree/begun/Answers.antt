@@ -1,8 +1,8 @@
 use Rattle.std.proofs.Common.{◌≡◌, ◌∙◌, ◌<◌, ap, sym, arith}
-use Rattle.pdh_clock.specs.Chain.{steps_of}
-use Rattle.pdh_clock.specs.Begun.{begun_by}
+use Rattle.pdh_line.specs.Paths.{steps_of}
+use Rattle.pdh_line.specs.Progress.{begun_by}
 use Rattle.pdh_clock.specs.Stored.{contents_of}
-use Rattle.pdh_clock.proofs.Levels.{level_is}
+use Rattle.pdh_levels.proofs.LevelLaws.{level_is}
 use Rattle.pdh_clock.proofs.Begins.{begun_by_ceil, begun_by-le, frames_begun_is}
 use Rattle.pdh_clock.proofs.tree.Tree.begun.Goals as goal
 

@@ -1,9 +1,11 @@
-use Rattle.std.proofs.Common.{◌≡◌, ◌∙◌, ℕ, Some, length, ap, sym, subst, arith}
-use Rattle.pdh_clock.specs.Chain.{steps_of}
+use Rattle.std.proofs.Common.{◌≡◌, ◌∙◌, ◌<◌, ℕ, [], Some, length, ap, sym, subst, arith}
+use Rattle.pdh_line.specs.Paths.{steps_of}
+use Rattle.pdh_levels.specs.Levels.{nodes_in, place_of}
+use Rattle.pdh_levels.proofs.NodeOrder.{node_place}
 use Rattle.pdh_clock.specs.Contents.{frame_count}
 use Rattle.pdh_clock.specs.Begun.{NoneShort, Shortage}
-use Rattle.pdh_clock.specs.Stored.{contents_of, node_path, place_of, rows_in}
-use Rattle.pdh_clock.proofs.Trees.{length-nodes, place_of_node}
+use Rattle.pdh_clock.specs.Stored.{contents_of, rows_in}
+use Rattle.pdh_clock.proofs.Trees.{length-nodes}
 use Rattle.pdh_clock.proofs.Served.{read_at}
 use Rattle.pdh_clock.proofs.Begins.{shortage_first, shortage_none, none_short_more}
 use Rattle.pdh_clock.proofs.tree.Tree.short.Goals as goal
@@ -11,30 +13,31 @@ use Rattle.pdh_clock.proofs.tree.Tree.short.Goals as goal
 pub begun-need-requires-clause-enough : goal.begun-need-requires-clause-enough
 begun-need-requires-clause-enough c =
     let tree = c.args.self.now in
-    let place = ap (λ node. place_of tree.levels.items (node_path node)) c.index.ensures ∙ place_of_node tree c.loop-place.place _ c.requires (omega arith) in
+    let inside : c.loop-place.place < length (nodes_in tree.levels.items) = omega (arith, length-nodes tree c.requires) in
+    let place = ap (place_of tree.levels.items) c.node-node.ensures.steps ∙ node_place tree.levels.items c.loop-place.place [] inside in
     subst (NoneShort (contents_of tree) c.args.top_frames) (sym place) c.loop-place.invariant
 
-pub returns-then-have-need : goal.returns-then-have-need
-returns-then-have-need c =
+pub returns-then-have-need-clause-short : goal.returns-then-have-need-clause-short
+returns-then-have-need-clause-short c =
     let tree = c.args.self.now in
-    let path = steps_of c.index.result.now.path in
-    let read = read_at tree c.loop-place.place c.index.result.now c.index-in-loop-place.result.now c.requires (omega arith) c.index.ensures c.index-in-loop-place.ensures in
+    let path = steps_of c.node-node.result in
+    let read = read_at tree c.loop-place.place path c.index.result.now c.requires (omega arith) c.node-node.ensures.steps c.index.ensures in
     let have : c.frames-have.result ≡ frame_count (rows_in tree) path = c.frames-have.ensures ∙ ap length read.frames in
     let need = c.begun-need.ensures in
     let answer : ℕ → ℕ → Shortage = λ have need. record { path = path; have = have; need = need } in
     ap (λ n. Some (answer n c.begun-need.result)) have ∙ ap (λ n. Some (answer (frame_count (rows_in tree) path) n)) need
-    ∙ sym (shortage_first (contents_of tree) c.args.top_frames c.loop-place.place path read.inside read.at c.loop-place.invariant
+    ∙ sym (shortage_first (contents_of tree) c.args.top_frames c.loop-place.place path read.inside (sym c.node-node.ensures.steps) c.loop-place.invariant
     (let short = c.if-have-need.true in omega (arith, have, need)))
 
 pub loop-place-preserved : goal.loop-place-preserved
 loop-place-preserved c =
     let tree = c.args.self.now in
-    let path = steps_of c.index.result.now.path in
-    let read = read_at tree c.loop-place.place c.index.result.now c.index-in-loop-place.result.now c.requires (omega arith) c.index.ensures c.index-in-loop-place.ensures in
+    let path = steps_of c.node-node.result in
+    let read = read_at tree c.loop-place.place path c.index.result.now c.requires (omega arith) c.node-node.ensures.steps c.index.ensures in
     let have : c.frames-have.result ≡ frame_count (rows_in tree) path = c.frames-have.ensures ∙ ap length read.frames in
     let need = c.begun-need.ensures in
-    none_short_more (contents_of tree) c.args.top_frames c.loop-place.place path c.loop-place.invariant read.at
+    none_short_more (contents_of tree) c.args.top_frames c.loop-place.place path c.loop-place.invariant (sym c.node-node.ensures.steps)
     (let enough = c.if-have-need.false in omega (arith, have, need))
 
-pub returns : goal.returns
-returns c = sym (shortage_none (contents_of c.args.self.now) c.args.top_frames c.loop-place.place (omega (arith, length-nodes c.args.self.now c.requires)) c.loop-place.invariant)
+pub returns-clause-short : goal.returns-clause-short
+returns-clause-short c = sym (shortage_none (contents_of c.args.self.now) c.args.top_frames c.loop-place.place (omega (arith, length-nodes c.args.self.now c.requires)) c.loop-place.invariant)

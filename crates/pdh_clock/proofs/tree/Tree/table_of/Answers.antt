@@ -1,5 +1,6 @@
 use Rattle.std.proofs.Common.{◌∙◌, ap, sym, subst, arith, get_or}
-use Rattle.pdh_clock.specs.Chain.{steps_of, stores_at}
+use Rattle.pdh_line.specs.Paths.{steps_of}
+use Rattle.pdh_levels.specs.Levels.{stores_at}
 use Rattle.pdh_clock.proofs.Trees.{IsNodeAt, node_at, place_inside}
 use Rattle.pdh_clock.proofs.tree.Tree.table_of.Goals as goal
 

@@ -1,8 +1,8 @@
 use Rattle.std.proofs.Common.{◌%◌, ◌/◌, ◌<◌, ◌≤◌, ◌^◌, sym, subst, arith}
 use Rattle.std.proofs.lemmas.Nat.{mod_below}
 use Rattle.std.proofs.Math.Nat.{mul-le-mul_right, mul-le-mul_left}
-use Rattle.pdh_clock.specs.Chain.{steps_of}
-use Rattle.pdh_clock.proofs.Levels.{level_is}
+use Rattle.pdh_line.specs.Paths.{steps_of}
+use Rattle.pdh_levels.proofs.LevelLaws.{level_is}
 use Rattle.pdh_clock.proofs.Begins.{whole_frames-le, part_small}
 use Rattle.pdh_clock.proofs.tree.Tree.taken.Goals as goal
 

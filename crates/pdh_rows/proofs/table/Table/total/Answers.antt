@@ -1,6 +1,6 @@
 use Rattle.std.proofs.Common.{◌≡◌, ◌∙◌, ◌<◌, ◌≤◌, ◌+◌, ◌*◌, ◌-◌, sym, refl, arith, length, slice_index}
 use Rattle.std.proofs.lemmas.List.{get_or_default}
-use Rattle.pdh_line.specs.Sending.{arrived}
+use Rattle.pdh_line.specs.Progress.{arrived}
 use Rattle.pdh_rows.proofs.Tabled.{firsts_rise, last_first, total_in_row, total_below_next, place_below}
 use Rattle.pdh_rows.proofs.table.Table.total.Goals as goal
 

@@ -1,0 +1,94 @@
+//! `mux` and `demux` of each chain, by the types of its nodes.
+
+ghost use Rattle.std.specs.Prelude.{◌≡◌, ◌<◌, ◌≤◌, ◌^◌, ℕ, [], IsTrue, IfOk, OnOk, IfErr};
+ghost use Rattle.pdh_clock.specs.Contents.{frame_count, counts};
+ghost use Rattle.pdh_chain.specs.Chains.{shapes_of, leaves_of, levels_of};
+ghost use Rattle.pdh_chain.specs.Muxes.{Muxes, IsMuxStop, IsLeftReady};
+ghost use Rattle.pdh_chain.specs.Demuxes.{Demuxes, IsDemuxStop, IsDemuxLeft};
+
+use crate::chain::Chain;
+use crate::making::mux_with;
+use crate::receiving::demux_with;
+use crate::stop::{DemuxStop, MuxStop};
+use pdh_clock::Schedule;
+use pdh_edge::Port;
+use pdh_rx::{RxNode, Tail};
+use pdh_shape::{E2, E3, E4};
+use pdh_tx::{Leaf, Node};
+use pdh_watch::Watch;
+use std::alloc::Global;
+
+// A multiplexer of leaves into 8448 kbit/s.
+type E2Sender = Node<E2, Leaf>;
+
+// A multiplexer of leaves into 34368 kbit/s.
+type E3Sender = Node<E3, Leaf>;
+
+// A demultiplexer of 8448 kbit/s into leaves.
+type E2Receiver = RxNode<E2, Tail>;
+
+// A demultiplexer of 34368 kbit/s into leaves.
+type E3Receiver = RxNode<E3, Tail>;
+
+/// Makes so many frames of a chain's line from the leaves of a port, and puts their bits to its list 0, whole frames only.
+/// It takes its memory before it starts the port.
+pub fn mux<P: Port>(
+    alloc: Global,
+    chain: Chain,
+    clock: &Schedule,
+    frames: u64,
+    port: &mut P,
+) -> Result<(), MuxStop>
+    requires levels { clock.now.levels ≡ levels_of chain }
+    requires scheduled { frames ≤ frame_count clock.now.rows [] }
+    requires fresh { P.fresh port.old }
+    requires leaves { (k : ℕ) → k < leaves_of chain → IsTrue ((P.inputs port.old).holds k) }
+    requires line { IsTrue ((P.outputs port.old).holds 0) }
+    ensures kept { P.kept port.old port.new }
+    ensures ready { IsLeftReady (P.fresh port.new) (P.ready port.new) result }
+    ensures ok { OnOk result (Muxes (shapes_of chain) (counts clock.now.rows) (frame_count clock.now.rows) frames (P.inputs port.old) (P.inputs port.new) (P.outputs port.old) (P.outputs port.new)) }
+    ensures err { IfErr result (IsMuxStop (shapes_of chain) (counts clock.now.rows) (frame_count clock.now.rows) frames (P.inputs port.old) (P.inputs port.new) (P.outputs port.old) (P.outputs port.new) (P.feed_faults port.old) (P.feed_faults port.new) (P.drain_faults port.old) (P.drain_faults port.new)) }
+{
+    match chain {
+        Chain::E12 => mux_with::<E2, Leaf, P>(alloc, clock, frames, port),
+        Chain::E23 => mux_with::<E3, Leaf, P>(alloc, clock, frames, port),
+        Chain::E34 => mux_with::<E4, Leaf, P>(alloc, clock, frames, port),
+        Chain::E13 => mux_with::<E3, E2Sender, P>(alloc, clock, frames, port),
+        Chain::E24 => mux_with::<E4, E3Sender, P>(alloc, clock, frames, port),
+        Chain::E14 => mux_with::<E4, Node<E3, E2Sender>, P>(alloc, clock, frames, port),
+    }
+}
+
+/// Takes so many bits of a port's list 0, which is a chain's line, puts to each leaf's list what the
+/// leaf receives by them, and answers how many frames of the top were delivered. It takes its memory
+/// before it starts the port. For now it notes no events.
+pub fn demux<P: Port, W: Watch>(
+    alloc: Global,
+    chain: Chain,
+    bits: u64,
+    port: &mut P,
+    watch: &mut W,
+) -> Result<u64, DemuxStop>
+    requires few { bits < 2 ^ 63 }
+    requires fresh { P.fresh port.old }
+    requires line { IsTrue ((P.inputs port.old).holds 0) }
+    requires leaves { (k : ℕ) → k < leaves_of chain → IsTrue ((P.outputs port.old).holds k) }
+    ensures kept { P.kept port.old port.new }
+    ensures ready { IsDemuxLeft (P.fresh port.new) (P.ready port.new) result }
+    ensures ok { IfOk result (λ frames. Demuxes (shapes_of chain) bits frames
+        (P.inputs port.old) (P.inputs port.new) (P.outputs port.old) (P.outputs port.new)) }
+    ensures err { IfErr result (IsDemuxStop (shapes_of chain) bits
+        (P.inputs port.old) (P.inputs port.new) (P.outputs port.old) (P.outputs port.new)
+        (P.feed_faults port.old) (P.feed_faults port.new)
+        (P.drain_faults port.old) (P.drain_faults port.new)) }
+    ensures seen { W.saw watch.old [] watch.new }
+{
+    match chain {
+        Chain::E12 => demux_with::<E2, Tail, P, W>(alloc, bits, port, watch),
+        Chain::E23 => demux_with::<E3, Tail, P, W>(alloc, bits, port, watch),
+        Chain::E34 => demux_with::<E4, Tail, P, W>(alloc, bits, port, watch),
+        Chain::E13 => demux_with::<E3, E2Receiver, P, W>(alloc, bits, port, watch),
+        Chain::E24 => demux_with::<E4, E3Receiver, P, W>(alloc, bits, port, watch),
+        Chain::E14 => demux_with::<E4, RxNode<E3, E2Receiver>, P, W>(alloc, bits, port, watch),
+    }
+}

@@ -1,0 +1,4 @@
+pub mod NodeOrder
+pub mod LevelLaws
+pub mod LeafLaws
+pub mod DelayLaws

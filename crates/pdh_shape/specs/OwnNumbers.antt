@@ -1,0 +1,31 @@
+-- This project's own numbers, which no standard has. Each stands here once for the definitions and in `src/own_numbers.rt`
+-- once for the code.
+use Rattle.std.specs.Prelude.{ℕ}
+
+-- how many bits of each tributary are taken into its store before slot 0 of frame 0
+abbrev pub lead : ℕ
+lead = 24
+
+-- the fill of a store at a frame's start from which the frame carries an additional bit
+abbrev pub threshold : ℕ
+threshold = 24
+
+-- how many bits a store holds at most
+abbrev pub store_size : ℕ
+store_size = 48
+
+-- by how many bits the arrivals of a run of frames may pass what the run carries at least and at most
+abbrev pub allowance : ℕ
+allowance = 8
+
+-- the most frames of a line, or of the top of a made schedule
+abbrev pub most_frames : ℕ
+most_frames = 16384
+
+-- the most bytes of a schedule's text
+abbrev pub most_bytes : ℕ
+most_bytes = 33554432
+
+-- the most slots of a frame
+abbrev pub most_slots : ℕ
+most_slots = 16384
