@@ -315,7 +315,7 @@ keeps s before after line bit h d =
     record { settled = h.settled; since = h.since ++ bit ∷ []; splits = stands_push s before line h bit; describes = d }
 
 -- a search goes on with no position more
-search_waits : (s : FrameShape) (held line : List Bool) (bit : Bool) → IsFrame s → StandsFor s (Searching held) line → length (held ++ bit ∷ []) < 3 * s.len
+pub search_waits : (s : FrameShape) (held line : List Bool) (bit : Bool) → IsFrame s → StandsFor s (Searching held) line → length (held ++ bit ∷ []) < 3 * s.len
     → IsTurn s line bit (record { phase = Searching (held ++ bit ∷ []); step = Nothing; ready = [] })
 search_waits s held line bit shape h short =
     let is : held ≡ drop (positions s h.since) h.since = h.describes.1 in
@@ -378,7 +378,7 @@ search_ends s held line bit shape h long confirmed =
     )
 
 -- an alignment goes on within a frame
-alignment_waits : (s : FrameShape) (a b c : Marks) (part line : List Bool) (bit : Bool) → IsFrame s → StandsFor s (Tracking a b c part) line → length (part ++ bit ∷ []) < s.len
+pub alignment_waits : (s : FrameShape) (a b c : Marks) (part line : List Bool) (bit : Bool) → IsFrame s → StandsFor s (Tracking a b c part) line → length (part ++ bit ∷ []) < s.len
     → IsTurn s line bit (record { phase = Tracking a b c (part ++ bit ∷ []); step = Nothing; ready = [] })
 alignment_waits s a b c part line bit shape h short =
     let is : part ≡ after_loss s h.since = h.describes.5 in

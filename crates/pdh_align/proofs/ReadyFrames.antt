@@ -38,7 +38,7 @@ back_are len n bits back some h lt =
     let read : get_or (map f (range_with_len 0 n)) k [] ≡ f k = get_or-map-range_with_len f 0 n k k [] (omega arith) (omega arith) in
     (omega arith, ap (λ r. frame_back r back) ready ∙ ap (λ m. get_or (map f (range_with_len 0 n)) (m - suc back) []) count ∙ read ∙ ap (λ m. take len (drop m bits)) (sym from))
 
-ready_back : (len : ℕ) (fresh : Bool) (bits : List Bool) (back : ℕ) → 0 < len → (fresh ≡ true → (length bits ≡ len) ⊎ (length bits ≡ 3 * len)) → back < length (ready_of len fresh bits)
+pub ready_back : (len : ℕ) (fresh : Bool) (bits : List Bool) (back : ℕ) → 0 < len → (fresh ≡ true → (length bits ≡ len) ⊎ (length bits ≡ 3 * len)) → back < length (ready_of len fresh bits)
     → ((back + 1) * len ≤ length bits) × (frame_back (ready_of len fresh bits) back ≡ take len (drop (length bits - (back + 1) * len) bits))
 ready_back len true bits back some whole lt =
     elim (whole refl) [

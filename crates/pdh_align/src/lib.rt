@@ -2,6 +2,7 @@
 #![tactic(auto)]
 
 mod aligner;
+mod copying;
 mod signals;
 mod step;
 #[cfg(test)]

@@ -72,6 +72,25 @@ pub fn is_confirmed<S: Shape>(signals: &[Signal], held: &HeapCircularBuffer<bool
     is_right::<S>(signals, held, 2 * len)
 }
 
+/// At how many of the oldest positions, one after another and so many at most, the frame isn't right.
+pub fn wrong_starts<S: Shape>(
+    signals: &[Signal],
+    held: &HeapCircularBuffer<bool>,
+    most: usize,
+) -> usize
+    requires signals { AreSignals S.shape signals.now }
+    requires whole { most + S.LEN ≤ length held.now.items }
+    ensures count { result ≤ most }
+    ensures wrong { (i : ℕ) → i < result → is_right_in S.shape (take S.LEN (drop i held.now.items)) ≡ false }
+{
+    for start in 0..most {
+        if is_right::<S>(signals, held, start) {
+            return start;
+        }
+    }
+    most
+}
+
 /// No alignment slot is wrong.
 pub fn clean() -> Marks
     ensures { result ≡ clean_marks }

@@ -1,6 +1,7 @@
-ghost use Rattle.std.specs.Prelude.{◌≡◌, ◌+◌, ◌*◌, ◌/◌, ◌<◌, ◌≤◌, ◌++◌, length, min, take, drop, IfOk};
-ghost use Rattle.pdh_bits.specs.Bits.{bit, bits_of_byte, bits_of, number_of, bytes_of};
+ghost use Rattle.std.specs.Prelude.{◌≡◌, ◌+◌, ◌*◌, ◌/◌, ◌++◌, length, min, take, drop, IfOk};
+ghost use Rattle.pdh_bits.specs.Bits.{bits_of_byte, bits_of, number_of, bytes_of};
 
+use crate::table::BITS;
 use std::alloc::{AllocError, Global};
 
 /// The bits of the bytes, the most significant bit of each byte first.
@@ -9,7 +10,7 @@ pub fn bits_of(alloc: Global, bytes: &[u8]) -> Result<Vec<bool>, AllocError>
 {
     let mut bits = Vec::with_capacity(alloc, bytes.len().saturating_mul(8))?;
     for byte in bytes {
-        bits.extend_from_slice(&bits_of_byte(*byte))?;
+        bits.extend_from_slice(bits_of_byte(*byte))?;
     }
     Ok(bits)
 }
@@ -35,35 +36,25 @@ pub(crate) fn write_bytes(bits: &[bool], into: &mut [u8]) -> usize
     count
 }
 
-fn bits_of_byte(byte: u8) -> [bool; 8]
-    ensures { result ≡ bits_of_byte byte }
+fn bits_of_byte(byte: u8) -> &'static [bool; 8]
+    ensures { result.now ≡ bits_of_byte byte }
 {
-    [
-        bit(byte, 7),
-        bit(byte, 6),
-        bit(byte, 5),
-        bit(byte, 4),
-        bit(byte, 3),
-        bit(byte, 2),
-        bit(byte, 1),
-        bit(byte, 0),
-    ]
-}
-
-fn bit(byte: u8, place: u8) -> bool
-    requires { place < 8 }
-    ensures { result ≡ bit byte place }
-{
-    (byte >> place) % 2 == 1
+    &BITS[byte as usize]
 }
 
 fn number_of(bits: &[bool]) -> u8
-    requires { length bits.now ≤ 8 }
+    requires { length bits.now ≡ 8 }
     ensures { result ≡ number_of bits.now }
 {
-    let mut number = 0;
-    for bit in bits {
-        number = 2 * number + u8::from(*bit);
-    }
-    number
+    let [b7, b6, b5, b4, b3, b2, b1, b0] = bits else {
+        unreachable!();
+    };
+    128 * u8::from(*b7)
+        + 64 * u8::from(*b6)
+        + 32 * u8::from(*b5)
+        + 16 * u8::from(*b4)
+        + 8 * u8::from(*b3)
+        + 4 * u8::from(*b2)
+        + 2 * u8::from(*b1)
+        + u8::from(*b0)
 }

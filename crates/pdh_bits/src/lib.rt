@@ -3,6 +3,7 @@
 
 mod bit_out;
 mod bits;
+mod table;
 
 pub use bit_out::{BitOut, Full};
 pub use bits::{bits_of, bytes_of};

@@ -1,5 +1,5 @@
 -- What a receiver of a whole chain puts, in terms of received lines.
-use Rattle.std.proofs.Common.{◌≡◌, ℕ, ◌+◌, ◌<◌, ◌≤◌, Bool, true, false, cond, nat_lt, List, [], ◌++◌, length, refl, sym, ap, subst, ◌∙◌, inl, inr, arith, Option, Some, None}
+use Rattle.std.proofs.Common.{◌≡◌, ℕ, ◌+◌, ◌<◌, ◌≤◌, Bool, true, false, cond, nat_lt, List, [], ◌++◌, length, refl, sym, ap, subst, ◌∙◌, inl, inr, arith, Option, Some, None, Err}
 use Rattle.std.proofs.lemmas.Bool.{lt-ltb, le-ltb, cases_lt}
 use Rattle.pdh_edge.specs.Ports.{Inputs, Outputs, Takes, PrefixOf, after}
 use Rattle.pdh_shape.specs.Frame.{FrameShape}
@@ -10,7 +10,7 @@ use Rattle.pdh_line.specs.Paths.{top}
 use Rattle.pdh_chain.specs.Trees.{receiver_of}
 use Rattle.pdh_chain.specs.Muxing.{as_line}
 use Rattle.pdh_chain.specs.Demuxing.{Receives, ReceivesFewer, ReceivesPart, IsReceiveStop}
-use Rattle.pdh_chain.specs.Demuxes.{received_of, top_delivered, PutsReceived, Demuxes, DemuxesFewer, DemuxesPart, IsDemuxStop}
+use Rattle.pdh_chain.specs.Demuxes.{received_of, top_delivered, PutsReceived, Demuxes, DemuxesFewer, DemuxesPart, IsDemuxStop, IsDemuxLeft}
 use Rattle.pdh_chain.specs.declared.stop.DemuxStop.{DemuxStop}
 use Rattle.pdh_chain.specs.declared.stop.DemuxStop.TheVariants.{Memory, Ended, ReadFailed, WriteFailed}
 use Rattle.pdh_chain.proofs.Lists.{takes_no_line}
@@ -87,6 +87,14 @@ stops shapes m bits inputs inputs_now outputs outputs_now first reads now start 
 stops shapes m bits inputs inputs_now outputs outputs_now first reads now start writes writes_now Ended same are h h' why = (why.0, why.1, fewer shapes m bits inputs inputs_now outputs outputs_now same are why.2)
 stops shapes m bits inputs inputs_now outputs outputs_now first reads now start writes writes_now ReadFailed same are h h' why = (omega (arith, why.0, h), fewer shapes m bits inputs inputs_now outputs outputs_now same are why.1)
 stops shapes m bits inputs inputs_now outputs outputs_now first reads now start writes writes_now WriteFailed same are h h' why = (omega (arith, why.0, h'), part shapes m bits inputs inputs_now outputs outputs_now same are why.1)
+
+-- a receiver leaves the port ready where it stops, unless a call that puts bits failed
+pub left : (m : Meaning) (bits : ℕ) (inputs inputs_now : Inputs) (outputs outputs_now : Outputs) (reads now writes writes_now : ℕ) (fresh ready : Type 0) (stop : DemuxStop) → IsReceiveStop m bits inputs inputs_now outputs outputs_now reads now writes writes_now stop
+    → ready → IsDemuxLeft fresh ready (Err stop)
+left m bits inputs inputs_now outputs outputs_now reads now writes writes_now fresh ready Memory why here = absurd why
+left m bits inputs inputs_now outputs outputs_now reads now writes writes_now fresh ready Ended why here = here
+left m bits inputs inputs_now outputs outputs_now reads now writes writes_now fresh ready ReadFailed why here = here
+left m bits inputs inputs_now outputs outputs_now reads now writes writes_now fresh ready WriteFailed why here = tt
 
 -- ---- a start that failed
 

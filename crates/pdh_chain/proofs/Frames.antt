@@ -2,7 +2,7 @@
 use Rattle.std.proofs.Common.{◌≡◌, ℕ, suc, ◌+◌, ◌-◌, ◌*◌, ◌^◌, ◌<◌, ◌≤◌, min, Bool, true, false, List, [], ◌∷◌, ◌++◌, length, map, refl, sym, ap, subst, ◌∙◌, arith, inl, inr}
 use Rattle.std.specs.List.{range_with_len}
 use Rattle.std.proofs.Math.ListN.{get_or-append}
-use Rattle.std.proofs.Math.Nat.{suc-mul, add-mul}
+use Rattle.std.proofs.Math.Nat.{suc-mul, add-mul, mul-le-mul_right}
 use Rattle.std.proofs.lemmas.Bool.{cases_lt}
 use Rattle.std.proofs.lemmas.List.{append-nil, length-append, map-append, get_or-append-add}
 use Rattle.pdh_edge.specs.Files.{Rose}
@@ -13,8 +13,9 @@ use Rattle.pdh_line.specs.Sending.{front}
 use Rattle.pdh_line.proofs.Ranges.{range_append}
 use Rattle.pdh_tx.specs.declared.tx.TxStop.{TxStop}
 use Rattle.pdh_tx.specs.Meaning.{Plan, Supply, Meaning, Fits, Agrees, Makes, Stops}
-use Rattle.pdh_tx.specs.Held.{IsPart}
-use Rattle.pdh_chain.specs.Muxing.{as_line, Stood, Gives, IsFree, StopsAt, MakesBits, StopsMaking, Sends, StopsSending, FailsToSend}
+use Rattle.pdh_tx.specs.Held.{IsPart, Halts}
+use Rattle.pdh_tx.specs.Making.{Stood, Gives, IsClear, MakesAll}
+use Rattle.pdh_chain.specs.Muxing.{as_line, IsFree, StopsAt, MakesBits, StopsMaking, Sends, StopsSending, FailsToSend, FailsToTake}
 use Rattle.pdh_chain.proofs.Lists.{takes_none, takes_then, puts_none, puts_then, puts_part}
 
 -- ---- what is taken
@@ -54,6 +55,13 @@ free_then m plan a b c g x y p first rest size fits i l h = elim (cases_lt i b) 
   | inl lt ↦ first size fits i l lt
   | inr ge ↦ rest size (fits_then m plan a b g x y size p fits) i ge h
 ]
+
+-- what is free from the first bit on is so from a later one on
+fits_before : (m : Meaning) (plan : Plan) (a b : ℕ) (g : ℕ → List Bool) (x y : Inputs) (size : ℕ → ℕ) → Gives m plan a b g x y → Fits m plan b y size → Fits m plan a x size
+fits_before m plan a b g x y size p fits k leaf = omega (arith, fits k leaf, p.exact k leaf, p.takes.counts k)
+
+free_rest : (m : Meaning) (plan : Plan) (a b c to : ℕ) (g : ℕ → List Bool) (x y : Inputs) → Gives m plan a b g x y → a ≤ b → c ≤ to → IsFree m plan a to x → IsFree m plan b c y
+free_rest m plan a b c to g x y p le most free size fits i l h = free size (fits_before m plan a b g x y size p fits) i (omega (arith, l, le)) (omega (arith, h, most))
 
 -- ---- faults
 
@@ -241,3 +249,36 @@ sending_fails m m' placed placed' old mid new plan len frames n more more' x y z
 
 pub frame_end : (n len : ℕ) → n * len + len ≡ (n + 1) * len
 frame_end n len = omega (arith, add-mul n 1 len)
+
+-- ---- frames in whose way nothing stands
+
+module _ (m : Meaning) (placed : ℕ → Type 0) (old mid : Supply → ℕ → Type 0) (plan : Plan) (len frames n : ℕ) (x y : Inputs) (o o' : Outputs) (free : IsFree m plan 0 (frames * len) x) (fewer : n < frames) (s : Sending m placed old mid plan (n * len) x y o o') where
+  -- nothing stands in the way of the next frame
+  pub next_free : IsFree m plan (n * len) (n * len + len) y
+  next_free = free_rest m plan 0 (n * len) (n * len + len) (frames * len) s.makes.given x y s.makes.gives (omega arith) (omega (arith, mul-le-mul_right len fewer, suc-mul n len)) free
+
+  pub next_clear : IsClear m plan (n * len) (n * len + len) y
+  next_clear = record { size = λ k. m.given plan (n * len) k + y.left k; fits = λ k leaf. refl; clear = next_free (λ k. m.given plan (n * len) k + y.left k) (λ k leaf. refl) }
+
+-- a frame that was made at once is a frame that was made
+pub makes_next : (m m' : Meaning) (placed : ℕ → Type 0) (old new : Supply → ℕ → Type 0) (plan : Plan) (a len l : ℕ) (bits : List Bool) (x y : Inputs) → m' ≡ m → l ≡ len → IsFree m plan a (a + len) x → MakesAll m' placed old new plan a (a + l) bits x y
+    → MakesBits m placed old new plan a (a + len) bits x y
+makes_next m m' placed old new plan a len l bits x y same long free makes =
+    let p : MakesAll m placed old new plan a (a + len) bits x y = subst (λ l. MakesAll m placed old new plan a (a + l) bits x y) long (subst (λ m. MakesAll m placed old new plan a (a + l) bits x y) same makes) in
+    record { given = p.given; gives = p.gives; free = free; count = p.count; place = p.place; onward = p.onward }
+
+-- a call for bits failed in a frame, and left the outputs
+pub sending_halts : (m m' : Meaning) (placed : ℕ → Type 0) (old mid : Supply → ℕ → Type 0) (plan : Plan) (len frames n : ℕ) (stop : TxStop) (x y z : Inputs) (o o' o'' : Outputs) (faults later now : ℕ) → m' ≡ m → o'' ≡ o' → n < frames
+    → faults ≤ later → Sending m placed old mid plan (n * len) x y o o' → Halts m' plan (n * len) (n * len + len) stop y z → Rose later now → FailsToTake m old plan len frames x z o o'' faults now
+sending_halts m m' placed old mid plan len frames n stop x y z o o' o'' faults later now same left lt le p halts rose = (let h : Halts m plan (n * len) (n * len + len) stop y z = subst (λ m. Halts m plan (n * len) (n * len + len) stop y z) same halts in record {
+  whole = n;
+  fewer = lt;
+  given = λ k. p.makes.given k ++ h.given k;
+  takes = takes_then p.makes.given h.given x y z p.makes.gives.takes h.takes;
+  others = others_then m p.makes.given h.given p.makes.gives.others h.others;
+  no_fewer = λ k leaf. omega (arith, p.makes.gives.exact k leaf, length-append (p.makes.given k) (h.given k));
+  no_more = λ k leaf. (let end : m.given plan (n * len + len) k ≡ m.given plan (suc n * len) k = ap (λ t. m.given plan t k) (sym (suc-mul n len)) in omega (arith, p.makes.gives.exact k leaf, length-append (p.makes.given k) (h.given k), h.no_more k leaf, end));
+  rose = rose_since faults later now le rose;
+  puts = λ supply st. subst (Puts (as_line (front (m.line supply) (n * len))) o) (sym left)
+      (sending_puts m placed old mid plan (n * len) x y o o' p supply (stood_first m old plan 0 p.makes.given h.given supply st));
+})

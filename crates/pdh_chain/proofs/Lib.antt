@@ -12,3 +12,4 @@ pub mod Stops
 pub mod SenderStops
 pub mod ShortLists
 pub mod Tolerated
+pub mod Clear

@@ -5,7 +5,7 @@ use Rattle.pdh_edge.specs.Files.{Rose}
 use Rattle.pdh_edge.specs.Ports.{Inputs, Outputs, Takes, only, nothing, before as told_before}
 use Rattle.pdh_edge.specs.declared.port.FeedStop.{FeedStop}
 use Rattle.pdh_edge.specs.declared.port.FeedStop.TheVariants.{Failed, Ended}
-use Rattle.pdh_rx.specs.Meaning.{Meaning, Gains, GainsPart}
+use Rattle.pdh_rx.specs.Meaning.{Meaning, Gains, GainsPart, TakesBits, TakesPart}
 use Rattle.pdh_rx.proofs.Gains.{gains_nothing, gains_join, part_after}
 use Rattle.pdh_chain.specs.Demuxing.{Receives, ReceivesFewer, IsReceiveStop, feed_stop}
 use Rattle.pdh_chain.specs.Muxing.{as_line}
@@ -76,3 +76,31 @@ put_stops m now stands n bits bit x y z z' o p p' q reads reads_now first writes
         part_after (m.got []) (m.got before.given) (m.got (before.given ++ bit ∷ [])) (m.got (before.given ++ bit ∷ [])) o p q before.gains step (λ k. ([], sym (append-nil (m.got (before.given ++ bit ∷ []) k))));
   },
 )
+
+-- ---- many bits at a time
+
+pub receives_many : (m now : Meaning) (stands next : List Bool → Type 0) (n count : ℕ) (bits : List Bool) (x y z z' : Inputs) (o p p' q : Outputs) → now ≡ m → z' ≡ z → p' ≡ p → length bits ≡ count → Receives m stands n x y o p → Takes (as_line bits) y z
+    → TakesBits now bits stands next p' q → Receives m next (n + count) x z' o q
+receives_many m now stands next n count bits x y z z' o p p' q same inputs outputs long before takes taken =
+    let here : TakesBits m bits stands next p q = subst (λ o. TakesBits m bits stands next o q) outputs (subst (λ (m : Meaning). TakesBits m bits stands next p' q) same taken) in
+    record {
+      given = before.given ++ bits;
+      count = omega (arith, length-append before.given bits, before.count, long);
+      takes = subst (Takes (as_line (before.given ++ bits)) x) (sym inputs) (takes_line before.given bits x y z before.takes takes);
+      stood = here.stands before.given before.stood;
+      gains = gains_join (m.got []) (m.got before.given) (m.got (before.given ++ bits)) o p q before.gains (here.gains before.given before.stood);
+    }
+
+-- bits of which not all could be put that the leaves got by them
+pub put_stops_many : (m now : Meaning) (stands : List Bool → Type 0) (n all : ℕ) (bits : List Bool) (x y z z' : Inputs) (o p p' q : Outputs) (reads reads_now first writes writes_now : ℕ) → now ≡ m → z' ≡ z → p' ≡ p → n + length bits ≤ all → Receives m stands n x y o p
+    → Takes (as_line bits) y z → TakesPart now bits stands p' q → first ≤ writes → Rose writes writes_now → IsReceiveStop m all x z' o q reads reads_now first writes_now WriteFailed
+put_stops_many m now stands n all bits x y z z' o p p' q reads reads_now first writes writes_now same inputs outputs upto before takes taken later rose =
+    let here : TakesPart m bits stands p q = subst (λ o. TakesPart m bits stands o q) outputs (subst (λ (m : Meaning). TakesPart m bits stands p' q) same taken) in (
+      omega (arith, later, rose),
+      record {
+        given = before.given ++ bits;
+        upto = omega (arith, length-append before.given bits, before.count, upto);
+        takes = subst (Takes (as_line (before.given ++ bits)) x) (sym inputs) (takes_line before.given bits x y z before.takes takes);
+        gains = part_after (m.got []) (m.got before.given) (m.got (before.given ++ bits)) (m.got (before.given ++ bits)) o p q before.gains (here.gains before.given before.stood) (λ k. ([], sym (append-nil (m.got (before.given ++ bits) k))));
+      },
+    )

@@ -13,11 +13,11 @@ use Rattle.pdh_chain.proofs.Numbered.{IsAt}
 use Rattle.pdh_chain.proofs.Stops.{IsFirst, Tells}
 use Rattle.pdh_chain.proofs.SenderStops.{Other, chain_tells}
 
-at_top : (shapes : List FrameShape) → length shapes ≤ 3 → IsAt shapes top []
+pub at_top : (shapes : List FrameShape) → length shapes ≤ 3 → IsAt shapes top []
 at_top [] few = tt
 at_top (s ∷ below) few = (refl, refl, omega arith)
 
-none_first : (es : List Event) (stop : TxStop) → es ≡ [] → IsFirst es stop → ⊥
+pub none_first : (es : List Event) (stop : TxStop) → es ≡ [] → IsFirst es stop → ⊥
 none_first [] stop none first = (let h = first.first in cc)
 none_first (e ∷ es) stop none first = cc
 

@@ -1,5 +1,6 @@
 pub mod Stages
 pub mod Chains
+pub mod Clear
 pub mod Muxing
 pub mod Trees
 pub mod Muxes

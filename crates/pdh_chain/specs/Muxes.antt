@@ -20,6 +20,8 @@ use Rattle.pdh_tx.specs.declared.tx.TxStop.{TxStop}
 use Rattle.pdh_tx.specs.declared.tx.TxStop.TheVariants.{Overflow as TxOverflow, Underflow as TxUnderflow, NoFrame as TxNoFrame, Failed as TxFailed, Ended as TxEnded}
 use Rattle.pdh_chain.specs.Muxing.{as_line}
 use Rattle.pdh_chain.specs.Trees.{sender_of}
+use Rattle.pdh_chain.specs.declared.clear_sending.CallStop.{CallStop}
+use Rattle.pdh_chain.specs.declared.clear_sending.CallStop.TheVariants.{TakeFailed, PutFailed}
 use Rattle.pdh_chain.specs.declared.stop.MuxStop.{MuxStop}
 use Rattle.pdh_chain.specs.declared.stop.MuxStop.TheVariants.{Memory, Event as MeetsEvent, NoFrame, Ended, ReadFailed, WriteFailed}
 
@@ -210,3 +212,8 @@ mux_stop (TxUnderflow place) = MeetsEvent false place
 mux_stop (TxNoFrame node) = NoFrame node
 mux_stop TxFailed = ReadFailed
 mux_stop (TxEnded leaf) = Ended leaf
+
+-- how a call of the port that failed ends `mux`, where nothing stood in the way
+abbrev pub call_stop : CallStop → MuxStop
+call_stop TakeFailed = ReadFailed
+call_stop PutFailed = WriteFailed

@@ -2,11 +2,13 @@
 use Rattle.std.specs.Prelude.{◌≡◌, ℕ, suc, ◌+◌, ◌*◌, ◌<◌, ◌≤◌, Bool, true, false, ◌==◌, if◌then◌else◌, List, [], length, None}
 use Rattle.pdh_edge.specs.Files.{Rose}
 use Rattle.pdh_edge.specs.Ports.{Inputs, Outputs, Takes, Puts, PutsPart}
-use Rattle.pdh_shape.specs.Frame.{idle}
 use Rattle.pdh_line.specs.Sending.{front}
 use Rattle.pdh_tx.specs.declared.tx.TxStop.{TxStop}
-use Rattle.pdh_tx.specs.Meaning.{Plan, Supply, Meaning, Fits, Agrees, Met, IsUsedUp}
+use Rattle.pdh_tx.specs.Meaning.{Plan, Supply, Meaning, Fits, Met, IsUsedUp}
 use Rattle.pdh_tx.specs.Held.{IsPart}
+use Rattle.pdh_tx.specs.Making.{Stood, Gives}
+use Rattle.pdh_chain.specs.declared.clear_sending.CallStop.{CallStop}
+use Rattle.pdh_chain.specs.declared.clear_sending.CallStop.TheVariants.{TakeFailed, PutFailed}
 use Rattle.pdh_chain.specs.declared.sending.SendStop.{SendStop}
 use Rattle.pdh_chain.specs.declared.sending.SendStop.TheVariants.{Sender, WriteFailed}
 
@@ -17,26 +19,6 @@ abbrev pub as_line : List Bool → ℕ → List Bool
 as_line bits k = (if k == 0 then bits else [])
 
 -- ---- what is taken
-
--- a supply that the sender stood for after so many bits: its service bits are idle, and its lists have these bits next
-pub record Stood (m : Meaning) (stands_for : Supply → ℕ → Type 0) (plan : Plan) (from : ℕ) (given : ℕ → List Bool) (supply : Supply) : Type 0 where
-  -- it has this schedule
-  pub plan_is : supply.plan ≡ plan
-  -- every frame says that it is idle
-  pub idles : (n : ℕ) → supply.says n ≡ idle
-  -- the sender stood for it
-  pub stands : stands_for supply from
-  -- the bits of its lists from there on
-  pub agrees : Agrees m.leaves supply.lists (m.given plan from) given
-
--- the leaves gave these bits, which the line takes between two places
-pub record Gives (m : Meaning) (plan : Plan) (from to : ℕ) (given : ℕ → List Bool) (before after : Inputs) : Type 0 where
-  -- they were taken
-  pub takes : Takes given before after
-  -- none of other leaves
-  pub others : (k : ℕ) → m.leaves k ≡ false → given k ≡ []
-  -- as many as the line takes there
-  pub exact : (k : ℕ) → m.leaves k ≡ true → m.given plan from k + length (given k) ≡ m.given plan to k
 
 -- nothing stands in the way of the bits between two places
 abbrev pub IsFree : Meaning → Plan → ℕ → ℕ → Inputs → Type 0
@@ -134,6 +116,24 @@ pub record FailsToSend (m : Meaning) (old : Supply → ℕ → Type 0) (plan : P
   -- for every supply that the sender stood for, a prefix of its line was put, at most to the end of this frame
   pub puts : (supply : Supply) → Stood m old plan 0 given supply → PutsPart (as_line (front (m.line supply) (suc whole * len))) outputs outputs_now
 
+-- a call that takes bits failed in a frame, and the whole frames before it were sent
+pub record FailsToTake (m : Meaning) (old : Supply → ℕ → Type 0) (plan : Plan) (len frames : ℕ) (inputs inputs_now : Inputs) (outputs outputs_now : Outputs) (faults now : ℕ) : Type 0 where
+  -- how many frames were sent
+  pub whole : ℕ
+  pub fewer : whole < frames
+  -- the bits that the leaves gave
+  pub given : ℕ → List Bool
+  pub takes : Takes given inputs inputs_now
+  -- none of other leaves
+  pub others : (k : ℕ) → m.leaves k ≡ false → given k ≡ []
+  -- no fewer than these frames take, and no more than one frame more
+  pub no_fewer : (k : ℕ) → m.leaves k ≡ true → m.given plan (whole * len) k ≤ m.given plan 0 k + length (given k)
+  pub no_more : (k : ℕ) → m.leaves k ≡ true → m.given plan 0 k + length (given k) ≤ m.given plan (suc whole * len) k
+  -- the count of faults rose
+  pub rose : Rose faults now
+  -- for every supply that the sender stood for, these frames of its line were put
+  pub puts : (supply : Supply) → Stood m old plan 0 given supply → Puts (as_line (front (m.line supply) (whole * len))) outputs outputs_now
+
 -- ---- why sending stopped
 
 -- what holds of the sender's stop, where it is one
@@ -145,3 +145,8 @@ IfSender WriteFailed P = Unit {0}
 abbrev pub IfWriteFailed : SendStop → Type 0 → Type 0
 IfWriteFailed (Sender stop) P = Unit {0}
 IfWriteFailed WriteFailed P = P
+
+-- why frames in whose way nothing stands weren't all sent
+abbrev pub IsCallStop : Meaning → (Supply → ℕ → Type 0) → Plan → ℕ → ℕ → Inputs → Inputs → Outputs → Outputs → ℕ → ℕ → ℕ → ℕ → CallStop → Type 0
+IsCallStop m old plan len frames inputs inputs_now outputs outputs_now reads reads_now writes writes_now TakeFailed = FailsToTake m old plan len frames inputs inputs_now outputs outputs_now reads reads_now
+IsCallStop m old plan len frames inputs inputs_now outputs outputs_now reads reads_now writes writes_now PutFailed = FailsToSend m old plan len frames inputs inputs_now outputs outputs_now writes writes_now

@@ -49,13 +49,14 @@ pub fn mux<P: Port>(
     ensures ok { OnOk result (Muxes (shapes_of chain) (counts clock.now.rows) (frame_count clock.now.rows) frames (P.inputs port.old) (P.inputs port.new) (P.outputs port.old) (P.outputs port.new)) }
     ensures err { IfErr result (IsMuxStop (shapes_of chain) (counts clock.now.rows) (frame_count clock.now.rows) frames (P.inputs port.old) (P.inputs port.new) (P.outputs port.old) (P.outputs port.new) (P.feed_faults port.old) (P.feed_faults port.new) (P.drain_faults port.old) (P.drain_faults port.new)) }
 {
+    let levels = chain.levels();
     match chain {
-        Chain::E12 => mux_with::<E2, Leaf, P>(alloc, clock, frames, port),
-        Chain::E23 => mux_with::<E3, Leaf, P>(alloc, clock, frames, port),
-        Chain::E34 => mux_with::<E4, Leaf, P>(alloc, clock, frames, port),
-        Chain::E13 => mux_with::<E3, E2Sender, P>(alloc, clock, frames, port),
-        Chain::E24 => mux_with::<E4, E3Sender, P>(alloc, clock, frames, port),
-        Chain::E14 => mux_with::<E4, Node<E3, E2Sender>, P>(alloc, clock, frames, port),
+        Chain::E12 => mux_with::<E2, Leaf, P>(alloc, levels, clock, frames, port),
+        Chain::E23 => mux_with::<E3, Leaf, P>(alloc, levels, clock, frames, port),
+        Chain::E34 => mux_with::<E4, Leaf, P>(alloc, levels, clock, frames, port),
+        Chain::E13 => mux_with::<E3, E2Sender, P>(alloc, levels, clock, frames, port),
+        Chain::E24 => mux_with::<E4, E3Sender, P>(alloc, levels, clock, frames, port),
+        Chain::E14 => mux_with::<E4, Node<E3, E2Sender>, P>(alloc, levels, clock, frames, port),
     }
 }
 

@@ -3,10 +3,14 @@
 
 mod by_chain;
 mod chain;
+mod clear_sending;
+mod clearing;
 mod laws;
 mod making;
 mod receiving;
 mod sending;
+#[cfg(test)]
+mod sending_tests;
 mod stop;
 #[cfg(test)]
 mod tests;

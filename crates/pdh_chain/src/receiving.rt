@@ -1,4 +1,4 @@
-ghost use Rattle.std.specs.Prelude.{◌≡◌, ◌<◌, ◌^◌, ℕ, [], length, IsTrue, IfOk, IfErr, OnOk, ◌∷◌};
+ghost use Rattle.std.specs.Prelude.{◌≡◌, ◌<◌, ◌≤◌, ◌^◌, ℕ, [], length, IsTrue, IfOk, IfErr, OnOk, ◌∷◌};
 ghost use Rattle.pdh_nesting.specs.Chains.{width};
 ghost use Rattle.pdh_rx.specs.Meaning.{HoldsAll};
 ghost use Rattle.pdh_chain.specs.Demuxing.{Receives, IsReceiveStop};
@@ -40,6 +40,78 @@ fn receive<R: Rx, P: Port, W: Watch>(
     Ok(())
 }
 
+// How many bits to take at once, where so many are left and there is room for so many.
+fn part(left: u64, room: usize) -> usize
+    requires left { 0 < left }
+    requires room { 0 < room }
+    ensures some { 0 < result }
+    ensures left { result ≤ left }
+    ensures room { result ≤ room }
+{
+    left.min(room as u64) as usize
+}
+
+// The same with many bits at a time, for callers that want no events; `buffer` holds those that are
+// taken.
+fn receive_many<R: Rx, P: Port>(
+    receiver: &mut R,
+    bits: u64,
+    buffer: &mut [bool],
+    port: &mut P,
+) -> Result<(), DemuxStop>
+    requires some { 0 < length buffer.old }
+    requires stands { R.stands receiver.old [] }
+    requires lists { HoldsAll (R.meaning receiver.old).leaves (P.outputs port.old) }
+    requires line { IsTrue ((P.inputs port.old).holds 0) }
+    ensures received { OnOk result
+        (Receives (R.meaning receiver.old) (R.stands receiver.new) bits
+        (P.inputs port.old) (P.inputs port.new) (P.outputs port.old) (P.outputs port.new)) }
+    ensures stops { IfErr result (IsReceiveStop (R.meaning receiver.old) bits
+        (P.inputs port.old) (P.inputs port.new) (P.outputs port.old) (P.outputs port.new)
+        (P.feed_faults port.old) (P.feed_faults port.new)
+        (P.drain_faults port.old) (P.drain_faults port.new)) }
+    ensures kept { P.kept port.old port.new }
+    ensures same { R.meaning receiver.new ≡ R.meaning receiver.old }
+{
+    let mut received = 0;
+    while received < bits {
+        let most = part(bits - received, buffer.len());
+        let count = port.bits(0, &mut buffer[..most])?;
+        receiver.take(&buffer[..count], port)?;
+        received += count as u64;
+    }
+    Ok(())
+}
+
+// The same as `receive`, with many bits at a time where the watch ignores events.
+fn receive_all<R: Rx, P: Port, W: Watch>(
+    receiver: &mut R,
+    bits: u64,
+    buffer: &mut [bool],
+    port: &mut P,
+    watch: &mut W,
+) -> Result<(), DemuxStop>
+    requires some { 0 < length buffer.old }
+    requires stands { R.stands receiver.old [] }
+    requires lists { HoldsAll (R.meaning receiver.old).leaves (P.outputs port.old) }
+    requires line { IsTrue ((P.inputs port.old).holds 0) }
+    ensures received { OnOk result
+        (Receives (R.meaning receiver.old) (R.stands receiver.new) bits
+        (P.inputs port.old) (P.inputs port.new) (P.outputs port.old) (P.outputs port.new)) }
+    ensures stops { IfErr result (IsReceiveStop (R.meaning receiver.old) bits
+        (P.inputs port.old) (P.inputs port.new) (P.outputs port.old) (P.outputs port.new)
+        (P.feed_faults port.old) (P.feed_faults port.new)
+        (P.drain_faults port.old) (P.drain_faults port.new)) }
+    ensures seen { W.saw watch.old [] watch.new }
+    ensures kept { P.kept port.old port.new }
+    ensures same { R.meaning receiver.new ≡ R.meaning receiver.old }
+{
+    if watch.ignores() {
+        return receive_many(receiver, bits, buffer, port);
+    }
+    receive(receiver, bits, port, watch)
+}
+
 /// Takes so many bits of the line of a chain whose top has this frame and whose top's tributaries are
 /// such receivers, as `demux` does.
 pub fn demux_with<S: Shape, C: ChainRx, P: Port, W: Watch>(
@@ -65,8 +137,10 @@ pub fn demux_with<S: Shape, C: ChainRx, P: Port, W: Watch>(
     ensures seen { W.saw watch.old [] watch.new }
 {
     let mut next_leaf = 0;
-    let mut node = <RxNode<S, C> as ChainRx>::open(alloc, TOP, &mut next_leaf)?;
+    let tables = <RxNode<S, C> as ChainRx>::tables(alloc)?;
+    let mut node = <RxNode<S, C> as ChainRx>::open(alloc, &tables, TOP, &mut next_leaf)?;
+    let mut buffer = vec![in alloc; false; 4096]?;
     port.start()?;
-    receive(&mut node, bits, port, watch)?;
+    receive_all(&mut node, bits, &mut buffer, port, watch)?;
     Ok(node.frames())
 }

@@ -53,21 +53,6 @@ fn make_frame<T: Tx, F: Feed>(
     Ok(())
 }
 
-// Puts the bits of a frame to output 0, one by one.
-fn put_frame<D: Drain>(frame: &[bool], drain: &mut D) -> Result<(), Failed>
-    requires { IsTrue ((D.outputs drain.old).holds 0) }
-    ensures ok { OnOk result (Puts (as_line frame.now) (D.outputs drain.old) (D.outputs drain.new)) }
-    ensures err { OnErr result
-        (PutsPart (as_line frame.now) (D.outputs drain.old) (D.outputs drain.new)) }
-    ensures cause { HasCause (D.drain_faults drain.old) (D.drain_faults drain.new) result }
-    ensures drained { D.drained drain.old drain.new }
-{
-    for bit in frame {
-        drain.put(0, *bit)?;
-    }
-    Ok(())
-}
-
 /// Makes so many frames of a multiplexer's line from its first bit on, and puts their bits to output
 /// 0 of the port, whole frames only: the bits of a frame are put once all of them are made.
 pub fn send_frames<T: Tx, P: Port>(
@@ -107,7 +92,7 @@ pub fn send_frames<T: Tx, P: Port>(
         if let Err(stop) = make_frame(sender, clock, len, frame, port) {
             return Err(SendStop::Sender(stop));
         }
-        if let Err(Failed) = put_frame(frame, port) {
+        if let Err(Failed) = port.put_all(0, frame) {
             return Err(SendStop::WriteFailed);
         }
     }

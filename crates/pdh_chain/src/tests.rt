@@ -5,7 +5,7 @@ use crate::{Chain, DemuxStop, MuxStop, demux, leaves, mux};
 use pdh_clock::Schedule;
 use pdh_edge::MemPort;
 use pdh_shape::{Place, TOP};
-use pdh_watch::Quiet;
+use pdh_watch::{Event, Quiet, Watch};
 use std::alloc::{AllocError, Global};
 use std::test::Fail;
 
@@ -144,6 +144,93 @@ fn gaps(rt: HostRuntime) -> Result<(), Fail> {
     for (chain, zeros, bits, end, got) in cases {
         let ran = run_demux(rt.alloc(), chain, zeros, bits)?;
         assert_eq!(rt; ran, (end, got), "{chain:?} {bits}");
+    }
+    Ok(())
+}
+
+// Sees events, and doesn't say that it ignores them.
+#[derive(Clone, Copy, Debug, Drop)]
+struct Seeing;
+
+impl Watch for Seeing {
+    ghost saw = { λ a xs b. Unit {0} };
+
+    ghost saw_nothing = { λ a. tt };
+
+    ghost saw_join = { λ a b c xs ys p q. tt };
+
+    fn note(&mut self, _event: &Event) {}
+
+    fn ignores(&self) -> bool {
+        false
+    }
+}
+
+// The line that a chain of one level makes of zeros by a schedule, with the bits of these inverted that stand between two places.
+fn made(
+    alloc: Global,
+    chain: Chain,
+    schedule: &[u8],
+    inverted: [usize; 2],
+) -> Result<Vec<bool>, Fail>
+    requires { leaves_of chain ≡ 4 }
+{
+    let clock = Schedule::read(alloc, chain.levels(), schedule)?;
+    let mut port = MemPort::open(alloc, zeros(alloc, [9_000; 4])?, 1)?;
+    port.room(0, 40_000)?;
+    mux(alloc, chain, &clock, clock.frames(&TOP), &mut port).is_ok();
+    let mut line = Vec::new(alloc);
+    for bit in port.output(0) {
+        line.push(*bit != (inverted[0] <= line.len() && line.len() < inverted[1]))?;
+    }
+    Ok(line)
+}
+
+// How a demultiplexer of a whole line ends, and the bits that its leaves get, one leaf's behind another's.
+fn demuxed<W: Watch>(
+    alloc: Global,
+    chain: Chain,
+    line: Vec<bool>,
+    watch: &mut W,
+) -> Result<(Result<u64, DemuxStop>, Vec<bool>), Fail> {
+    let bits = line.len();
+    let mut lists = Vec::new(alloc);
+    lists.push(line)?;
+    let count = leaves(chain);
+    let mut port = MemPort::open(alloc, lists, count)?;
+    for leaf in 0..count {
+        port.room(leaf, bits)?;
+    }
+    let end = demux(alloc, chain, bits as u64, &mut port, watch);
+    let mut got = Vec::new(alloc);
+    for leaf in 0..count {
+        got.extend_from_slice(port.output(leaf))?;
+    }
+    Ok((end, got))
+}
+
+// A watch that ignores events makes a demultiplexer take many bits at a time, and one that sees them bit by bit: in alignment,
+// over a loss and after it, and in a gap.
+#[test]
+fn many_bits_at_a_time(rt: HostRuntime) -> Result<(), Fail> {
+    let e2: &[u8] = b"/ 12 205 205 205 205\n";
+    let e3: &[u8] = b"/ 12 377 377 377 377\n";
+    let e4: &[u8] = b"/ 12 722 722 722 722\n";
+    let cases = [
+        (Chain::E12, Chain::E12, e2, [0, 0]),
+        (Chain::E12, Chain::E12, e2, [3_000, 7_000]),
+        (Chain::E13, Chain::E23, e3, [0, 0]),
+        (Chain::E34, Chain::E34, e4, [2_500, 19_000]),
+        (Chain::E24, Chain::E34, e4, [9_000, 21_000]),
+    ];
+    for (chain, top, schedule, inverted) in cases {
+        assert_eq!(rt; leaves(top), 4);
+        let line = made(rt.alloc(), top, schedule, inverted)?;
+        let again = line.clone()?;
+        let at_once = demuxed(rt.alloc(), chain, line, &mut Quiet)?;
+        let by_bits = demuxed(rt.alloc(), chain, again, &mut Seeing)?;
+        assert!(rt; at_once == by_bits, "{chain:?} {inverted:?}");
+        assert!(rt; !at_once.1.is_empty(), "{chain:?} {inverted:?}");
     }
     Ok(())
 }

@@ -1,13 +1,15 @@
 ghost use Rattle.std.specs.Prelude.{◌≡◌, ◌+◌, ◌<◌, ◌≤◌, ◌^◌, ℕ, List, [], ◌∷◌, length, IfOk, OnOk};
 ghost use Rattle.pdh_shape.specs.Frame.{FrameShape};
-ghost use Rattle.pdh_nesting.specs.Chains.{width, AreFrames, AllStores};
+ghost use Rattle.pdh_nesting.specs.Chains.{width, AreFrames, AllStores, ReadEvenly};
 ghost use Rattle.pdh_tx.specs.Meaning.{IsFresh};
 ghost use Rattle.pdh_chain.specs.Trees.{child_path as path_of_child, sender_of, receiver_of};
 
 use pdh_rx::{Rx, RxNode, Tail};
 use pdh_shape::{Path, Shape};
+use pdh_slots::SlotTables;
 use pdh_tx::{Leaf, Node, Tx};
 use std::alloc::{AllocError, Global};
+use std::rc::Rc;
 
 // The path of a node's tributary, by its number from 0.
 fn child_path(path: Path, trib: u8) -> Path
@@ -29,14 +31,37 @@ fn child_path(path: Path, trib: u8) -> Path
     }
 }
 
+/// The tables of the slots of a level's frame, and those of the levels below.
+pub struct LevelTables<S: Shape, T: Drop> {
+    here: Rc<SlotTables<S>>,
+    below: T,
+}
+
+impl<S: Shape, T: Drop> Drop for LevelTables<S, T> {
+    fn drop(self) {
+        let Self { here: _, below: _ } = self;
+    }
+}
+
 /// A sender that is a whole chain: a leaf, or a multiplexer of such senders.
 pub trait ChainTx: Tx {
     /// The frames of its levels, from its own down.
     ghost shapes: { List FrameShape };
 
+    /// The tables of its levels' slots, which all nodes of a level share.
+    type Tables: Drop;
+
+    /// Makes these tables, or finds no memory.
+    fn tables(alloc: Global) -> Result<Self::Tables, AllocError>;
+
     /// Makes it, with no bit made, or finds no memory. `path` is its place, where it is a
     /// multiplexer. Its leaves are numbered from `next` on, which then is the next number.
-    fn open(alloc: Global, path: Path, next: &mut u32) -> Result<Self, AllocError>
+    fn open(
+        alloc: Global,
+        tables: &Self::Tables,
+        path: Path,
+        next: &mut u32,
+    ) -> Result<Self, AllocError>
         requires levels { path.depth + length shapes ≤ 3 }
         requires stores { AllStores shapes }
         requires few { next.old + width shapes < 2 ^ 32 }
@@ -46,6 +71,9 @@ pub trait ChainTx: Tx {
 
     /// Each of these is a frame.
     ghost are_frames: { AreFrames shapes };
+
+    /// Each reads its tributaries evenly.
+    ghost read_evenly: { ReadEvenly shapes };
 }
 
 /// A receiver that is a whole chain: a leaf, or a demultiplexer of such receivers.
@@ -53,9 +81,20 @@ pub trait ChainRx: Rx {
     /// The frames of its levels, from its own down.
     ghost shapes: { List FrameShape };
 
+    /// The tables of its levels' slots, which all nodes of a level share.
+    type Tables: Drop;
+
+    /// Makes these tables, or finds no memory.
+    fn tables(alloc: Global) -> Result<Self::Tables, AllocError>;
+
     /// Makes it, with no bit taken, or finds no memory. `path` is its place, where it is a
     /// demultiplexer. Its leaves are numbered from `next` on, which then is the next number.
-    fn open(alloc: Global, path: Path, next: &mut u32) -> Result<Self, AllocError>
+    fn open(
+        alloc: Global,
+        tables: &Self::Tables,
+        path: Path,
+        next: &mut u32,
+    ) -> Result<Self, AllocError>
         requires levels { path.depth + length shapes ≤ 3 }
         requires few { next.old + width shapes < 2 ^ 32 }
         ensures meaning { IfOk result (λ receiver. Self.meaning receiver ≡ receiver_of shapes path next.old) }
@@ -71,7 +110,15 @@ impl ChainTx for Leaf {
 
     ghost are_frames = { tt };
 
-    fn open(_alloc: Global, _path: Path, next: &mut u32) -> Result<Self, AllocError> {
+    ghost read_evenly = { tt };
+
+    type Tables = ();
+
+    fn tables(_alloc: Global) -> Result<(), AllocError> {
+        Ok(())
+    }
+
+    fn open(_alloc: Global, _tables: &(), _path: Path, next: &mut u32) -> Result<Self, AllocError> {
         let leaf = Leaf::new(*next);
         *next += 1;
         Ok(leaf)
@@ -83,12 +130,27 @@ impl<S: Shape, C: ChainTx> ChainTx for Node<S, C> {
 
     ghost are_frames = { (S.is_frame, S.has_tributaries, C.are_frames) };
 
-    fn open(alloc: Global, path: Path, next: &mut u32) -> Result<Self, AllocError> {
+    ghost read_evenly = { (λ stores. S.reads_evenly, C.read_evenly) };
+
+    type Tables = LevelTables<S, C::Tables>;
+
+    fn tables(alloc: Global) -> Result<LevelTables<S, C::Tables>, AllocError> {
+        let here = Rc::new(alloc, SlotTables::open(alloc)?)?;
+        let below = C::tables(alloc)?;
+        Ok(LevelTables { here, below })
+    }
+
+    fn open(
+        alloc: Global,
+        tables: &LevelTables<S, C::Tables>,
+        path: Path,
+        next: &mut u32,
+    ) -> Result<Self, AllocError> {
         let mut children = Vec::with_capacity(alloc, usize::from(S::TRIBS))?;
         for trib in 0..S::TRIBS {
-            children.push(C::open(alloc, child_path(path, trib), next)?)?;
+            children.push(C::open(alloc, &tables.below, child_path(path, trib), next)?)?;
         }
-        Node::open(alloc, path, children)
+        Node::open(alloc, path, tables.here.clone()?, children)
     }
 }
 
@@ -97,7 +159,13 @@ impl ChainRx for Tail {
 
     ghost are_frames = { tt };
 
-    fn open(_alloc: Global, _path: Path, next: &mut u32) -> Result<Self, AllocError> {
+    type Tables = ();
+
+    fn tables(_alloc: Global) -> Result<(), AllocError> {
+        Ok(())
+    }
+
+    fn open(_alloc: Global, _tables: &(), _path: Path, next: &mut u32) -> Result<Self, AllocError> {
         let tail = Tail::new(*next);
         *next += 1;
         Ok(tail)
@@ -109,11 +177,24 @@ impl<S: Shape, C: ChainRx> ChainRx for RxNode<S, C> {
 
     ghost are_frames = { (S.is_frame, S.has_tributaries, C.are_frames) };
 
-    fn open(alloc: Global, path: Path, next: &mut u32) -> Result<Self, AllocError> {
+    type Tables = LevelTables<S, C::Tables>;
+
+    fn tables(alloc: Global) -> Result<LevelTables<S, C::Tables>, AllocError> {
+        let here = Rc::new(alloc, SlotTables::open(alloc)?)?;
+        let below = C::tables(alloc)?;
+        Ok(LevelTables { here, below })
+    }
+
+    fn open(
+        alloc: Global,
+        tables: &LevelTables<S, C::Tables>,
+        path: Path,
+        next: &mut u32,
+    ) -> Result<Self, AllocError> {
         let mut children = Vec::with_capacity(alloc, usize::from(S::TRIBS))?;
         for trib in 0..S::TRIBS {
-            children.push(C::open(alloc, child_path(path, trib), next)?)?;
+            children.push(C::open(alloc, &tables.below, child_path(path, trib), next)?)?;
         }
-        RxNode::open(alloc, path, children)
+        RxNode::open(alloc, path, tables.here.clone()?, children)
     }
 }

@@ -1,4 +1,5 @@
 mod ListSteps
+pub mod Runs
 pub mod Rooms
 pub mod Holding
 pub mod InRoom

@@ -1,13 +1,13 @@
--- One bit of one list.
+-- Bits of one list.
 use Rattle.std.specs.Global.{Vec}
-use Rattle.std.proofs.Common.{◌≡◌, inl, inr, ℕ, zero, suc, ◌+◌, ◌<◌, Bool, List, [], ◌∷◌, ◌++◌, length, map, get_or, ◌≤◌, cond, refl, sym, ◌∙◌, ap, subst, arith, Option, Some, None, slice_get, slice_set}
+use Rattle.std.proofs.Common.{◌≡◌, inl, inr, ℕ, zero, suc, ◌+◌, ◌-◌, ◌<◌, take, Bool, List, [], ◌∷◌, ◌++◌, length, map, get_or, ◌≤◌, append_assoc, cond, refl, sym, ◌∙◌, ap, subst, arith, Option, Some, None, slice_get, slice_set}
 use Rattle.std.specs.Prelude.{IsTrue, nat_lt}
 use Rattle.std.proofs.lemmas.Bool.{cases_eq, ne_eqb, eq-eqb, ltb-true, lt-ltb}
-use Rattle.std.proofs.lemmas.List.{append-nil, length-append, length-map, length-set, map-set, get_or-map, get_or-set_same, get_or-set_other}
+use Rattle.std.proofs.lemmas.List.{append-nil, length-append, length-map, length-set, map-set, length-take-le, get_or-map, get_or-set_same, get_or-set_other}
 use Rattle.std.proofs.lemmas.Option.{slice_get-map}
 use Rattle.std.specs.Option.{option_map}
-use Rattle.pdh_edge.specs.Ports.{Takes, Puts, PutsPart, PrefixOf, only, before, after}
-use Rattle.pdh_edge.specs.MemLists.{length_of, inputs_of, outputs_of, mem_outputs, items_of, capacity_of, bits_held, room_in, IsFull, PutInRoom, IsRefused, StaysInRoom}
+use Rattle.pdh_edge.specs.Ports.{Takes, Puts, PutsPart, PrefixOf, for_leaf, before, after}
+use Rattle.pdh_edge.specs.MemLists.{length_of, inputs_of, outputs_of, mem_outputs, items_of, capacity_of, bits_held, room_in, IsFull, room_left, PutInRoom, PutAllInRoom, IsRefused, IsCutShort, StaysInRoom}
 use Rattle.pdh_edge.specs.Counts.{one_more}
 use Rattle.pdh_edge.proofs.Rooms.{map_set_same}
 
@@ -35,11 +35,11 @@ set_found [] i x h = absurd (cc)
 set_found (y ∷ ys) zero x h = let same : y ≡ x = cc in ap (λ z. z ∷ ys) (sym same)
 set_found (y ∷ ys) (suc i) x h = ap (λ zs. y ∷ zs) (set_found ys i x h)
 
-only_same : (t : ℕ) (b : Bool) → only t b t ≡ b ∷ []
-only_same t b = ap (λ v. cond v (b ∷ []) []) (eq-eqb t t refl)
+for_leaf_same : (t : ℕ) (bits : List Bool) → for_leaf t bits t ≡ bits
+for_leaf_same t bits = ap (λ v. cond v bits []) (eq-eqb t t refl)
 
-only_other : (t : ℕ) (b : Bool) (k : ℕ) → (k ≡ t → ⊥) → only t b k ≡ []
-only_other t b k ne = ap (λ v. cond v (b ∷ []) []) (ne_eqb k t ne)
+for_leaf_other : (t : ℕ) (bits : List Bool) (k : ℕ) → (k ≡ t → ⊥) → for_leaf t bits k ≡ []
+for_leaf_other t bits k ne = ap (λ v. cond v bits []) (ne_eqb k t ne)
 
 before_none : (o : Option (List Bool)) → before [] o ≡ o
 before_none None = refl
@@ -53,53 +53,67 @@ prefix_same : (bits : List Bool) (o : Option (List Bool)) → PrefixOf bits o o
 prefix_same bits None = tt
 prefix_same bits (Some l) = (bits, refl)
 
--- a list gives its first bit
-pub takes_first : (lists : List (List Bool)) (t : ℕ) (b : Bool) (rest : List Bool) → t < length lists → slice_get lists t ≡ Some (b ∷ rest) → Takes (only t b) (inputs_of lists) (inputs_of (slice_set lists t rest))
-takes_first lists t b rest within is = record {
+-- a list gives its first bits
+pub takes_front : (lists : List (List Bool)) (t : ℕ) (bits rest : List Bool) → t < length lists → slice_get lists t ≡ Some (bits ++ rest) → Takes (for_leaf t bits) (inputs_of lists) (inputs_of (slice_set lists t rest))
+takes_front lists t bits rest within is = record {
   counts = λ k. elim (cases_eq k t) [
     | inl same ↦
-        let P : ℕ → Type 0 = λ v. length_of (slice_get lists v) ≡ length (only t b v) + length_of (slice_get (slice_set lists t rest) v) in
-        let one : length (only t b t) ≡ 1 = ap length (only_same t b) in
-        let was : length_of (slice_get lists t) ≡ suc (length rest) = ap length_of is in
+        let P : ℕ → Type 0 = λ v. length_of (slice_get lists v) ≡ length (for_leaf t bits v) + length_of (slice_get (slice_set lists t rest) v) in
+        let all : length (for_leaf t bits t) ≡ length bits = ap length (for_leaf_same t bits) in
+        let was : length_of (slice_get lists t) ≡ length bits + length rest = ap length_of is ∙ length-append bits rest in
         let now : length_of (slice_get (slice_set lists t rest) t) ≡ length rest = ap length_of (get_set_same lists t rest within) in
-        let here : P t = omega (arith, one, was, now) in
+        let here : P t = omega (arith, all, was, now) in
         subst P (sym same) here
     | inr other ↦
-        let none : length (only t b k) ≡ 0 = ap length (only_other t b k other) in
+        let none : length (for_leaf t bits k) ≡ 0 = ap length (for_leaf_other t bits k other) in
         let kept : length_of (slice_get (slice_set lists t rest) k) ≡ length_of (slice_get lists k) = ap length_of (get_set_other lists t k rest other) in
         omega (arith, none, kept)
   ];
   bits = λ k. elim (cases_eq k t) [
     | inl same ↦
-        let P : ℕ → Type 0 = λ v. slice_get lists v ≡ before (only t b v) (slice_get (slice_set lists t rest) v) in
-        let here : P t = is ∙ sym (ap (λ l. before l (slice_get (slice_set lists t rest) t)) (only_same t b) ∙ ap (before (b ∷ [])) (get_set_same lists t rest within)) in
+        let P : ℕ → Type 0 = λ v. slice_get lists v ≡ before (for_leaf t bits v) (slice_get (slice_set lists t rest) v) in
+        let here : P t = is ∙ sym (ap (λ l. before l (slice_get (slice_set lists t rest) t)) (for_leaf_same t bits) ∙ ap (before bits) (get_set_same lists t rest within)) in
         subst P (sym same) here
     | inr other ↦
-        sym (ap (λ l. before l (slice_get (slice_set lists t rest) k)) (only_other t b k other) ∙ before_none (slice_get (slice_set lists t rest) k) ∙ get_set_other lists t k rest other)
+        sym (ap (λ l. before l (slice_get (slice_set lists t rest) k)) (for_leaf_other t bits k other) ∙ before_none (slice_get (slice_set lists t rest) k) ∙ get_set_other lists t k rest other)
   ];
 }
 
--- a list takes a bit
-pub puts_last : (lists : List (List Bool)) (t : ℕ) (b : Bool) (old : List Bool) → t < length lists → slice_get lists t ≡ Some old → Puts (only t b) (outputs_of lists) (outputs_of (slice_set lists t (old ++ b ∷ [])))
-puts_last lists t b old within is k = elim (cases_eq k t) [
+-- a list takes bits
+pub puts_last : (lists : List (List Bool)) (t : ℕ) (bits old : List Bool) → t < length lists → slice_get lists t ≡ Some old → Puts (for_leaf t bits) (outputs_of lists) (outputs_of (slice_set lists t (old ++ bits)))
+puts_last lists t bits old within is k = elim (cases_eq k t) [
   | inl same ↦
-      let new : List Bool = old ++ b ∷ [] in
-      let P : ℕ → Type 0 = λ v. slice_get (slice_set lists t new) v ≡ after (only t b v) (slice_get lists v) in
-      let here : P t = get_set_same lists t new within ∙ sym (ap (λ l. after l (slice_get lists t)) (only_same t b) ∙ ap (after (b ∷ [])) is) in
+      let new : List Bool = old ++ bits in
+      let P : ℕ → Type 0 = λ v. slice_get (slice_set lists t new) v ≡ after (for_leaf t bits v) (slice_get lists v) in
+      let here : P t = get_set_same lists t new within ∙ sym (ap (λ l. after l (slice_get lists t)) (for_leaf_same t bits) ∙ ap (after bits) is) in
       subst P (sym same) here
   | inr other ↦
-      get_set_other lists t k (old ++ b ∷ []) other ∙ sym (ap (λ l. after l (slice_get lists k)) (only_other t b k other) ∙ after_none (slice_get lists k))
+      get_set_other lists t k (old ++ bits) other ∙ sym (ap (λ l. after l (slice_get lists k)) (for_leaf_other t bits k other) ∙ after_none (slice_get lists k))
 ]
 
 -- a list stays as it was
-pub puts_none : (lists : List (List Bool)) (t : ℕ) (b : Bool) (old : List Bool) → t < length lists → slice_get lists t ≡ Some old → PutsPart (only t b) (outputs_of lists) (outputs_of (slice_set lists t old))
-puts_none lists t b old within is k = elim (cases_eq k t) [
+pub puts_none : (lists : List (List Bool)) (t : ℕ) (bits old : List Bool) → t < length lists → slice_get lists t ≡ Some old → PutsPart (for_leaf t bits) (outputs_of lists) (outputs_of (slice_set lists t old))
+puts_none lists t bits old within is k = elim (cases_eq k t) [
   | inl same ↦
-      let P : ℕ → Type 0 = λ v. PrefixOf (only t b v) (slice_get lists v) (slice_get (slice_set lists t old) v) in
+      let P : ℕ → Type 0 = λ v. PrefixOf (for_leaf t bits v) (slice_get lists v) (slice_get (slice_set lists t old) v) in
       let now : slice_get (slice_set lists t old) t ≡ slice_get lists t = get_set_same lists t old within ∙ sym is in
-      let here : P t = subst (PrefixOf (only t b t) (slice_get lists t)) (sym now) (prefix_same (only t b t) (slice_get lists t)) in
+      let here : P t = subst (PrefixOf (for_leaf t bits t) (slice_get lists t)) (sym now) (prefix_same (for_leaf t bits t) (slice_get lists t)) in
       subst P (sym same) here
-  | inr other ↦ subst (PrefixOf (only t b k) (slice_get lists k)) (sym (get_set_other lists t k old other)) (prefix_same (only t b k) (slice_get lists k))
+  | inr other ↦ subst (PrefixOf (for_leaf t bits k) (slice_get lists k)) (sym (get_set_other lists t k old other)) (prefix_same (for_leaf t bits k) (slice_get lists k))
+]
+
+-- a list takes the first of some bits
+pub puts_some : (lists : List (List Bool)) (t : ℕ) (bits rest old : List Bool) → t < length lists → slice_get lists t ≡ Some old → PutsPart (for_leaf t (bits ++ rest)) (outputs_of lists) (outputs_of (slice_set lists t (old ++ bits)))
+puts_some lists t bits rest old within is k = elim (cases_eq k t) [
+  | inl same ↦
+      let all : List Bool = bits ++ rest in
+      let new : List Bool = old ++ bits in
+      let P : ℕ → Type 0 = λ v. PrefixOf (for_leaf t all v) (slice_get lists v) (slice_get (slice_set lists t new) v) in
+      let told : PrefixOf all (Some old) (Some new) = (rest, sym (append_assoc old bits rest)) in
+      let here : P t = subst (λ b. PrefixOf b (slice_get lists t) (slice_get (slice_set lists t new) t)) (sym (for_leaf_same t all))
+      (subst (λ o. PrefixOf all o (slice_get (slice_set lists t new) t)) (sym is) (subst (λ o. PrefixOf all (Some old) o) (sym (get_set_same lists t new within)) told)) in
+      subst P (sym same) here
+  | inr other ↦ subst (PrefixOf (for_leaf t (bits ++ rest) k) (slice_get lists k)) (sym (get_set_other lists t k (old ++ bits) other)) (prefix_same (for_leaf t (bits ++ rest) k) (slice_get lists k))
 ]
 
 -- a leaf that has a list
@@ -174,12 +188,48 @@ module _ (lists : List (Vec Bool)) (i : ℕ) (old : Vec Bool) (within : i < leng
     uncounted = refl;
   }
 
-  pub put_stays : (new : Vec Bool) (bit : Bool) (faults : ℕ) → items_of new ≡ items_of old ++ bit ∷ [] → capacity_of new ≡ capacity_of old → StaysInRoom lists (slice_set lists i new) faults faults
-  put_stays new bit faults more same = record {
+  pub put_stays : (new : Vec Bool) (bits : List Bool) (faults : ℕ) → items_of new ≡ items_of old ++ bits → capacity_of new ≡ capacity_of old → StaysInRoom lists (slice_set lists i new) faults faults
+  put_stays new bits faults more same = record {
     rooms = room_same lists i new old within (same ∙ sym (ap capacity_of old_at));
-    grows = held_grows lists i new old within here (omega (arith, ap length more, length-append (items_of old) (bit ∷ [])));
+    grows = held_grows lists i new old within here (omega (arith, ap length more, length-append (items_of old) bits));
     counted = inl refl;
   }
+
+  -- the list has room for so many bits more
+  pub had_room_for : (count faults : ℕ) → length (items_of old) + count ≤ capacity_of old → PutAllInRoom i count lists faults faults
+  had_room_for count faults room = record {
+    room = omega (arith, held_at lists i old here, room_at lists i old within, ap capacity_of old_at);
+    uncounted = refl;
+  }
+
+  left_here : room_left lists i ≡ capacity_of old - length (items_of old)
+  left_here = omega (arith, held_at lists i old here, room_at lists i old within, ap capacity_of old_at)
+
+  -- it took as many bits as it had room for, and not all
+  pub was_cut_short : (new : Vec Bool) (bits : List Bool) (faults now : ℕ) → items_of new ≡ items_of old ++ take (capacity_of old - length (items_of old)) bits
+      → capacity_of old < length (items_of old) + length bits → now ≡ one_more faults → IsCutShort i bits lists (slice_set lists i new) faults now
+  was_cut_short new bits faults now more few counted = record {
+    few = omega (arith, few, held_at lists i old here, room_at lists i old within, ap capacity_of old_at);
+    part =
+        let put : List Bool = take (room_left lists i) bits in
+        let all : items_of new ≡ items_of old ++ put = more ∙ ap (λ n. items_of old ++ take n bits) (sym left_here) in
+        subst (λ l. Puts (for_leaf i put) (mem_outputs lists) (outputs_of l)) (sym (map-set items_of lists i new ∙ ap (slice_set (map items_of lists) i) all))
+        (puts_last (map items_of lists) i put (items_of old) (omega (arith, length-map lists items_of, within)) (slice_get-map items_of lists i ∙ ap (option_map items_of) here));
+    counted = counted;
+  }
+
+  pub cut_short_stays : (new : Vec Bool) (bits : List Bool) (faults now : ℕ) → items_of new ≡ items_of old ++ take (capacity_of old - length (items_of old)) bits → capacity_of new ≡ capacity_of old
+      → capacity_of old < length (items_of old) + length bits → StaysInRoom lists (slice_set lists i new) faults now
+  cut_short_stays new bits faults now more same few =
+      let rest : ℕ = capacity_of old - length (items_of old) in
+      let long : length (items_of new) ≡ length (items_of old) + rest = ap length more ∙ length-append (items_of old) (take rest bits) ∙ ap (λ n. length (items_of old) + n) (length-take-le rest bits (omega (arith, few))) in
+      let held : bits_held (mem_outputs (slice_set lists i new)) i ≡ length (items_of new) = held_now lists i new within in
+      let room : room_in (slice_set lists i new) i ≡ capacity_of new = room_now lists i new within in
+      record {
+        rooms = room_same lists i new old within (same ∙ sym (ap capacity_of old_at));
+        grows = held_grows lists i new old within here (omega (arith, long));
+        counted = inr (i, lt-ltb i (length (map items_of (slice_set lists i new))) (omega (arith, length-map (slice_set lists i new) items_of, length-set lists i new, within)), omega (arith, held, room, long, same));
+      }
 
   -- it is full
   is_full : capacity_of old ≤ length (items_of old) → IsFull lists i

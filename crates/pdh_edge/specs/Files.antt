@@ -2,7 +2,7 @@
 use Rattle.std.specs.Prelude.{◌≡◌, ◌⊎◌, ℕ, ◌+◌, ◌^◌, ◌-◌, ◌≤◌, min, List, [], ◌++◌, length, take, drop, Bool, true, false, if◌then◌else◌, Option, Some, None, is_none}
 use Rattle.std.specs.Option.{option_map}
 use Rattle.pdh_edge.specs.declared.shelf.Call.{Call}
-use Rattle.pdh_edge.specs.declared.shelf.Call.TheVariants.{Size, Read, Start, Append}
+use Rattle.pdh_edge.specs.declared.shelf.Call.TheVariants.{Start, Append}
 use Rattle.pdh_edge.specs.Counts.{one_more}
 
 -- what is told of a file: nothing; or that it isn't held (None), or its bytes

@@ -1,11 +1,11 @@
 -- The lists of a port in memory.
-use Rattle.std.specs.Prelude.{◌≡◌, ◌⊎◌, ℕ, ◌<◌, ◌≤◌, Bool, true, IsTrue, nat_lt, List, length, drop, map, Option, Some, None, slice_get, vec_capacity}
+use Rattle.std.specs.Prelude.{◌≡◌, ◌⊎◌, ℕ, ◌+◌, ◌-◌, ◌<◌, ◌≤◌, Bool, true, IsTrue, nat_lt, List, length, take, drop, map, Option, Some, None, slice_get, vec_capacity}
 use Rattle.std.specs.List.{slice_index_or}
 use Rattle.std.specs.Global.{Vec}
 use Rattle.pdh_edge.specs.declared.mem_port.InputList.{InputList}
 use Rattle.pdh_edge.specs.declared.mem_port.MemPort.{MemPort}
 use Rattle.pdh_edge.specs.Counts.{one_more}
-use Rattle.pdh_edge.specs.Ports.{Inputs, Outputs}
+use Rattle.pdh_edge.specs.Ports.{Inputs, Outputs, Puts, for_leaf}
 
 -- ---- lists of bits as they are given and taken
 
@@ -67,6 +67,21 @@ pub record PutInRoom (leaf : ℕ) (old : List (Vec Bool)) (faults now : ℕ) : T
 pub record IsRefused (leaf : ℕ) (old new : List (Vec Bool)) (faults now : ℕ) : Type 0 where
   pub full : IsFull old leaf
   pub same : mem_outputs new ≡ mem_outputs old
+  pub counted : now ≡ one_more faults
+
+-- bits were put: the list had room for them all, and no fault was counted
+pub record PutAllInRoom (leaf count : ℕ) (old : List (Vec Bool)) (faults now : ℕ) : Type 0 where
+  pub room : bits_held (mem_outputs old) leaf + count ≤ room_in old leaf
+  pub uncounted : now ≡ faults
+
+-- for how many bits more list k of these has room
+abbrev pub room_left : List (Vec Bool) → ℕ → ℕ
+room_left lists k = room_in lists k - bits_held (mem_outputs lists) k
+
+-- bits were refused: the list had no room for them all, took as many as it had room for, and one fault was counted
+pub record IsCutShort (leaf : ℕ) (bits : List Bool) (old new : List (Vec Bool)) (faults now : ℕ) : Type 0 where
+  pub few : room_in old leaf < bits_held (mem_outputs old) leaf + length bits
+  pub part : Puts (for_leaf leaf (take (room_left old leaf) bits)) (mem_outputs old) (mem_outputs new)
   pub counted : now ≡ one_more faults
 
 -- ---- what calls may change

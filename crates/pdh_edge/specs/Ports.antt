@@ -26,6 +26,10 @@ pub record Outputs : Type 0 where
 abbrev pub only : ℕ → Bool → ℕ → List Bool
 only leaf bit k = (if k == leaf then bit ∷ [] else [])
 
+-- these bits for one leaf, and none for the others
+abbrev pub for_leaf : ℕ → List Bool → ℕ → List Bool
+for_leaf leaf bits k = (if k == leaf then bits else [])
+
 -- no bit for any leaf
 abbrev pub nothing : ℕ → List Bool
 nothing k = []

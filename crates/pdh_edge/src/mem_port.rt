@@ -1,7 +1,7 @@
-ghost use Rattle.std.specs.Prelude.{◌≡◌, ◌≤◌, ◌+◌, ℕ, Bool, true, IsTrue, List, [], length, map, replicate, slice_get, Some, IfOk, OnOk, OnErr};
+ghost use Rattle.std.specs.Prelude.{◌≡◌, ◌≤◌, ◌+◌, ◌-◌, ◌++◌, min, take, drop, vec_capacity, ℕ, Bool, true, IsTrue, List, [], length, map, replicate, slice_get, Some, IfOk, OnOk, OnErr};
 ghost use Rattle.std.proofs.Common.{refl, ◌∙◌, arith, ap};
-ghost use Rattle.pdh_edge.specs.Ports.{Puts, PutsPart, HasCause, only};
-ghost use Rattle.pdh_edge.specs.MemLists.{inputs_of, outputs_of, mem_inputs, mem_outputs, items_of, length_of, bits_held, room_of, PutInRoom, IsRefused, KeepsReady, StaysInRoom};
+ghost use Rattle.pdh_edge.specs.Ports.{Puts, PutsPart, HasCause, only, for_leaf};
+ghost use Rattle.pdh_edge.specs.MemLists.{inputs_of, outputs_of, mem_inputs, mem_outputs, items_of, length_of, bits_held, room_of, PutInRoom, IsRefused, PutAllInRoom, IsCutShort, KeepsReady, StaysInRoom};
 ghost use Rattle.pdh_edge.specs.laws.InRoom.{stays_same, stays_join, stays_alike};
 
 use crate::{Drain, Failed, Feed, FeedStop, Port};
@@ -14,8 +14,9 @@ struct InputList {
     given: usize,
 }
 
-/// A port in memory, which tells its lists. Taking bits never fails; putting one fails exactly where
-/// its list has no room, and then puts nothing. No call but `room` takes memory.
+/// A port in memory, which tells its lists. Taking bits never fails; putting bits fails exactly
+/// where their list has no room for them all, and then puts those it has room for. No call but `room`
+/// takes memory.
 #[derive(Drop)]
 pub struct MemPort {
     inputs: Vec<InputList>,
@@ -46,6 +47,30 @@ fn empty_lists(alloc: Global, lists: u32) -> Result<Vec<Vec<bool>>, AllocError>
         outputs.push(Vec::new(alloc))?;
     }
     Ok(outputs)
+}
+
+// Copies as many bits of a list as there are from a place on and fit, and answers their number.
+fn copy_front(bits: &[bool], from: usize, into: &mut [bool]) -> usize
+    requires { from ≤ length bits.now }
+    ensures count { result ≡ min (length into.old) (length bits.now - from) }
+    ensures copied { into.new ≡ take result (drop from bits.now) ++ drop result into.old }
+{
+    let count = into.len().min(bits.len() - from);
+    into[..count].copy_from_slice(&bits[from..from + count]);
+    count
+}
+
+// Appends as many bits as a list has room for, takes no memory, and answers their number.
+fn append_in_room(list: &mut Vec<bool>, bits: &[bool]) -> usize
+    ensures count { result ≡ min (length bits.now) (vec_capacity list.old - length list.old.items) }
+    ensures items { list.new.items ≡ list.old.items ++ take result bits.now }
+    ensures capacity { vec_capacity list.new ≡ vec_capacity list.old }
+{
+    let count = bits.len().min(list.capacity() - list.len());
+    for bit in &bits[..count] {
+        list.push_reserved(*bit);
+    }
+    count
 }
 
 impl MemPort {
@@ -126,6 +151,21 @@ impl Feed for MemPort {
         list.given += 1;
         Ok(bit)
     }
+
+    fn bits(&mut self, leaf: u32, into: &mut [bool]) -> Result<usize, FeedStop> {
+        let list = &mut self.inputs[leaf as usize];
+        if list.given < list.bits.len() {
+            let count = copy_front(&list.bits, list.given, into);
+            list.given += count;
+            return Ok(count);
+        }
+        Err(FeedStop::Ended)
+    }
+
+    fn left(&self, leaf: u32) -> u64 {
+        let list = &self.inputs[leaf as usize];
+        list.bits.len().saturating_sub(list.given) as u64
+    }
 }
 
 impl Drain for MemPort {
@@ -176,6 +216,28 @@ impl Drain for MemPort {
         }
         self.faults = self.faults.saturating_add(1);
         Err(Failed)
+    }
+
+    fn put_all(&mut self, leaf: u32, bits: &[bool]) -> Result<(), Failed>
+        requires { IsTrue ((mem_outputs self.old.outputs.items).holds leaf) }
+        ensures ok { OnOk result (Puts (for_leaf leaf bits.now)
+            (mem_outputs self.old.outputs.items) (mem_outputs self.new.outputs.items)) }
+        ensures err { OnErr result (PutsPart (for_leaf leaf bits.now)
+            (mem_outputs self.old.outputs.items) (mem_outputs self.new.outputs.items)) }
+        ensures cause { HasCause self.old.faults self.new.faults result }
+        ensures drained { ⟦<MemPort as Drain>⟧.drained self.old self.new }
+        ensures put { OnOk result (PutAllInRoom leaf (length bits.now) self.old.outputs.items
+            self.old.faults self.new.faults) }
+        ensures refused { OnErr result (IsCutShort leaf bits.now self.old.outputs.items
+            self.new.outputs.items self.old.faults self.new.faults) }
+    {
+        self.fresh = false;
+        let put = append_in_room(&mut self.outputs[leaf as usize], bits);
+        if put < bits.len() {
+            self.faults = self.faults.saturating_add(1);
+            return Err(Failed);
+        }
+        Ok(())
     }
 }
 

@@ -1,6 +1,6 @@
-ghost use Rattle.std.specs.Prelude.{◌≡◌, ◌≤◌, ℕ, Bool, List, length, Some, IsTrue, IfOk, OnOk, OnErr, IsErrOf};
+ghost use Rattle.std.specs.Prelude.{◌≡◌, ◌≤◌, ◌<◌, ◌-◌, ◌^◌, ℕ, Bool, List, length, take, min, Some, IsTrue, IfOk, OnOk, OnErr, IsErrOf};
 ghost use Rattle.pdh_edge.specs.declared.port.FeedStop.TheVariants.{Ended};
-ghost use Rattle.pdh_edge.specs.Ports.{Inputs, Outputs, Takes, Puts, PutsPart, HasCause, HasFeedCause, only, nothing};
+ghost use Rattle.pdh_edge.specs.Ports.{Inputs, Outputs, Takes, Puts, PutsPart, HasCause, HasFeedCause, only, for_leaf, nothing};
 
 use crate::Failed;
 
@@ -39,6 +39,28 @@ pub trait Feed: Drop {
         ensures cause { HasFeedCause (feed_faults self.old) (feed_faults self.new) result }
         ensures ended { IsErrOf result Ended → (inputs self.old).left leaf ≡ 0 }
         ensures fed { fed self.old self.new };
+
+    /// Takes next bits of a leaf's list into the front of `into`, at least one and as many as it has
+    /// room for at most, answers how many, and leaves the other lists. An error is one of `bit`.
+    fn bits(&mut self, leaf: u32, into: &mut [bool]) -> Result<usize, FeedStop>
+        requires held { IsTrue ((inputs self.old).holds leaf) }
+        requires some { 0 < length into.old }
+        ensures count { IfOk result (λ count. (0 < count) × (count ≤ length into.old)) }
+        ensures ok { IfOk result (λ count. Takes (for_leaf leaf (take count into.new))
+            (inputs self.old) (inputs self.new)) }
+        ensures err { OnErr result (Takes nothing (inputs self.old) (inputs self.new)) }
+        ensures cause { HasFeedCause (feed_faults self.old) (feed_faults self.new) result }
+        ensures ended { IsErrOf result Ended → (inputs self.old).left leaf ≡ 0 }
+        ensures fed { fed self.old self.new }
+    {
+        into[0] = self.bit(leaf)?;
+        Ok(1)
+    }
+
+    /// How many bits a leaf's list still has, or `u64::MAX` where it has more.
+    fn left(&self, leaf: u32) -> u64
+        requires { IsTrue ((inputs self.now).holds leaf) }
+        ensures { result ≡ min ((inputs self.now).left leaf) (2 ^ 64 - 1) };
 
     ghost fed_same: { (a : Self) → fed a a };
 
@@ -80,6 +102,22 @@ pub trait Drain: Drop {
             (PutsPart (only leaf bit) (outputs self.old) (outputs self.new)) }
         ensures cause { HasCause (drain_faults self.old) (drain_faults self.new) result }
         ensures drained { drained self.old self.new };
+
+    /// Appends bits to a leaf's list and leaves the other lists. After a failure, at which the count
+    /// of faults rose, each list is a prefix of what was put.
+    fn put_all(&mut self, leaf: u32, bits: &[bool]) -> Result<(), Failed>
+        requires { IsTrue ((outputs self.old).holds leaf) }
+        ensures ok { OnOk result (Puts (for_leaf leaf bits.now) (outputs self.old) (outputs self.new)) }
+        ensures err { OnErr result
+            (PutsPart (for_leaf leaf bits.now) (outputs self.old) (outputs self.new)) }
+        ensures cause { HasCause (drain_faults self.old) (drain_faults self.new) result }
+        ensures drained { drained self.old self.new }
+    {
+        for bit in bits {
+            self.put(leaf, *bit)?;
+        }
+        Ok(())
+    }
 
     ghost drained_same: { (a : Self) → drained a a };
 

@@ -26,6 +26,7 @@ use Rattle.pdh_clock.proofs.Begins.{none_short}
 use Rattle.pdh_chain.specs.Trees.{AreLevelsOf}
 use Rattle.pdh_chain.specs.Chains.{shapes_of, levels_of, leaves_of}
 use Rattle.pdh_chain.specs.declared.chain.Chain.{Chain}
+use Rattle.pdh_chain.proofs.Clear.{all_scheduled as all_scheduled_of}
 use Rattle.pdh_chain.proofs.ChainLaws.{are_frames, all_stores, are_levels_of, few_shapes}
 use Rattle.pdh_chain.proofs.SenderStops.{begun-grows, given-more}
 use Rattle.pdh_ops.specs.Schedules.{contents_of, frames_in}
@@ -33,20 +34,9 @@ use Rattle.pdh_ops.specs.Mux.{line_len, short_node, bits_needed}
 
 -- ---- no node is short
 
--- each node of so many frames of the top has the frames that it begins, by the numbers of its chain
-abbrev EachScheduled : List FrameNumbers → List Row → ℕ → Type 0
-EachScheduled numbers rows n = All (λ steps. begun_at numbers (counts rows) [] (n * top_len_of numbers) steps ≤ frame_count rows steps) (nodes_of numbers)
-
-each_scheduled : (schedule : Contents) (n : ℕ) → shortage schedule n ≡ None → EachScheduled (numbers_in schedule.levels) schedule.rows n
-unfolding frames_begun
-each_scheduled schedule n none k d h =
-    subst (λ p. begun_at (numbers_in schedule.levels) (counts schedule.rows) [] (n * top_len_of (numbers_in schedule.levels)) p ≤ frame_count schedule.rows p)
-    (get_or_default (nodes_in schedule.levels) k [] d h)
-    (none_short schedule n (suc k) (ap is_some none) k (omega arith) h)
-
 -- a schedule in which no node is short has all frames that the chain's line begins
 pub all_scheduled : (chain : Chain) (rows : List Row) → short_node chain rows ≡ None → AllScheduled (shapes_of chain) (counts rows) (frame_count rows) [] (line_len chain rows)
-all_scheduled chain rows none = subst (λ numbers. EachScheduled numbers rows (frames_in rows)) (sym (are_levels_of chain)) (each_scheduled (contents_of chain rows) (frames_in rows) none)
+all_scheduled chain rows none = all_scheduled_of (shapes_of chain) (contents_of chain rows) (frames_in rows) (are_levels_of chain) none
 
 -- a node that made fewer bits begins no more frames
 begun_at-grows : (shapes : List FrameShape) (counts : Counts) (path : List ℕ) (x y : ℕ) (steps : List ℕ) → AreFrames shapes → AllStores shapes → x ≤ y

@@ -1,8 +1,8 @@
--- One bit for one child: what all the children then stand for, and what leaves have got.
+-- Bits for one child: what all the children then stand for, and what leaves have got.
 use Rattle.std.proofs.Common.{◌≡◌, ◌⊎◌, inl, inr, ℕ, zero, suc, Bool, true, false, IsTrue, ◌||◌, List, [], ◌∷◌, ◌++◌, cond, refl, sym, ◌∙◌, ap, subst, arith, Some, slice_get, slice_set, eq-eqb}
 use Rattle.std.proofs.lemmas.List.{append-nil}
 use Rattle.std.proofs.lemmas.Bool.{cases_Bool, cases_eq, ne_eqb}
-use Rattle.pdh_edge.specs.Ports.{Outputs, only}
+use Rattle.pdh_edge.specs.Ports.{Outputs, for_leaf}
 use Rattle.pdh_rx.specs.Meaning.{Meaning, IsSound, Gains, GainsPart}
 use Rattle.pdh_rx.specs.Node.{EachStands, IsDisjoint, any_leaf, got_by, with_more}
 use Rattle.pdh_rx.specs.laws.NodeLaws.{got_by_same}
@@ -21,21 +21,21 @@ slice_get_set (x ∷ xs) (suc i) (suc j) y c e = elim (slice_get_set xs i j y c 
   | inr p ↦ inr ((λ h. p.0 (omega arith)), p.1)
 ]
 
--- a line with one bit more, and the others
-only_here : (lines : ℕ → List Bool) (t : ℕ) (b : Bool) → with_more lines (only t b) t ≡ lines t ++ b ∷ []
-only_here lines t b = ap (λ v. lines t ++ cond v (b ∷ []) []) (eq-eqb t t refl)
+-- a line with more bits, and the others
+for_leaf_here : (lines : ℕ → List Bool) (t : ℕ) (bits : List Bool) → with_more lines (for_leaf t bits) t ≡ lines t ++ bits
+for_leaf_here lines t bits = ap (λ v. lines t ++ cond v bits []) (eq-eqb t t refl)
 
-only_elsewhere : (lines : ℕ → List Bool) (t : ℕ) (b : Bool) (j : ℕ) → (j ≡ t → ⊥) → with_more lines (only t b) j ≡ lines j
-only_elsewhere lines t b j ne = ap (λ v. lines j ++ cond v (b ∷ []) []) (ne_eqb j t ne) ∙ append-nil (lines j)
+for_leaf_elsewhere : (lines : ℕ → List Bool) (t : ℕ) (bits : List Bool) (j : ℕ) → (j ≡ t → ⊥) → with_more lines (for_leaf t bits) j ≡ lines j
+for_leaf_elsewhere lines t bits j ne = ap (λ v. lines j ++ cond v bits []) (ne_eqb j t ne) ∙ append-nil (lines j)
 
-pub each_with_bit : {C : Type 0} (stands : C → List Bool → Type 0) (cs : List C) (lines : ℕ → List Bool) (t : ℕ) (b : Bool) (new : C) → EachStands stands cs lines → stands new (lines t ++ b ∷ []) → EachStands stands (slice_set cs t new) (with_more lines (only t b))
-each_with_bit {C = C} stands cs lines t b new each at j c e = elim (slice_get_set cs t j new c e) [
+pub each_with_bits : {C : Type 0} (stands : C → List Bool → Type 0) (cs : List C) (lines : ℕ → List Bool) (t : ℕ) (bits : List Bool) (new : C) → EachStands stands cs lines → stands new (lines t ++ bits) → EachStands stands (slice_set cs t new) (with_more lines (for_leaf t bits))
+each_with_bits {C = C} stands cs lines t bits new each at j c e = elim (slice_get_set cs t j new c e) [
   | inl p ↦
-      let P : ℕ → Type 0 = λ v. stands c (with_more lines (only t b) v) in
+      let P : ℕ → Type 0 = λ v. stands c (with_more lines (for_leaf t bits) v) in
       let Q : List Bool → Type 0 = stands c in
-      let N : C → Type 0 = λ v. stands v (lines t ++ b ∷ []) in
-      subst P (sym p.0) (subst Q (sym (only_here lines t b)) (subst N p.1 at))
-  | inr p ↦ let Q : List Bool → Type 0 = stands c in subst Q (sym (only_elsewhere lines t b j p.0)) (each j c p.1)
+      let N : C → Type 0 = λ v. stands v (lines t ++ bits) in
+      subst P (sym p.0) (subst Q (sym (for_leaf_here lines t bits)) (subst N p.1 at))
+  | inr p ↦ let Q : List Bool → Type 0 = stands c in subst Q (sym (for_leaf_elsewhere lines t bits j p.0)) (each j c p.1)
 ]
 
 -- a child's leaf is a leaf of all
@@ -70,36 +70,36 @@ disjoint_behind : (m : Meaning) (ms : List Meaning) → IsDisjoint (m ∷ ms) �
 disjoint_behind m ms dis i j k a b ea eb ha hb = let e : suc i ≡ suc j = dis (suc i) (suc j) k a b ea eb ha hb in omega arith
 
 -- the lines behind the first
-behind : (lines : ℕ → List Bool) (t : ℕ) (b : Bool) (j : ℕ) → with_more lines (only (suc t) b) (suc j) ≡ with_more (λ i. lines (suc i)) (only t b) j
-behind lines t b j = elim (cases_eq j t) [
-  | inl e ↦ let P : ℕ → Type 0 = λ v. with_more lines (only (suc t) b) (suc v) ≡ with_more (λ i. lines (suc i)) (only t b) v in
-      subst P (sym e) (only_here lines (suc t) b ∙ sym (only_here (λ i. lines (suc i)) t b))
-  | inr ne ↦ only_elsewhere lines (suc t) b (suc j) (λ h. ne (omega arith)) ∙ sym (only_elsewhere (λ i. lines (suc i)) t b j ne)
+behind : (lines : ℕ → List Bool) (t : ℕ) (bits : List Bool) (j : ℕ) → with_more lines (for_leaf (suc t) bits) (suc j) ≡ with_more (λ i. lines (suc i)) (for_leaf t bits) j
+behind lines t bits j = elim (cases_eq j t) [
+  | inl e ↦ let P : ℕ → Type 0 = λ v. with_more lines (for_leaf (suc t) bits) (suc v) ≡ with_more (λ i. lines (suc i)) (for_leaf t bits) v in
+      subst P (sym e) (for_leaf_here lines (suc t) bits ∙ sym (for_leaf_here (λ i. lines (suc i)) t bits))
+  | inr ne ↦ for_leaf_elsewhere lines (suc t) bits (suc j) (λ h. ne (omega arith)) ∙ sym (for_leaf_elsewhere (λ i. lines (suc i)) t bits j ne)
 ]
 
--- one more bit for one child
-got_step : (ms : List Meaning) (lines : ℕ → List Bool) (t : ℕ) (b : Bool) (m : Meaning) → slice_get ms t ≡ Some m → IsDisjoint ms
+-- more bits for one child
+got_step : (ms : List Meaning) (lines : ℕ → List Bool) (t : ℕ) (bits : List Bool) (m : Meaning) → slice_get ms t ≡ Some m → IsDisjoint ms
     → (more : ℕ → List Bool) → ((k : ℕ) → m.leaves k ≡ false → more k ≡ [])
-    → ((k : ℕ) → m.got (lines t ++ b ∷ []) k ≡ m.got (lines t) k ++ more k)
-    → (k : ℕ) → got_by ms (with_more lines (only t b)) k ≡ got_by ms lines k ++ more k
-got_step [] lines t b m e dis more elsewhere gained k = absurd (no e)
+    → ((k : ℕ) → m.got (lines t ++ bits) k ≡ m.got (lines t) k ++ more k)
+    → (k : ℕ) → got_by ms (with_more lines (for_leaf t bits)) k ≡ got_by ms lines k ++ more k
+got_step [] lines t bits m e dis more elsewhere gained k = absurd (no e)
   where
     no : slice_get {X = Meaning} [] t ≡ Some m → ⊥
     no h = cc
-got_step (x ∷ ms) lines zero b m e dis more elsewhere gained k =
+got_step (x ∷ ms) lines zero bits m e dis more elsewhere gained k =
     let same : m ≡ x = cc in
     let P : Meaning → Type 0 = λ v. v.leaves k ≡ false → more k ≡ [] in
-    let Q : Meaning → Type 0 = λ v. v.got (lines 0 ++ b ∷ []) k ≡ v.got (lines 0) k ++ more k in
+    let Q : Meaning → Type 0 = λ v. v.got (lines 0 ++ bits) k ≡ v.got (lines 0) k ++ more k in
     let none : x.leaves k ≡ false → more k ≡ [] = subst P same (elsewhere k) in
-    let here : x.got (lines 0 ++ b ∷ []) k ≡ x.got (lines 0) k ++ more k = subst Q same (gained k) in
+    let here : x.got (lines 0 ++ bits) k ≡ x.got (lines 0) k ++ more k = subst Q same (gained k) in
     cond_step (x.leaves k) _ _ _ _ (more k)
-    (λ h. ap (λ v. x.got v k) (only_here lines 0 b) ∙ here)
-    (λ h. got_by_same ms _ _ (λ j. only_elsewhere lines 0 b (suc j) (λ z. omega arith)) k
+    (λ h. ap (λ v. x.got v k) (for_leaf_here lines 0 bits) ∙ here)
+    (λ h. got_by_same ms _ _ (λ j. for_leaf_elsewhere lines 0 bits (suc j) (λ z. omega arith)) k
     ∙ sym (append-nil _) ∙ ap (λ v. got_by ms (λ j. lines (suc j)) k ++ v) (sym (none h)))
-got_step (x ∷ ms) lines (suc t) b m e dis more elsewhere gained k =
+got_step (x ∷ ms) lines (suc t) bits m e dis more elsewhere gained k =
     cond_step (x.leaves k) _ _ _ _ (more k)
-    (λ h. ap (λ v. x.got v k) (only_elsewhere lines (suc t) b 0 (λ z. omega arith)) ∙ sym (append-nil _) ∙ ap (λ v. x.got (lines 0) k ++ v) (sym (none h)))
-    (λ h. got_by_same ms _ _ (behind lines t b) k ∙ got_step ms (λ j. lines (suc j)) t b m e (disjoint_behind x ms dis) more elsewhere gained k)
+    (λ h. ap (λ v. x.got v k) (for_leaf_elsewhere lines (suc t) bits 0 (λ z. omega arith)) ∙ sym (append-nil _) ∙ ap (λ v. x.got (lines 0) k ++ v) (sym (none h)))
+    (λ h. got_by_same ms _ _ (behind lines t bits) k ∙ got_step ms (λ j. lines (suc j)) t bits m e (disjoint_behind x ms dis) more elsewhere gained k)
   where
     none : x.leaves k ≡ true → more k ≡ []
     none h = elim (cases_Bool (m.leaves k)) [
@@ -111,19 +111,19 @@ got_step (x ∷ ms) lines (suc t) b m e dis more elsewhere gained k =
 more_elsewhere : (m : Meaning) → IsSound m → (l l' : List Bool) (more : ℕ → List Bool) → ((k : ℕ) → m.got l' k ≡ m.got l k ++ more k) → (k : ℕ) → m.leaves k ≡ false → more k ≡ []
 more_elsewhere m s l l' more h k e = sym (ap (λ v. v ++ more k) (s.elsewhere l k e)) ∙ sym (h k) ∙ s.elsewhere l' k e
 
--- what a child's push did, as seen from all the children
-pub gains_of_one : (ms : List Meaning) (lines : ℕ → List Bool) (t : ℕ) (b : Bool) (m : Meaning) → slice_get ms t ≡ Some m → IsDisjoint ms → IsSound m → (old new : Outputs)
-    → Gains (m.got (lines t)) (m.got (lines t ++ b ∷ [])) old new → Gains (got_by ms lines) (got_by ms (with_more lines (only t b))) old new
-gains_of_one ms lines t b m e dis s old new p = record {
+-- what a child's call did, as seen from all the children
+pub gains_of_one : (ms : List Meaning) (lines : ℕ → List Bool) (t : ℕ) (bits : List Bool) (m : Meaning) → slice_get ms t ≡ Some m → IsDisjoint ms → IsSound m → (old new : Outputs)
+    → Gains (m.got (lines t)) (m.got (lines t ++ bits)) old new → Gains (got_by ms lines) (got_by ms (with_more lines (for_leaf t bits))) old new
+gains_of_one ms lines t bits m e dis s old new p = record {
   more = p.more;
-  gained = got_step ms lines t b m e dis p.more (more_elsewhere m s _ _ p.more p.gained) p.gained;
+  gained = got_step ms lines t bits m e dis p.more (more_elsewhere m s _ _ p.more p.gained) p.gained;
   puts = p.puts;
 }
 
-pub part_of_one : (ms : List Meaning) (lines : ℕ → List Bool) (t : ℕ) (b : Bool) (m : Meaning) → slice_get ms t ≡ Some m → IsDisjoint ms → IsSound m → (old new : Outputs)
-    → GainsPart (m.got (lines t)) (m.got (lines t ++ b ∷ [])) old new → GainsPart (got_by ms lines) (got_by ms (with_more lines (only t b))) old new
-part_of_one ms lines t b m e dis s old new p = record {
+pub part_of_one : (ms : List Meaning) (lines : ℕ → List Bool) (t : ℕ) (bits : List Bool) (m : Meaning) → slice_get ms t ≡ Some m → IsDisjoint ms → IsSound m → (old new : Outputs)
+    → GainsPart (m.got (lines t)) (m.got (lines t ++ bits)) old new → GainsPart (got_by ms lines) (got_by ms (with_more lines (for_leaf t bits))) old new
+part_of_one ms lines t bits m e dis s old new p = record {
   more = p.more;
-  gained = got_step ms lines t b m e dis p.more (more_elsewhere m s _ _ p.more p.gained) p.gained;
+  gained = got_step ms lines t bits m e dis p.more (more_elsewhere m s _ _ p.more p.gained) p.gained;
   puts = p.puts;
 }

@@ -5,4 +5,5 @@ pub mod SlotBits
 pub mod Ones
 pub mod NodeSteps
 pub mod StepBits
+mod Shares
 mod FourTails

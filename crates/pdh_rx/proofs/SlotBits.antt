@@ -81,25 +81,6 @@ ones_few s j frame (suc t) =
     one true = omega arith
     one false = omega arith
 
-add_le : (a b x y : ℕ) → a ≤ b → x ≤ y → a + x ≤ b + y
-add_le a b x y h h' = omega arith
-
--- a narrower test passes no more
-count_and_le : (p q : ℕ → Bool) (xs : List ℕ) → count_by (λ x. p x && q x) xs ≤ count_by p xs
-count_and_le p q [] = omega arith
-count_and_le p q (x ∷ xs) =
-    rw (sum_by-cons (λ x. cond (p x && q x) 1 0) x xs, sum_by-cons (λ x. cond (p x) 1 0) x xs) (add_le (cond (p x && q x) 1 0) (cond (p x) 1 0) _ _ (one (p x) (q x)) (count_and_le p q xs))
-  where
-    one : (a b : Bool) → cond (a && b) 1 0 ≤ cond a 1 0
-    one true true = omega arith
-    one true false = omega arith
-    one false b = omega arith
-
--- a tributary has no more control slots than copies
-pub control_ones-le : (s : FrameShape) (j : ℕ) (frame : List Bool) → HasTributaries s → j < s.tribs → control_ones s j frame ≤ s.copies
-control_ones-le s j frame has known =
-    rw (← has.copies j known) (count_and_le (λ slot. controls j (s.role slot)) (λ slot. slice_index_or frame slot false) (slots s))
-
 -- from slot t on no slot holds such a copy
 no_more_ones : (s : FrameShape) (j : ℕ) (frame : List Bool) (t n : ℕ) → ((u : ℕ) → t ≤ u → u < t + n → controls j (s.role u) ≡ false) → ones_before s j frame (t + n) ≡ ones_before s j frame t
 no_more_ones s j frame t zero none = let e : t + zero ≡ t = omega arith in ap (ones_before s j frame) e

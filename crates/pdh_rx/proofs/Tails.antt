@@ -1,6 +1,6 @@
--- What one more bit gives a leaf.
+-- What more bits give a leaf.
 use Rattle.std.specs.Prelude.{◌≡◌, ℕ, Bool, true, false, List, [], ◌∷◌, ◌++◌, ◌==◌, cond, refl}
-use Rattle.pdh_edge.specs.Ports.{only}
+use Rattle.pdh_edge.specs.Ports.{only, for_leaf}
 use Rattle.pdh_rx.specs.Tail.{tail_meaning}
 
 -- with one more bit the leaf has got one more
@@ -8,5 +8,13 @@ pub tail_only : (leaf : ℕ) (line : List Bool) (bit : Bool) (k : ℕ) → (tail
 tail_only leaf line bit k = go (k == leaf)
   where
     go : (here : Bool) → cond here (line ++ bit ∷ []) [] ≡ cond here line [] ++ cond here (bit ∷ []) []
+    go true = refl
+    go false = refl
+
+-- with more bits the leaf has got them
+pub tail_for_leaf : (leaf : ℕ) (line bits : List Bool) (k : ℕ) → (tail_meaning leaf).got (line ++ bits) k ≡ (tail_meaning leaf).got line k ++ for_leaf leaf bits k
+tail_for_leaf leaf line bits k = go (k == leaf)
+  where
+    go : (here : Bool) → cond here (line ++ bits) [] ≡ cond here line [] ++ cond here bits []
     go true = refl
     go false = refl

@@ -32,3 +32,12 @@ pub record GainsPart (was is : ℕ → List Bool) (old new : Outputs) : Type 0 w
   pub more : ℕ → List Bool
   pub gained : (k : ℕ) → is k ≡ was k ++ more k
   pub puts : PutsPart more old new
+
+-- a receiver with this meaning took these bits: what it stands for now, by what it stood for, and what its leaves gained
+pub record TakesBits (m : Meaning) (bits : List Bool) (was is : List Bool → Type 0) (old new : Outputs) : Type 0 where
+  pub stands : (line : List Bool) → was line → is (line ++ bits)
+  pub gains : (line : List Bool) → was line → Gains (m.got line) (m.got (line ++ bits)) old new
+
+-- the same where a call failed
+pub record TakesPart (m : Meaning) (bits : List Bool) (was : List Bool → Type 0) (old new : Outputs) : Type 0 where
+  pub gains : (line : List Bool) → was line → GainsPart (m.got line) (m.got (line ++ bits)) old new

@@ -97,6 +97,10 @@ gap_after s Rejected gap = (if suc gap == s.len then 0 else suc gap)
 gap_after s Lost gap = 0
 gap_after s _ gap = gap
 
+-- how many, after so many positions more
+abbrev pub gap_passed : FrameShape → ℕ → ℕ → ℕ
+gap_passed s gap count = (if gap + count == s.len then 0 else gap + count)
+
 -- how many frames are delivered
 abbrev pub frames_after : Step → ℕ → ℕ
 frames_after step frames = min (frames + frames_gained step) (2 ^ 64 - 1)

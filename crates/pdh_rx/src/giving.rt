@@ -1,5 +1,5 @@
 ghost use Rattle.std.specs.Prelude.{◌≡◌, ◌<◌, ℕ, suc, Bool, List, [], length, map, OnOk, OnErr};
-ghost use Rattle.pdh_edge.specs.Ports.{HasCause, only};
+ghost use Rattle.pdh_edge.specs.Ports.{HasCause, only, for_leaf};
 ghost use Rattle.pdh_rx.specs.Meaning.{HoldsAll};
 ghost use Rattle.pdh_rx.specs.Node.{EachStands, IsDisjoint, any_leaf, Gives, GivesPart};
 
@@ -30,4 +30,27 @@ pub(crate) fn push_to<C: Rx, D: Drain, W: Watch>(
 {
     let child = &mut children[trib as usize];
     child.push(bit, drain, watch)
+}
+
+// Gives bits to one of the children.
+pub(crate) fn take_to<C: Rx, D: Drain>(
+    children: &mut Vec<C>,
+    trib: u8,
+    bits: &[bool],
+    drain: &mut D,
+) -> Result<(), Failed>
+    requires known { trib < length children.old.items }
+    requires stands { (lines : ℕ → List Bool) × EachStands C.stands children.old.items lines }
+    requires lists { HoldsAll (any_leaf (map C.meaning children.old.items)) (D.outputs drain.old) }
+    requires disjoint { IsDisjoint (map C.meaning children.old.items) }
+    ensures given { OnOk result (Gives C.stands (map C.meaning children.old.items)
+        (for_leaf trib bits.now)
+        children.old.items children.new.items (D.outputs drain.old) (D.outputs drain.new)) }
+    ensures part { OnErr result (GivesPart C.stands (map C.meaning children.old.items)
+        (for_leaf trib bits.now) children.old.items (D.outputs drain.old) (D.outputs drain.new)) }
+    ensures cause { HasCause (D.drain_faults drain.old) (D.drain_faults drain.new) result }
+    ensures drained { D.drained drain.old drain.new }
+    ensures same { map C.meaning children.new.items ≡ map C.meaning children.old.items }
+{
+    children[trib as usize].take(bits, drain)
 }

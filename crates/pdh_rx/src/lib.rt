@@ -1,11 +1,13 @@
-//! Demultiplexers that take a line bit by bit: a tree of nodes over leaves that put bits to a drain.
+//! Demultiplexers that take a line bit by bit or many bits at a time: a tree of nodes over leaves that put bits to a drain.
 #![tactic(auto)]
 
 mod frames;
 mod giving;
 mod node;
+mod parts;
 mod rx;
 mod slots;
+mod strip;
 mod tail;
 #[cfg(test)]
 mod tests;

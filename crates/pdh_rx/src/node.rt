@@ -1,17 +1,21 @@
-ghost use Rattle.std.specs.Prelude.{◌≡◌, ◌<◌, ℕ, All, Bool, List, [], ◌∷◌, ◌++◌, length, map, IfOk, OnOk, OnErr};
+ghost use Rattle.std.specs.Prelude.{◌≡◌, ◌<◌, ◌≤◌, ◌+◌, ℕ, All, Bool, List, [], ◌∷◌, ◌++◌, length, take, map, IfOk, OnOk, OnErr};
 ghost use Rattle.pdh_edge.specs.Ports.{HasCause};
-ghost use Rattle.pdh_rx.specs.Meaning.{Meaning, HoldsAll, Gains, GainsPart};
-ghost use Rattle.pdh_rx.specs.Node.{EachStands, IsDisjoint, ArePlaced, node_meaning, NodeStands, gap_after as gap_after_step, frames_after as frames_after_step, frames_counted};
+ghost use Rattle.pdh_rx.specs.Meaning.{Meaning, HoldsAll, Gains, GainsPart, TakesBits, TakesPart};
+ghost use Rattle.pdh_rx.specs.Node.{EachStands, IsDisjoint, ArePlaced, node_meaning, NodeStands, gap_after as gap_after_step, gap_passed as gap_passed_over, frames_after as frames_after_step, frames_counted};
 ghost use Rattle.pdh_rx.specs.laws.NodeLaws.{node_sound};
 
 use crate::Rx;
 use crate::frames::give;
+use crate::parts::give_parts;
+use crate::strip::Strip;
 use pdh_align::{Aligner, Step};
 use pdh_edge::{Drain, Failed};
 use pdh_shape::{Path, Shape};
+use pdh_slots::SlotTables;
 use pdh_watch::Watch;
 use std::alloc::{AllocError, Global};
 use std::marker::PhantomData;
+use std::rc::Rc;
 
 // How many positions of a gap are passed over after a step, since the last whole frame's length.
 fn gap_after<S: Shape>(step: Step, gap: u32) -> u32
@@ -23,6 +27,18 @@ fn gap_after<S: Shape>(step: Step, gap: u32) -> u32
         Step::Lost => 0,
         _ => gap,
     }
+}
+
+// How many positions of a gap are passed over after so many more, since the last whole frame's length.
+fn gap_passed<S: Shape>(gap: u32, count: usize) -> u32
+    requires { gap + count ≤ S.LEN }
+    ensures { result ≡ gap_passed_over S.shape gap count }
+{
+    let passed = gap as usize + count;
+    if passed == S::LEN as usize {
+        return 0;
+    }
+    passed as u32
 }
 
 // How many frames are delivered after a step.
@@ -45,6 +61,7 @@ pub struct RxNode<S: Shape, C: Rx> {
     aligner: Aligner<S>,
     // for each tributary how many copies of its justification control are 1 in a frame
     ones: Vec<u32>,
+    strip: Strip<S>,
     // how many positions of a gap were passed over since its last whole frame's length
     gap: u32,
     frames: u64,
@@ -58,6 +75,7 @@ impl<S: Shape, C: Rx> Drop for RxNode<S, C> {
             path: _,
             aligner: _,
             ones: _,
+            strip: _,
             gap: _,
             frames: _,
             of: _,
@@ -68,8 +86,13 @@ impl<S: Shape, C: Rx> Drop for RxNode<S, C> {
 impl<S: Shape, C: Rx> RxNode<S, C> {
     /// A demultiplexer of children that have taken no bit, one for each tributary, which has taken no
     /// bit; or it finds no memory. `path` is its place in a chain: a child that is a demultiplexer has
-    /// this path with its number, from 1, added.
-    pub fn open(alloc: Global, path: Path, children: Vec<C>) -> Result<RxNode<S, C>, AllocError>
+    /// this path with its number, from 1, added. `tables` may be shared with other nodes.
+    pub fn open(
+        alloc: Global,
+        path: Path,
+        tables: Rc<SlotTables<S>>,
+        children: Vec<C>,
+    ) -> Result<RxNode<S, C>, AllocError>
         requires count { length children.items ≡ S.TRIBS }
         requires fresh { EachStands C.stands children.items (λ j. []) }
         requires disjoint { IsDisjoint (map C.meaning children.items) }
@@ -85,6 +108,7 @@ impl<S: Shape, C: Rx> RxNode<S, C> {
             path,
             aligner,
             ones,
+            strip: Strip::open(alloc, tables)?,
             gap: 0,
             frames: 0,
             of: PhantomData,
@@ -97,6 +121,68 @@ impl<S: Shape, C: Rx> RxNode<S, C> {
             → result ≡ frames_counted S.shape line }
     {
         self.frames
+    }
+
+    // Takes a bit of the line, and gives each child its bits of what is ready in one call.
+    fn end_frame<D: Drain>(&mut self, bit: bool, drain: &mut D) -> Result<(), Failed>
+        requires stands { (line : List Bool) × ⟦<RxNode<S, C> as Rx>⟧.stands self.old line }
+        requires lists { HoldsAll (⟦<RxNode<S, C> as Rx>⟧.meaning self.old).leaves (D.outputs drain.old) }
+        ensures taken { OnOk result (TakesBits (⟦<RxNode<S, C> as Rx>⟧.meaning self.old) (bit ∷ [])
+            (⟦<RxNode<S, C> as Rx>⟧.stands self.old) (⟦<RxNode<S, C> as Rx>⟧.stands self.new)
+            (D.outputs drain.old) (D.outputs drain.new)) }
+        ensures part { OnErr result (TakesPart (⟦<RxNode<S, C> as Rx>⟧.meaning self.old) (bit ∷ [])
+            (⟦<RxNode<S, C> as Rx>⟧.stands self.old)
+            (D.outputs drain.old) (D.outputs drain.new)) }
+        ensures cause { HasCause (D.drain_faults drain.old) (D.drain_faults drain.new) result }
+        ensures drained { D.drained drain.old drain.new }
+        ensures same { ⟦<RxNode<S, C> as Rx>⟧.meaning self.new ≡ ⟦<RxNode<S, C> as Rx>⟧.meaning self.old }
+    {
+        let ended = self.aligner.push(bit);
+        self.gap = gap_after::<S>(ended, self.gap);
+        self.frames = frames_after(ended, self.frames);
+        give_parts::<S, C, D>(
+            &mut self.children,
+            &mut self.strip,
+            &self.aligner,
+            ended,
+            self.gap,
+            drain,
+        )
+    }
+
+    // Takes the first of these bits, at least one: those at which positions of a gap are passed over, or
+    // the one that may end a frame.
+    fn advance<D: Drain>(&mut self, bits: &[bool], drain: &mut D) -> Result<usize, Failed>
+        requires some { 0 < length bits.now }
+        requires stands { (line : List Bool) × ⟦<RxNode<S, C> as Rx>⟧.stands self.old line }
+        requires lists { HoldsAll (⟦<RxNode<S, C> as Rx>⟧.meaning self.old).leaves (D.outputs drain.old) }
+        ensures count { IfOk result (λ count. (0 < count) × (count ≤ length bits.now)) }
+        ensures taken { IfOk result (λ count. TakesBits (⟦<RxNode<S, C> as Rx>⟧.meaning self.old) (take count bits.now)
+            (⟦<RxNode<S, C> as Rx>⟧.stands self.old) (⟦<RxNode<S, C> as Rx>⟧.stands self.new)
+            (D.outputs drain.old) (D.outputs drain.new)) }
+        ensures part { OnErr result (TakesPart (⟦<RxNode<S, C> as Rx>⟧.meaning self.old) bits.now
+            (⟦<RxNode<S, C> as Rx>⟧.stands self.old)
+            (D.outputs drain.old) (D.outputs drain.new)) }
+        ensures cause { HasCause (D.drain_faults drain.old) (D.drain_faults drain.new) result }
+        ensures drained { D.drained drain.old drain.new }
+        ensures same { ⟦<RxNode<S, C> as Rx>⟧.meaning self.new ≡ ⟦<RxNode<S, C> as Rx>⟧.meaning self.old }
+    {
+        let most = bits.len().min((S::LEN - self.gap) as usize);
+        let passed = self.aligner.pass(&bits[..most]);
+        if passed == 0 {
+            self.end_frame(bits[0], drain)?;
+            return Ok(1);
+        }
+        self.gap = gap_passed::<S>(self.gap, passed);
+        give_parts::<S, C, D>(
+            &mut self.children,
+            &mut self.strip,
+            &self.aligner,
+            Step::Rejected,
+            self.gap,
+            drain,
+        )?;
+        Ok(passed)
     }
 }
 
@@ -125,5 +211,14 @@ impl<S: Shape, C: Rx> Rx for RxNode<S, C> {
             drain,
             watch,
         )
+    }
+
+    fn take<D: Drain>(&mut self, bits: &[bool], drain: &mut D) -> Result<(), Failed> {
+        let mut done = self.aligner.take(bits);
+        while done < bits.len() {
+            done += self.advance(&bits[done..], drain)?;
+            done += self.aligner.take(&bits[done..]);
+        }
+        Ok(())
     }
 }

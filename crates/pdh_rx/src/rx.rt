@@ -1,6 +1,6 @@
 ghost use Rattle.std.specs.Prelude.{◌≡◌, Bool, List, [], ◌∷◌, ◌++◌, OnOk, OnErr};
 ghost use Rattle.pdh_edge.specs.Ports.{HasCause};
-ghost use Rattle.pdh_rx.specs.Meaning.{Meaning, IsSound, HoldsAll, Gains, GainsPart};
+ghost use Rattle.pdh_rx.specs.Meaning.{Meaning, IsSound, HoldsAll, Gains, GainsPart, TakesBits, TakesPart};
 
 use pdh_edge::{Drain, Failed};
 use pdh_watch::Watch;
@@ -32,6 +32,19 @@ pub trait Rx: Drop {
             → GainsPart ((meaning self.old).got line) ((meaning self.old).got (line ++ bit ∷ []))
             (D.outputs drain.old) (D.outputs drain.new)) }
         ensures seen { W.saw watch.old [] watch.new }
+        ensures cause { HasCause (D.drain_faults drain.old) (D.drain_faults drain.new) result }
+        ensures drained { D.drained drain.old drain.new }
+        ensures same { meaning self.new ≡ meaning self.old };
+
+    /// Takes the next bits of the line, and puts each bit that leaves gain by them. It fails only where
+    /// the drain failed, and isn't used again then. It tells no events.
+    fn take<D: Drain>(&mut self, bits: &[bool], drain: &mut D) -> Result<(), Failed>
+        requires stands { (line : List Bool) × stands self.old line }
+        requires lists { HoldsAll (meaning self.old).leaves (D.outputs drain.old) }
+        ensures taken { OnOk result (TakesBits (meaning self.old) bits.now (stands self.old) (stands self.new)
+            (D.outputs drain.old) (D.outputs drain.new)) }
+        ensures part { OnErr result (TakesPart (meaning self.old) bits.now (stands self.old)
+            (D.outputs drain.old) (D.outputs drain.new)) }
         ensures cause { HasCause (D.drain_faults drain.old) (D.drain_faults drain.new) result }
         ensures drained { D.drained drain.old drain.new }
         ensures same { meaning self.new ≡ meaning self.old };

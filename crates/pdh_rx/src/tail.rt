@@ -37,4 +37,8 @@ impl Rx for Tail {
     ) -> Result<(), Failed> {
         drain.put(self.leaf, bit)
     }
+
+    fn take<D: Drain>(&mut self, bits: &[bool], drain: &mut D) -> Result<(), Failed> {
+        drain.put_all(self.leaf, bits)
+    }
 }

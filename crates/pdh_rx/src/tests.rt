@@ -7,8 +7,10 @@ ghost use Rattle.pdh_rx.specs.Node.{node_meaning};
 use crate::{Rx, RxNode, Tail};
 use pdh_edge::{Drain, Failed, MemPort};
 use pdh_shape::{E2, TOP};
+use pdh_slots::SlotTables;
 use pdh_watch::Quiet;
 use std::alloc::{AllocError, Global};
+use std::rc::Rc;
 use std::test::Fail;
 
 // The leaves 0 to 3.
@@ -24,7 +26,8 @@ fn node(alloc: Global) -> Result<RxNode<E2, Tail>, AllocError>
         ≡ node_meaning e2 (record { depth = 0; first = 0; second = 0 }) four_tails) }
     ensures stands { IfOk result (λ node. ⟦<RxNode<E2, Tail> as Rx>⟧.stands node []) }
 {
-    RxNode::open(alloc, TOP, tails(alloc)?)
+    let tables = Rc::new(alloc, SlotTables::open(alloc)?)?;
+    RxNode::open(alloc, TOP, tables, tails(alloc)?)
 }
 
 // Adds so many bits of one value.
@@ -102,6 +105,17 @@ fn run(alloc: Global, line: &[bool], bits: &[bool]) -> Result<(bool, u64), Fail>
     Ok((each_got(&port, bits), node.frames()))
 }
 
+// The same where the node takes all bits of the line in one call.
+fn run_at_once(alloc: Global, line: &[bool], bits: &[bool]) -> Result<(bool, u64), Fail> {
+    let mut node = node(alloc)?;
+    let mut port = MemPort::open(alloc, Vec::new(alloc), 4)?;
+    for leaf in 0..4 {
+        port.room(leaf, line.len())?;
+    }
+    node.take(line, &mut port)?;
+    Ok((each_got(&port, bits), node.frames()))
+}
+
 // A frame whose first byte is 0xF4 is right; 4 is a wrong one.
 #[test]
 fn lines_and_leaves(rt: HostRuntime) -> Result<(), Fail> {
@@ -120,6 +134,7 @@ fn lines_and_leaves(rt: HostRuntime) -> Result<(), Fail> {
         let line = line(alloc, zeros, frames)?;
         let bits = zeros_ones_zeros(alloc, counts)?;
         assert_eq!(rt; run(alloc, &line, &bits)?, (true, delivered));
+        assert_eq!(rt; run_at_once(alloc, &line, &bits)?, (true, delivered));
     }
     Ok(())
 }

@@ -1,4 +1,4 @@
-ghost use Rattle.std.specs.Prelude.{◌≡◌, ◌<◌, ◌≤◌, ◌↔◌, [], ◌∷◌, ◌++◌, length, nat_le, IsErr, IfOk, OnOk, OnErr};
+ghost use Rattle.std.specs.Prelude.{◌≡◌, ◌<◌, ◌≤◌, ◌+◌, ◌↔◌, [], ◌∷◌, ◌++◌, length, drop, nat_le, IsErr, IfOk, OnOk, OnErr};
 ghost use Rattle.pdh_shape.specs.OwnNumbers.{threshold, store_size};
 
 use circular_buffer::HeapCircularBuffer;
@@ -64,6 +64,23 @@ impl Store {
         ensures err { OnErr result (self.new ≡ self.old) }
     {
         self.ring.pop_front().ok_or(Underflow)
+    }
+
+    /// Moves all bits to the front of `into`, which has room for them.
+    pub fn take_all(&mut self, into: &mut [bool])
+        requires room { length self.old ≤ length into.old }
+        ensures taken { into.new ≡ self.old ++ drop (length self.old) into.old }
+        ensures empty { self.new ≡ [] }
+    {
+        let _taken = self.ring.read_into(into);
+    }
+
+    /// Appends bits, which the store has room for.
+    pub fn put_all(&mut self, bits: &[bool])
+        requires room { length self.old + length bits.now ≤ store_size }
+        ensures { self.new ≡ self.old ++ bits.now }
+    {
+        let _put = self.ring.fill_from_slice(bits);
     }
 
     /// How many bits are held, from 0 to [`STORE_SIZE`].

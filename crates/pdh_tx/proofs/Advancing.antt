@@ -39,7 +39,7 @@ upto_other f g i j ne = elim (cases_lt j i) [
     not_here more (inl h) = omega arith
     not_here more (inr h) = absurd (ne (omega arith))
 
-upto_most : (f g : ℕ → ℕ) (i j : ℕ) → f j ≤ g j → upto f g i j ≤ g j
+pub upto_most : (f g : ℕ → ℕ) (i j : ℕ) → f j ≤ g j → upto f g i j ≤ g j
 upto_most f g i j h = go (ltb j i)
   where
     go : (b : Bool) → cond b (g j) (f j) ≤ g j

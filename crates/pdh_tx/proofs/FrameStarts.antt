@@ -12,6 +12,7 @@ use Rattle.pdh_tx.specs.declared.tx.TxStop.{TxStop}
 use Rattle.pdh_tx.specs.declared.tx.TxStop.TheVariants.{NoFrame}
 use Rattle.pdh_tx.specs.Meaning.{Meaning, Plan, Supply}
 use Rattle.pdh_tx.specs.Held.{first_some, some_if}
+use Rattle.pdh_tx.specs.declared.tx.Tx.{Ghosts}
 use Rattle.pdh_tx.specs.declared.tributary.Tributary.{Tributary}
 use Rattle.pdh_tx.specs.Tributary.{meaning_in, child_in}
 use Rattle.pdh_tx.specs.Node.{Advance, Blocked, beginning, taken_to, led_to, came_to, read_to, leads}
@@ -112,6 +113,6 @@ decision s counts n j held stores frame count =
     sym (sends_more-fill s counts n held stores (ap (λ k. k + held) (sym (read_before-start s j counts n)) ∙ count ∙ came_before-start s counts n frame))
 
 -- the children's meanings are those of the tributaries
-pub meanings : {C : Type 0} (meaning : C → Meaning) (ws : List (Tributary C)) → map (meaning_in meaning) ws ≡ map meaning (map child_in ws)
-meanings meaning [] = refl
-meanings meaning (w ∷ ws) = ap (λ l. meaning w.child ∷ l) (meanings meaning ws)
+pub meanings : {C : Type 0} (tx : Ghosts C) (ws : List (Tributary C)) → map (meaning_in tx) ws ≡ map tx.meaning (map child_in ws)
+meanings tx [] = refl
+meanings tx (w ∷ ws) = ap (λ l. tx.meaning w.child ∷ l) (meanings tx ws)

@@ -1,5 +1,5 @@
 -- One tributary that takes bits of its child, one after another.
-use Rattle.std.proofs.Common.{◌≡◌, ℕ, suc, ◌<◌, ◌≤◌, [], ◌∷◌, ◌++◌, cond, leb, refl, sym, ap, ◌∙◌, arith, Option, Some, None, length-append, Result, Ok, Err, IfErr, OnOk}
+use Rattle.std.proofs.Common.{◌≡◌, ℕ, suc, ◌<◌, ◌≤◌, [], ◌∷◌, ◌++◌, cond, leb, refl, sym, ap, ◌∙◌, arith, Option, Some, None, length-append, Result, Ok, Err, IfErr, OnErr, OnOk}
 use Rattle.std.proofs.lemmas.Bool.{lt-leb}
 use Rattle.pdh_edge.specs.Ports.{Inputs, nothing}
 use Rattle.pdh_shape.specs.declared.place.Place.{Place}
@@ -11,6 +11,10 @@ use Rattle.pdh_tx.specs.laws.Growing.{grows_to}
 use Rattle.pdh_tx.proofs.Firsts.{map_some}
 use Rattle.pdh_tx.proofs.Moving.{takes_join, takes_none, agrees_left, agrees_right}
 use Rattle.pdh_tx.proofs.TributarySteps.{met_weaker}
+
+pub on_err_from : {T E P : Type 0} (r : Result T E) → P → OnErr r P
+on_err_from (Ok x) p = tt
+on_err_from (Err e) p = p
 
 pub if_err_from : {T E : Type 0} (r : Result T E) (P : E → Type 0) (e : E) → r ≡ Err e → P e → IfErr r P
 if_err_from r P e is p = rw is p

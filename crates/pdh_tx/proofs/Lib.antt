@@ -14,3 +14,13 @@ mod NodeSteps
 mod Fills
 mod Opening
 mod Worked
+mod Feeding
+mod Passing
+mod PassingAll
+mod OnePasses
+mod Clearing
+mod PieceSteps
+mod Begun
+mod NodePieces
+mod MakingAll
+mod LeafPieces

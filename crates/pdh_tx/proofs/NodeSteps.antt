@@ -1,9 +1,8 @@
 -- One line bit of a multiplexer with stores, from its steps.
 use mathlib.Core.Path.{fun_ext}
-use Rattle.std.proofs.Common.{◌≡◌, ◌⊎◌, inl, inr, ℕ, zero, suc, ◌+◌, ◌*◌, ◌/◌, ◌%◌, ◌<◌, ◌≤◌, ◌^◌, Bool, List, [], ◌∷◌, ◌++◌, length, map, cond, eqb, sym, ap, ◌∙◌, subst, arith, Some, None, slice_get, eq-eqb}
+use Rattle.std.proofs.Common.{◌≡◌, ◌⊎◌, inl, inr, ℕ, zero, suc, ◌+◌, ◌*◌, ◌/◌, ◌%◌, ◌<◌, ◌≤◌, ◌^◌, Bool, List, [], ◌∷◌, length, map, cond, eqb, sym, ap, ◌∙◌, subst, arith, Some, None, slice_get, eq-eqb}
 use Rattle.std.specs.Prelude.{All, flat_map}
 use Rattle.std.proofs.lemmas.Bool.{ne_eqb, cases_lt}
-use Rattle.std.proofs.lemmas.List.{length-map, get_or_append_left, get_or-append-add, length-append}
 use Rattle.pdh_edge.specs.Ports.{Inputs}
 use Rattle.pdh_shape.specs.declared.place.Path.{Path}
 use Rattle.pdh_shape.specs.declared.role.Service.{Service}
@@ -17,7 +16,7 @@ use Rattle.pdh_tx.specs.declared.position.Position.{Position}
 use Rattle.pdh_tx.specs.declared.tributary.FrameShare.{FrameShare}
 use Rattle.pdh_tx.specs.Meaning.{Meaning, Plan, Supply, Makes, Stops}
 use Rattle.pdh_tx.specs.Held.{first_some}
-use Rattle.pdh_tx.specs.Node.{EachHeld, IsDecided, IsDisjoint, given_by, Blocked, MakesBit, below, source_of, node_meaning, node_obstacle, steps, taken_to, read_to}
+use Rattle.pdh_tx.specs.Node.{EachHeld, IsDecided, given_by, Blocked, MakesBit, below, source_of, node_meaning, node_obstacle, steps, taken_to, read_to}
 use Rattle.pdh_tx.specs.NodeState.{NodeAt, NodeFor, HasParity, KeepsParity}
 use Rattle.pdh_tx.specs.laws.Stepping.{frame_is, slot_is, taken_is, following, came_follows, read_follows}
 use Rattle.pdh_tx.specs.Follows.{Follows}
@@ -55,18 +54,18 @@ module _ {W : Type 0} (placed : W → Plan → ℕ → ℕ → Type 0) (held : W
     abbrev taken_by : ℕ → ℕ → ℕ
     taken_by y j = taken s (plan.counts path j) y
 
-    taken_now : taken_by x ≡ taken_to s path plan n t
+    pub taken_now : taken_by x ≡ taken_to s path plan n t
     taken_now = fun_ext (λ j. taken_is s n t x place within path plan j)
 
-    taken_then : taken_by (suc x) ≡ came_next
+    pub taken_then : taken_by (suc x) ≡ came_next
     taken_then =
         let next = following s n t within in
         fun_ext (λ j. taken_is s next.0 next.1 (suc x) (next.2.place ∙ ap suc place) next.2.inside path plan j ∙ sym (came_follows s n t next.0 next.1 next.2 path plan j frame))
 
-    obstacle_is : (ms : List Meaning) (size : ℕ → ℕ) → node_obstacle s path ms plan size x ≡ first_some (steps s path plan ms size n t)
+    pub obstacle_is : (ms : List Meaning) (size : ℕ → ℕ) → node_obstacle s path ms plan size x ≡ first_some (steps s path plan ms size n t)
     obstacle_is ms size = ap (λ q. first_some (steps s path plan ms size q (x % s.len))) (frame_is s n t x place within) ∙ ap (λ r. first_some (steps s path plan ms size n r)) (slot_is s n t x place within)
 
-  pub node_stops : (u : List W) (at : Position) (x : ℕ) (stop : TxStop) (a b : Inputs) (f g : ℕ) → NodeAt placed meaning share s path u at plan x
+  pub node_stops : (u : List W) (at : Position) (x : ℕ) (stop : TxStop) (a b : Inputs) (f g : ℕ) → NodeAt placed share s path u at plan x
       → Blocked (map meaning u) plan (taken_to s path plan at.frame at.slot) (λ j. came_before s (plan.counts path j) at.frame (suc at.slot)) (λ size. steps s path plan (map meaning u) size at.frame at.slot) stop a b f g
       → Stops (node_meaning s path (map meaning u)) plan x stop a b f g
   node_stops u at x stop a b f g old blocked =
@@ -90,16 +89,12 @@ module _ {W : Type 0} (placed : W → Plan → ℕ → ℕ → Type 0) (held : W
       }
 
   -- the next state of the node
-  node_next : (u w : List W) (old new : Position) (x : ℕ) (say : Service) (odd bit : Bool) (a b : Inputs) → HasTributaries s → map meaning w ≡ map meaning u
-      → NodeAt placed meaning share s path u old plan x → MakesBit placed held share (map meaning u) s path plan u w old.frame old.slot say odd bit a b
+  node_next : (u w : List W) (old new : Position) (x : ℕ) (say : Service) (odd bit : Bool) (a b : Inputs) → HasTributaries s → map meaning w ≡ map meaning u → length w ≡ s.tribs
+      → NodeAt placed share s path u old plan x → MakesBit placed held share (map meaning u) s path plan u w old.frame old.slot say odd bit a b
       → Follows s old.frame old.slot new.frame new.slot
-      → NodeAt placed meaning share s path w new plan (suc x)
-  node_next u w old new x say odd bit a b has same was made follows =
-      let long : length w ≡ s.tribs = sym (length-map w meaning) ∙ ap length same ∙ length-map u meaning ∙ was.count in
+      → NodeAt placed share s path w new plan (suc x)
+  node_next u w old new x say odd bit a b has same long was made follows =
       record {
-        stores = was.stores;
-        count = long;
-        disjoint = subst IsDisjoint (sym same) was.disjoint;
         inside = follows.inside;
         place = follows.place ∙ ap suc was.place;
         each = λ j c e.
@@ -112,16 +107,16 @@ module _ {W : Type 0} (placed : W → Plan → ℕ → ℕ → Type 0) (held : W
         bounded = λ h. subst (λ v. suc v < 2 ^ 64) (sym (follows.within h).0) made.bounded;
       }
 
-  pub node_makes : (u w : List W) (old new : Position) (x : ℕ) (was_said next_say say : Service) (bit : Bool) (a b : Inputs) → HasTributaries s → map meaning w ≡ map meaning u
+  pub node_makes : (u w : List W) (old new : Position) (x : ℕ) (was_said next_say say : Service) (bit : Bool) (a b : Inputs) → HasTributaries s → map meaning w ≡ map meaning u → length w ≡ s.tribs
       → say ≡ cond (eqb old.slot 0) next_say was_said
-      → NodeAt placed meaning share s path u old plan x → MakesBit placed held share (map meaning u) s path plan u w old.frame old.slot say old.last_odd bit a b
+      → NodeAt placed share s path u old plan x → MakesBit placed held share (map meaning u) s path plan u w old.frame old.slot say old.last_odd bit a b
       → Follows s old.frame old.slot new.frame new.slot → KeepsParity s bit old new
-      → Makes (node_meaning s path (map meaning u)) next_say (NodeAt placed meaning share s path w new plan) (NodeFor held meaning s path u old was_said) (NodeFor held meaning s path w new say) plan x bit a b
-  node_makes u w old new x was_said next_say say bit a b has same says_is was made follows keeps =
+      → Makes (node_meaning s path (map meaning u)) next_say (NodeAt placed share s path w new plan) (NodeFor held meaning s path u old was_said) (NodeFor held meaning s path w new say) plan x bit a b
+  node_makes u w old new x was_said next_say say bit a b has same long says_is was made follows keeps =
       let ms : List Meaning = map meaning u in
       let now = taken_now old.frame old.slot x was.place was.inside in
       let then = taken_then old.frame old.slot x was.place was.inside in
-      let next = node_next u w old new x say old.last_odd bit a b has same was made follows in
+      let next = node_next u w old new x say old.last_odd bit a b has same long was made follows in
       record {
         given = made.given;
         takes = made.takes;
@@ -134,7 +129,6 @@ module _ {W : Type 0} (placed : W → Plan → ℕ → ℕ → Type 0) (held : W
             let said : supply.says old.frame ≡ say = speaks supply (cases_lt 0 old.slot) (slot_is s old.frame old.slot x was.place was.inside) (frame_is s old.frame old.slot x was.place was.inside) holds.said says ∙ sym says_is in
             let both = made.onward supply is (subst P is holds.each) said holds.parity.last
             (λ k leaf i h. agrees k leaf i h ∙ ap (λ v. supply.lists k (given_by ms plan v k + i)) now) in
-            let long : length w ≡ s.tribs = next.count in
             let line : line_bit s (source_of path ms supply) x ≡ slot_bit s (source_of path ms supply) old.frame old.slot (s.role old.slot) =
             ap (line_bit s (source_of path ms supply)) (sym was.place) ∙ line_bit-at s (source_of path ms supply) old.frame old.slot was.inside in (
               both.0 ∙ sym line,

@@ -1,7 +1,7 @@
 -- The parity of a frame's information and justifiable slots.
-use Rattle.std.proofs.Common.{◌≡◌, ℕ, suc, ◌+◌, ◌%◌, Bool, true, false, ◌&&◌, not, cond, eqb, refl, sym, ap, ◌∙◌, inl, inr, arith, add-zero}
+use Rattle.std.proofs.Common.{◌≡◌, ℕ, zero, suc, ◌+◌, ◌<◌, ◌≤◌, List, length, ◌%◌, Bool, true, false, ◌&&◌, not, cond, eqb, refl, sym, ap, ◌∙◌, inl, inr, arith, add-zero}
 use Rattle.std.specs.Prelude.{count_by}
-use Rattle.std.specs.List.{range_with_len}
+use Rattle.std.specs.List.{range_with_len, slice_index_or}
 use Rattle.std.specs.Bool.{beq}
 use Rattle.std.proofs.lemmas.Bool.{cases_eq}
 use Rattle.pdh_shape.specs.declared.role.Role.{Role}
@@ -9,7 +9,8 @@ use Rattle.pdh_shape.specs.declared.role.Role.TheVariants.{Align, Service, Contr
 use Rattle.pdh_shape.specs.Frame.{FrameShape}
 use Rattle.pdh_line.specs.Sending.{Source, sends_more, input_bit, payload_bit, slot_bit, odd_before}
 use Rattle.pdh_line.proofs.Ranges.{count-range_push}
-use Rattle.pdh_tx.specs.Node.{is_payload, odd_within}
+use Rattle.pdh_tx.specs.Node.{odd_within}
+use Rattle.pdh_slots.specs.Slots.{is_payload, payload_ones}
 
 no_payload : (b : Bool) → (b && false) ≡ false
 no_payload true = refl
@@ -59,3 +60,27 @@ pub odd_next : (s : FrameShape) (source : Source) (n t : ℕ) (is_odd bit : Bool
 odd_next s source n t is_odd bit is odd =
     ap (λ b. not (beq b (bit && is_payload (s.role t)))) odd ∙ ap (λ b. not (beq (odd_within s source n t) (b && is_payload (s.role t)))) is
     ∙ ap (λ b. not (beq (odd_within s source n t) b)) (payload_of s source n t (s.role t)) ∙ sym (odd_within-suc s source n t)
+
+-- the parity with the bits of a piece
+module _ (s : FrameShape) (source : Source) (n t : ℕ) (bits : List Bool) (is_odd : Bool) where
+  abbrev is_one : ℕ → Bool
+  is_one v = slice_index_or bits v false && is_payload (s.role (t + v))
+
+  start : (b : Bool) → eqb ((cond b 1 0 + 0) % 2) 1 ≡ b
+  start true = refl
+  start false = refl
+
+  odd_upto : ((v : ℕ) → v < length bits → slice_index_or bits v false ≡ slot_bit s source n (t + v) (s.role (t + v))) → is_odd ≡ odd_within s source n t
+      → (m : ℕ) → m ≤ length bits → eqb ((cond is_odd 1 0 + count_by is_one (range_with_len 0 m)) % 2) 1 ≡ odd_within s source n (t + m)
+  odd_upto line odd zero h = (let here : t ≡ t + 0 = omega arith in start is_odd ∙ odd ∙ ap (odd_within s source n) here)
+  odd_upto line odd (suc m) h =
+      let c : ℕ = cond is_odd 1 0 + count_by is_one (range_with_len 0 m) in
+      let sum : cond is_odd 1 0 + count_by is_one (range_with_len 0 (suc m)) ≡ c + cond (is_one m) 1 0 = omega (arith, count-range_push is_one m) in
+      let next : suc (t + m) ≡ t + suc m = omega arith in
+      let here : is_one m ≡ payload_bit s source n (t + m) (s.role (t + m)) = ap (λ b. b && is_payload (s.role (t + m))) (line m (omega (arith, h))) ∙ payload_of s source n (t + m) (s.role (t + m)) in
+      ap (λ k. eqb (k % 2) 1) sum ∙ odd_more c (is_one m) ∙ ap (λ b. not (beq b (is_one m))) (odd_upto line odd m (omega (arith, h)))
+      ∙ ap (λ b. not (beq (odd_within s source n (t + m)) b)) here ∙ sym (odd_within-suc s source n (t + m)) ∙ ap (odd_within s source n) next
+
+  pub odd_piece : ((v : ℕ) → v < length bits → slice_index_or bits v false ≡ slot_bit s source n (t + v) (s.role (t + v))) → is_odd ≡ odd_within s source n t
+      → eqb ((cond is_odd 1 0 + payload_ones s t bits) % 2) 1 ≡ odd_within s source n (t + length bits)
+  odd_piece line odd = odd_upto line odd (length bits) (omega arith)

@@ -1,7 +1,7 @@
 -- A leaf passes its list.
-use Rattle.std.specs.Prelude.{ℕ, ◌==◌, nat_le, if◌then◌else◌, [], Some, None}
+use Rattle.std.specs.Prelude.{ℕ, ◌≤◌, Bool, ◌==◌, nat_le, if◌then◌else◌, List, [], ◌∷◌, length, map, Some, None}
+use Rattle.pdh_edge.specs.Ports.{Inputs, Takes, for_leaf}
 use Rattle.pdh_tx.specs.declared.tx.TxStop.TheVariants.{Ended}
-use Rattle.std.specs.Prelude.{List, ◌∷◌, map}
 use Rattle.pdh_tx.specs.Meaning.{Meaning}
 
 abbrev pub leaf_meaning : ℕ → Meaning
@@ -13,6 +13,12 @@ leaf_meaning leaf = record {
   begins = λ x. None;
   obstacle = λ plan size x. (if nat_le (size leaf) x then Some (Ended leaf) else None);
 }
+
+-- a leaf's list has given some bits, no more than so many
+pub record TakesUpTo (leaf most : ℕ) (old new : Inputs) : Type 0 where
+  pub bits : List Bool
+  pub few : length bits ≤ most
+  pub takes : Takes (for_leaf leaf bits) old new
 
 -- the leaves 0 to 3
 abbrev pub four_leaves : List Meaning

@@ -5,4 +5,7 @@ pub mod Held
 pub mod Tributary
 pub mod Node
 pub mod NodeState
+pub mod Making
+pub mod Passing
+pub mod Tributaries
 pub mod laws

@@ -130,6 +130,10 @@ EachInChain levels ms = (j : ℕ) (m : Meaning) → slice_get ms j ≡ Some m �
 abbrev pub came_to : FrameShape → Path → Plan → ℕ → ℕ → ℕ → ℕ → ℕ
 came_to s path plan n t i j = (if nat_lt j i then came_before s (plan.counts path j) n (suc t) else came_before s (plan.counts path j) n t)
 
+-- how many bits of tributary j have come by slot t of frame n
+abbrev pub came_at : FrameShape → Path → Plan → ℕ → ℕ → ℕ → ℕ
+came_at s path plan n t j = came_before s (plan.counts path j) n t
+
 -- how many bits of tributary j are read by slot t of frame n
 abbrev pub read_to : FrameShape → Path → Plan → ℕ → ℕ → ℕ → ℕ
 read_to s path plan n t j = read_before s j (plan.counts path j) n t
@@ -221,12 +225,6 @@ pub record MakesBit {W : Type 0} (placed : W → Plan → ℕ → ℕ → Type 0
   pub onward : (supply : Supply) → supply.plan ≡ plan → EachHeld held old (below supply) (taken_to s path plan n t) (read_to s path plan n t) → supply.says n ≡ say → odd ≡ odd_before s (source_of path ms supply) n
       → Agrees (any_leaf ms) supply.lists (given_by ms plan (taken_to s path plan n t)) given
       → (bit ≡ slot_bit s (source_of path ms supply) n t (s.role t)) × EachHeld held new (below supply) (λ j. came_before s (plan.counts path j) n (suc t)) (read_to s path plan n (suc t))
-
--- an information or a justifiable slot
-abbrev pub is_payload : Role → Bool
-is_payload (Info j) = true
-is_payload (Just j) = true
-is_payload _ = false
 
 -- the information and justifiable slots of frame n below slot t hold an odd number of ones
 abbrev pub odd_within : FrameShape → Source → ℕ → ℕ → Bool

@@ -1,5 +1,5 @@
 -- The state of a multiplexer with stores.
-use Rattle.std.specs.Prelude.{◌≡◌, ℕ, suc, ◌+◌, ◌*◌, ◌<◌, ◌^◌, Bool, false, ◌==◌, List, length, map, slice_get}
+use Rattle.std.specs.Prelude.{◌≡◌, ℕ, suc, ◌+◌, ◌*◌, ◌<◌, ◌^◌, Bool, List, map, slice_get}
 use Rattle.pdh_shape.specs.declared.place.Path.{Path}
 use Rattle.pdh_shape.specs.declared.role.Service.{Service}
 use Rattle.pdh_shape.specs.Frame.{FrameShape}
@@ -8,7 +8,7 @@ use Rattle.pdh_line.specs.Sending.{Source, slot_bit, odd_before}
 use Rattle.pdh_tx.specs.declared.position.Position.{Position}
 use Rattle.pdh_tx.specs.declared.tributary.FrameShare.{FrameShare}
 use Rattle.pdh_tx.specs.Meaning.{Plan, Supply, NodeFrame, Meaning}
-use Rattle.pdh_tx.specs.Node.{below, source_of, odd_within, IsDisjoint, IsDecided, EachPlaced, EachHeld, taken_to, read_to}
+use Rattle.pdh_tx.specs.Node.{below, source_of, odd_within, IsDecided, EachPlaced, EachHeld, taken_to, read_to}
 
 -- ---- its position
 
@@ -24,10 +24,7 @@ KeepsParity s bit old new = (source : Source) → bit ≡ slot_bit s source old.
 -- ---- the whole
 
 -- it has made x bits by this schedule
-pub record NodeAt {W : Type 0} (placed : W → Plan → ℕ → ℕ → Type 0) (meaning : W → Meaning) (share : W → FrameShare) (s : FrameShape) (path : Path) (ws : List W) (at : Position) (plan : Plan) (x : ℕ) : Type 0 where
-  pub stores : (s.copies == 0) ≡ false
-  pub count : length ws ≡ s.tribs
-  pub disjoint : IsDisjoint (map meaning ws)
+pub record NodeAt {W : Type 0} (placed : W → Plan → ℕ → ℕ → Type 0) (share : W → FrameShare) (s : FrameShape) (path : Path) (ws : List W) (at : Position) (plan : Plan) (x : ℕ) : Type 0 where
   pub inside : at.slot < s.len
   pub place : at.frame * s.len + at.slot ≡ x
   pub each : EachPlaced placed ws plan (taken_to s path plan at.frame at.slot) (read_to s path plan at.frame at.slot)

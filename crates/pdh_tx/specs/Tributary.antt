@@ -1,20 +1,25 @@
 -- What contracts see of a tributary.
-use Rattle.std.specs.Prelude.{ℕ, Bool, List, length, nat_le}
-use Rattle.pdh_shape.specs.declared.role.Service.{Service}
+use Rattle.std.specs.Prelude.{ℕ, Bool, List, Option, length, nat_le}
 use Rattle.pdh_shape.specs.OwnNumbers.{threshold}
+use Rattle.pdh_shape.specs.declared.place.Place.{Place}
+use Rattle.pdh_tx.specs.declared.tx.Tx.{Ghosts}
+use Rattle.pdh_tx.specs.declared.tx.TxStop.{TxStop}
 use Rattle.pdh_tx.specs.declared.tributary.FrameShare.{FrameShare}
 use Rattle.pdh_tx.specs.declared.tributary.Tributary.{Tributary}
 use Rattle.pdh_tx.specs.Meaning.{Plan, Supply, Meaning}
-use Rattle.pdh_tx.specs.Held.{Placed, Held}
+use Rattle.pdh_tx.specs.Held.{Placed, Held, arrival}
 
-abbrev pub placed_in : {C : Type 0} → (C → Plan → ℕ → Type 0) → (C → Service) → (C → Bool) → Tributary C → Plan → ℕ → ℕ → Type 0
-placed_in stands_at says is_stopped w = Placed stands_at says is_stopped w.child w.store
+-- its child has made so many bits, of which so many were read
+abbrev pub placed_in : {C : Type 0} → Ghosts C → Tributary C → Plan → ℕ → ℕ → Type 0
+placed_in tx w = Placed tx.stands_at tx.says tx.is_stopped w.child w.store
 
-abbrev pub held_in : {C : Type 0} → (C → Supply → ℕ → Type 0) → (C → Meaning) → Tributary C → Supply → ℕ → ℕ → Type 0
-held_in stands_for meaning w = Held stands_for meaning w.child w.store
+-- what it holds is what this supply gives
+abbrev pub held_in : {C : Type 0} → Ghosts C → Tributary C → Supply → ℕ → ℕ → Type 0
+held_in tx w = Held tx.stands_for tx.meaning w.child w.store
 
-abbrev pub meaning_in : {C : Type 0} → (C → Meaning) → Tributary C → Meaning
-meaning_in meaning w = meaning w.child
+-- what its child makes, takes and meets
+abbrev pub meaning_in : {C : Type 0} → Ghosts C → Tributary C → Meaning
+meaning_in tx w = tx.meaning w.child
 
 abbrev pub share_in : {C : Type 0} → Tributary C → FrameShare
 share_in w = w.share
@@ -28,3 +33,7 @@ store_in w = w.store
 -- whether a frame that begins now carries an additional bit
 abbrev pub would_carry : {C : Type 0} → Tributary C → Bool
 would_carry w = nat_le threshold (length w.store)
+
+-- what may stand in the way of a bit that arrives at it, where its child has made so many
+abbrev pub arrival_in : {C : Type 0} → Ghosts C → Tributary C → Plan → Place → (ℕ → ℕ) → ℕ → List (Option TxStop)
+arrival_in tx w plan place size made = arrival (meaning_in tx w) plan place size made (length w.store)

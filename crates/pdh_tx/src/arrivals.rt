@@ -1,10 +1,9 @@
-ghost use Rattle.std.specs.Prelude.{◌≡◌, ◌<◌, ◌≤◌, ℕ, suc, length, map, OnOk, IfErr};
-ghost use Rattle.pdh_line.specs.Sending.{came_before, arrives_at};
-ghost use Rattle.pdh_tx.specs.Meaning.{plan_of, HoldsAll};
-ghost use Rattle.pdh_tx.specs.Tributary.{placed_in, held_in, meaning_in, share_in};
-ghost use Rattle.pdh_tx.specs.Node.{any_leaf, IsDisjoint, EachInChain, EachPlaced, IsDecided, Advance, Blocked, came_to, read_to, arrival_at, arrivals};
+ghost use Rattle.std.specs.Prelude.{◌≡◌, ◌<◌, ◌≤◌, OnOk, IfErr};
+ghost use Rattle.pdh_line.specs.Sending.{arrives_at};
+ghost use Rattle.pdh_tx.specs.Meaning.{plan_of};
+ghost use Rattle.pdh_tx.specs.Tributaries.{meanings, shares, AreFed, HaveDecided, arrival_stretch, arrivals_stretch, StandAt, GoThrough, StopIn};
 
-use crate::tributary::Tributary;
+use crate::tributaries::Tributaries;
 use crate::{Tx, TxStop};
 use pdh_clock::Schedule;
 use pdh_edge::Feed;
@@ -21,105 +20,76 @@ fn arrives<S: Shape>(count: u32, slot: u32) -> bool
     slot * count % len + count >= len
 }
 
-// Takes the bit of a tributary that arrives in a slot, if there is one.
-fn take_arrival<S: Shape, C: Tx, F: Feed>(
-    tributaries: &mut Vec<Tributary<C>>,
-    trib: u8,
-    path: Path,
-    frame: u64,
-    slot: u32,
-    clock: &Schedule,
-    feed: &mut F,
-) -> Result<(), TxStop>
-    requires count { length tributaries.old.items ≡ S.TRIBS }
-    requires trib { trib < S.TRIBS }
-    requires small { trib < 255 }
-    requires slot { slot < S.LEN }
-    requires decided { IsDecided share_in S.shape path
-        (plan_of clock.now) frame tributaries.old.items }
-    requires disjoint { IsDisjoint (map (meaning_in C.meaning) tributaries.old.items) }
-    requires lists { HoldsAll (any_leaf (map (meaning_in C.meaning) tributaries.old.items))
-        (F.inputs feed.old) }
-    requires nodes { EachInChain clock.now.levels (map (meaning_in C.meaning) tributaries.old.items) }
-    requires placed { EachPlaced (placed_in C.stands_at C.says C.is_stopped) tributaries.old.items
-        (plan_of clock.now) (came_to S.shape path (plan_of clock.now) frame slot trib)
-        (read_to S.shape path (plan_of clock.now) frame slot) }
-    ensures ok { OnOk result (Advance (placed_in C.stands_at C.says C.is_stopped)
-        (held_in C.stands_for C.meaning) (map (meaning_in C.meaning) tributaries.old.items)
-        (plan_of clock.now) tributaries.old.items tributaries.new.items
-        (came_to S.shape path (plan_of clock.now) frame slot trib)
-        (came_to S.shape path (plan_of clock.now) frame slot (suc trib))
-        (read_to S.shape path (plan_of clock.now) frame slot) (λ size. arrival_at S.shape path
-        (plan_of clock.now) (map (meaning_in C.meaning) tributaries.old.items) size frame slot trib)
-        (F.inputs feed.old) (F.inputs feed.new)) }
-    ensures err { IfErr result (λ stop. Blocked (map (meaning_in C.meaning) tributaries.old.items)
-        (plan_of clock.now) (came_to S.shape path (plan_of clock.now) frame slot trib)
-        (λ j. came_before S.shape ((plan_of clock.now).counts path j) frame (suc slot))
-        (λ size. arrival_at S.shape path (plan_of clock.now)
-        (map (meaning_in C.meaning) tributaries.old.items) size frame slot trib) stop
-        (F.inputs feed.old) (F.inputs feed.new) (F.feed_faults feed.old) (F.feed_faults feed.new)) }
-    ensures later { F.feed_faults feed.old ≤ F.feed_faults feed.new }
-    ensures fed { F.fed feed.old feed.new }
-    ensures same { map (meaning_in C.meaning) tributaries.new.items ≡ map
-        (meaning_in C.meaning) tributaries.old.items }
-    ensures shares { map share_in tributaries.new.items ≡ map share_in tributaries.old.items }
-{
-    let count = tributaries[trib as usize].share.arriving;
-    if !arrives::<S>(count, slot) {
-        return Ok(());
+impl<S: Shape, C: Tx> Tributaries<S, C> {
+    // Takes the bit of a tributary that arrives in a slot, if there is one.
+    fn take_arrival<F: Feed>(
+        &mut self,
+        trib: u8,
+        path: Path,
+        frame: u64,
+        slot: u32,
+        clock: &Schedule,
+        feed: &mut F,
+    ) -> Result<(), TxStop>
+        requires trib { trib < S.TRIBS }
+        requires small { trib < 255 }
+        requires slot { slot < S.LEN }
+        requires decided { HaveDecided self.old path (plan_of clock.now) frame }
+        requires fed { AreFed self.old path clock.now (F.inputs feed.old) }
+        requires placed { StandAt self.old (plan_of clock.now)
+            (arrival_stretch self.old path (plan_of clock.now) frame slot trib) }
+        ensures ok { OnOk result (GoThrough self.old self.new (plan_of clock.now)
+            (arrival_stretch self.old path (plan_of clock.now) frame slot trib)
+            (F.inputs feed.old) (F.inputs feed.new)) }
+        ensures err { IfErr result (λ stop. StopIn self.old (plan_of clock.now)
+            (arrival_stretch self.old path (plan_of clock.now) frame slot trib) stop
+            (F.inputs feed.old) (F.inputs feed.new) (F.feed_faults feed.old) (F.feed_faults feed.new)) }
+        ensures later { F.feed_faults feed.old ≤ F.feed_faults feed.new }
+        ensures fed { F.fed feed.old feed.new }
+        ensures same { meanings self.new ≡ meanings self.old }
+        ensures shares { shares self.new ≡ shares self.old }
+    {
+        let count = self.list[trib as usize].share.arriving;
+        if !arrives::<S>(count, slot) {
+            return Ok(());
+        }
+        let place = Place {
+            path,
+            trib: trib + 1,
+            frame,
+            slot,
+        };
+        self.list[trib as usize].arrive(place, clock, feed)
     }
-    let place = Place {
-        path,
-        trib: trib + 1,
-        frame,
-        slot,
-    };
-    tributaries[trib as usize].arrive(place, clock, feed)
-}
 
-/// One tributary after another takes the bit that arrives in a slot, if there is one.
-pub fn take_arrivals<S: Shape, C: Tx, F: Feed>(
-    tributaries: &mut Vec<Tributary<C>>,
-    path: Path,
-    frame: u64,
-    slot: u32,
-    clock: &Schedule,
-    feed: &mut F,
-) -> Result<(), TxStop>
-    requires count { length tributaries.old.items ≡ S.TRIBS }
-    requires slot { slot < S.LEN }
-    requires decided { IsDecided share_in S.shape path
-        (plan_of clock.now) frame tributaries.old.items }
-    requires disjoint { IsDisjoint (map (meaning_in C.meaning) tributaries.old.items) }
-    requires lists { HoldsAll (any_leaf (map (meaning_in C.meaning) tributaries.old.items))
-        (F.inputs feed.old) }
-    requires nodes { EachInChain clock.now.levels (map (meaning_in C.meaning) tributaries.old.items) }
-    requires placed { EachPlaced (placed_in C.stands_at C.says C.is_stopped) tributaries.old.items
-        (plan_of clock.now) (came_to S.shape path (plan_of clock.now) frame slot 0)
-        (read_to S.shape path (plan_of clock.now) frame slot) }
-    ensures ok { OnOk result (Advance (placed_in C.stands_at C.says C.is_stopped)
-        (held_in C.stands_for C.meaning) (map (meaning_in C.meaning) tributaries.old.items)
-        (plan_of clock.now) tributaries.old.items tributaries.new.items
-        (came_to S.shape path (plan_of clock.now) frame slot 0)
-        (came_to S.shape path (plan_of clock.now) frame slot S.TRIBS)
-        (read_to S.shape path (plan_of clock.now) frame slot)
-        (λ size. arrivals S.shape path (plan_of clock.now)
-        (map (meaning_in C.meaning) tributaries.old.items) size frame slot) (F.inputs feed.old)
-        (F.inputs feed.new)) }
-    ensures err { IfErr result (λ stop. Blocked (map (meaning_in C.meaning) tributaries.old.items)
-        (plan_of clock.now) (came_to S.shape path (plan_of clock.now) frame slot 0)
-        (λ j. came_before S.shape ((plan_of clock.now).counts path j) frame (suc slot))
-        (λ size. arrivals S.shape path (plan_of clock.now)
-        (map (meaning_in C.meaning) tributaries.old.items) size frame slot) stop (F.inputs feed.old)
-        (F.inputs feed.new) (F.feed_faults feed.old) (F.feed_faults feed.new)) }
-    ensures later { F.feed_faults feed.old ≤ F.feed_faults feed.new }
-    ensures fed { F.fed feed.old feed.new }
-    ensures same { map (meaning_in C.meaning) tributaries.new.items ≡ map
-        (meaning_in C.meaning) tributaries.old.items }
-    ensures shares { map share_in tributaries.new.items ≡ map share_in tributaries.old.items }
-{
-    for trib in 0..S::TRIBS {
-        take_arrival::<S, C, F>(tributaries, trib, path, frame, slot, clock, feed)?;
+    /// One tributary after another takes the bit that arrives in a slot, if there is one.
+    pub fn take_arrivals<F: Feed>(
+        &mut self,
+        path: Path,
+        frame: u64,
+        slot: u32,
+        clock: &Schedule,
+        feed: &mut F,
+    ) -> Result<(), TxStop>
+        requires slot { slot < S.LEN }
+        requires decided { HaveDecided self.old path (plan_of clock.now) frame }
+        requires fed { AreFed self.old path clock.now (F.inputs feed.old) }
+        requires placed { StandAt self.old (plan_of clock.now)
+            (arrivals_stretch self.old path (plan_of clock.now) frame slot S.TRIBS) }
+        ensures ok { OnOk result (GoThrough self.old self.new (plan_of clock.now)
+            (arrivals_stretch self.old path (plan_of clock.now) frame slot S.TRIBS)
+            (F.inputs feed.old) (F.inputs feed.new)) }
+        ensures err { IfErr result (λ stop. StopIn self.old (plan_of clock.now)
+            (arrivals_stretch self.old path (plan_of clock.now) frame slot S.TRIBS) stop
+            (F.inputs feed.old) (F.inputs feed.new) (F.feed_faults feed.old) (F.feed_faults feed.new)) }
+        ensures later { F.feed_faults feed.old ≤ F.feed_faults feed.new }
+        ensures fed { F.fed feed.old feed.new }
+        ensures same { meanings self.new ≡ meanings self.old }
+        ensures shares { shares self.new ≡ shares self.old }
+    {
+        for trib in 0..S::TRIBS {
+            self.take_arrival(trib, path, frame, slot, clock, feed)?;
+        }
+        Ok(())
     }
-    Ok(())
 }

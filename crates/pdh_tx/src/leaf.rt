@@ -1,12 +1,13 @@
-ghost use Rattle.std.specs.Prelude.{◌≡◌};
+ghost use Rattle.std.specs.Prelude.{◌≡◌, ◌≤◌, length, IsTrue, OnOk, OnErr};
+ghost use Rattle.pdh_edge.specs.Ports.{Takes, HasCause, for_leaf};
 ghost use Rattle.pdh_shape.specs.Frame.{idle};
 ghost use Rattle.pdh_tx.specs.Meaning.{IsFresh};
-ghost use Rattle.pdh_tx.specs.Leaf.{leaf_meaning};
+ghost use Rattle.pdh_tx.specs.Leaf.{leaf_meaning, TakesUpTo};
 ghost use Rattle.pdh_tx.specs.laws.LeafLaws.{leaf_grows};
 
 use crate::{Tx, TxStop};
 use pdh_clock::Schedule;
-use pdh_edge::{Feed, FeedStop};
+use pdh_edge::{Failed, Feed, FeedStop};
 
 /// Passes the bits of one leaf of a feed.
 #[derive(Drop)]
@@ -27,6 +28,28 @@ impl Leaf {
             stopped: false,
         }
     }
+}
+
+// Takes the next bits of a leaf's list, which has so many, into all of `into`.
+fn take_bits<F: Feed>(feed: &mut F, leaf: u32, into: &mut [bool]) -> Result<(), Failed>
+    requires held { IsTrue ((F.inputs feed.old).holds leaf) }
+    requires enough { length into.old ≤ (F.inputs feed.old).left leaf }
+    ensures ok { OnOk result
+        (Takes (for_leaf leaf into.new) (F.inputs feed.old) (F.inputs feed.new)) }
+    ensures err { OnErr result
+        (TakesUpTo leaf (length into.old) (F.inputs feed.old) (F.inputs feed.new)) }
+    ensures cause { HasCause (F.feed_faults feed.old) (F.feed_faults feed.new) result }
+    ensures fed { F.fed feed.old feed.new }
+{
+    let mut taken = 0;
+    while taken < into.len() {
+        match feed.bits(leaf, &mut into[taken..]) {
+            Ok(count) => taken += count,
+            Err(FeedStop::Failed) => return Err(Failed),
+            Err(FeedStop::Ended) => unreachable!(),
+        }
+    }
+    Ok(())
 }
 
 impl Tx for Leaf {
@@ -56,6 +79,21 @@ impl Tx for Leaf {
             Err(FeedStop::Ended) => {
                 self.stopped = true;
                 Err(TxStop::Ended { leaf: self.leaf })
+            }
+        }
+    }
+
+    fn make_clear<F: Feed>(
+        &mut self,
+        _clock: &Schedule,
+        feed: &mut F,
+        into: &mut [bool],
+    ) -> Result<(), Failed> {
+        match take_bits(feed, self.leaf, into) {
+            Ok(()) => Ok(()),
+            Err(Failed) => {
+                self.stopped = true;
+                Err(Failed)
             }
         }
     }

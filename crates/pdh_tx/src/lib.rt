@@ -7,10 +7,12 @@ mod beginning;
 mod bits;
 mod leaf;
 mod node;
+mod pieces;
 mod position;
 mod slots;
 #[cfg(test)]
 mod tests;
+mod tributaries;
 mod tributary;
 mod tx;
 

@@ -1,22 +1,25 @@
-ghost use Rattle.std.specs.Prelude.{◌≡◌, ◌<◌, ◌≤◌, ◌+◌, ◌%◌, ◌/◌, ℕ, suc, false, ◌==◌, All, List, [], if◌then◌else◌, length, map, slice_get, Some, OnOk, OnErr, IfOk, IfErr};
-ghost use Rattle.pdh_shape.specs.declared.place.Path.{Path};
+ghost use Rattle.std.specs.Prelude.{◌≡◌, ◌<◌, ◌≤◌, ◌+◌, ◌%◌, ◌/◌, ◌==◌, ℕ, if◌then◌else◌, All, length, map, OnOk, OnErr, IfOk, IfErr, List};
+ghost use Rattle.pdh_edge.specs.Ports.{HasCause};
+ghost use Rattle.pdh_shape.specs.Frame.{idle};
 ghost use Rattle.pdh_line.specs.Sending.{taken, read_before};
-ghost use Rattle.pdh_tx.specs.Meaning.{Plan, Supply, plan_of, Meaning, IsNodeOf, HoldsAll, Makes, Stops, IsFresh};
-ghost use Rattle.pdh_tx.specs.Tributary.{placed_in, held_in, meaning_in, share_in, child_in};
+ghost use Rattle.pdh_tx.specs.Meaning.{Plan, Supply, plan_of, Meaning, Makes, Stops, IsFresh};
+ghost use Rattle.pdh_tx.specs.Held.{Halts};
+ghost use Rattle.pdh_tx.specs.Making.{IsClear, MakesAll};
 ghost use Rattle.pdh_tx.specs.Node.{node_meaning, IsDisjoint};
-ghost use Rattle.pdh_tx.specs.NodeState.{NodeAt, NodeFor, ArePlaced};
+ghost use Rattle.pdh_tx.specs.NodeState.{ArePlaced};
+ghost use Rattle.pdh_tx.specs.Tributaries.{meaning_of, AreFed, IsAt, IsFor};
 ghost use Rattle.pdh_tx.specs.laws.NodeLaws.{node_grows};
 
-use crate::bits::make_bit;
-use crate::position::{Position, after};
-use crate::tributary::{FrameShare, Tributary};
+use crate::pieces::Piece;
+use crate::position::{Position, after, moved};
+use crate::tributaries::Tributaries;
 use crate::{Tx, TxStop};
 use pdh_clock::Schedule;
-use pdh_edge::Feed;
+use pdh_edge::{Failed, Feed};
 use pdh_shape::{Path, Service, Shape};
-use pdh_store::Store;
+use pdh_slots::SlotTables;
 use std::alloc::{AllocError, Global};
-use std::marker::PhantomData;
+use std::rc::Rc;
 
 // What a frame says: that of the next frame where a slot begins one.
 fn said(slot: u32, say: Service, next_say: Service) -> Service
@@ -28,41 +31,15 @@ fn said(slot: u32, say: Service, next_say: Service) -> Service
     say
 }
 
-// Gives each child an empty store.
-fn join<C: Tx>(alloc: Global, children: Vec<C>) -> Result<Vec<Tributary<C>>, AllocError>
-    ensures children { IfOk result (λ tributaries.
-        map child_in tributaries.items ≡ children.items) }
-    ensures empty { IfOk result (λ tributaries.
-        All (λ tributary. tributary.store ≡ []) tributaries.items) }
-{
-    let mut tributaries = Vec::with_capacity(alloc, children.len())?;
-    for child in children {
-        let store = Store::open(alloc)?;
-        let share = FrameShare {
-            arriving: 0,
-            more: false,
-        };
-        tributaries.push(Tributary {
-            child,
-            store,
-            share,
-        })?;
-    }
-    Ok(tributaries)
-}
-
 /// A multiplexer with an elastic store for each of its children.
 pub struct Node<S: Shape, C: Tx> {
-    tributaries: Vec<Tributary<C>>,
+    tributaries: Tributaries<S, C>,
     path: Path,
     at: Position,
     // what the service bits of the frame in progress say, and those of the next frame
     say: Service,
     next_say: Service,
     stopped: bool,
-    of: PhantomData<S>,
-    // it has a tributary for each of the shape's
-    ghost count: { length tributaries.items ≡ S.TRIBS },
 }
 
 impl<S: Shape, C: Tx> Drop for Node<S, C> {
@@ -74,7 +51,6 @@ impl<S: Shape, C: Tx> Drop for Node<S, C> {
             say: _,
             next_say: _,
             stopped: _,
-            of: _,
         } = self;
     }
 }
@@ -82,8 +58,14 @@ impl<S: Shape, C: Tx> Drop for Node<S, C> {
 impl<S: Shape, C: Tx> Node<S, C> {
     /// Joins children, one for each tributary, into a multiplexer that has made no bit and whose
     /// service bits are idle; or it finds no memory. `path` is its place in a chain: a child that is
-    /// a multiplexer has this path with its number, from 1, added.
-    pub fn open(alloc: Global, path: Path, children: Vec<C>) -> Result<Node<S, C>, AllocError>
+    /// a multiplexer has this path with its number, from 1, added. `tables` may be shared with other
+    /// nodes.
+    pub fn open(
+        alloc: Global,
+        path: Path,
+        tables: Rc<SlotTables<S>>,
+        children: Vec<C>,
+    ) -> Result<Node<S, C>, AllocError>
         requires count { length children.items ≡ S.TRIBS }
         requires stores { 0 < S.COPIES }
         requires fresh { All (IsFresh C.stands_at C.stands_for C.says C.is_stopped) children.items }
@@ -95,9 +77,8 @@ impl<S: Shape, C: Tx> Node<S, C> {
             ⟦<Node<S, C> as Tx>⟧.stands_for ⟦<Node<S, C> as Tx>⟧.says
             ⟦<Node<S, C> as Tx>⟧.is_stopped) }
     {
-        let tributaries = join(alloc, children)?;
         Ok(Node {
-            tributaries,
+            tributaries: Tributaries::open(alloc, tables, children)?,
             path,
             at: Position {
                 frame: 0,
@@ -108,7 +89,6 @@ impl<S: Shape, C: Tx> Node<S, C> {
             say: Service::idle(),
             next_say: Service::idle(),
             stopped: false,
-            of: PhantomData,
         })
     }
 
@@ -139,31 +119,26 @@ impl<S: Shape, C: Tx> Node<S, C> {
             ≡ taken S.shape (plan.counts path trib) x }
         ensures none { (plan : Plan) → ⟦<Node<S, C> as Tx>⟧.stands_at self.now plan 0 → result ≡ 0 }
     {
-        self.tributaries[trib as usize].store.fill()
+        self.tributaries.list[trib as usize].store.fill()
     }
 
     // Makes the next bit, with all its steps.
     fn step<F: Feed>(&mut self, clock: &Schedule, feed: &mut F) -> Result<bool, TxStop>
-        requires lists { HoldsAll (node_meaning S.shape self.old.path (map (meaning_in C.meaning) self.old.tributaries.items)).leaves (F.inputs feed.old) }
-        requires nodes { All (IsNodeOf clock.now.levels) (node_meaning S.shape self.old.path (map (meaning_in C.meaning) self.old.tributaries.items)).nodes }
-        requires stands { (x : ℕ) × NodeAt (placed_in C.stands_at C.says C.is_stopped) (meaning_in C.meaning) share_in S.shape self.old.path self.old.tributaries.items self.old.at (plan_of clock.now) x }
-        ensures made { IfOk result (λ bit. (x : ℕ) → NodeAt (placed_in C.stands_at C.says C.is_stopped) (meaning_in C.meaning) share_in S.shape self.old.path self.old.tributaries.items self.old.at (plan_of clock.now) x
-            → Makes (node_meaning S.shape self.old.path (map (meaning_in C.meaning) self.old.tributaries.items)) self.old.next_say
-            (NodeAt (placed_in C.stands_at C.says C.is_stopped) (meaning_in C.meaning) share_in S.shape self.new.path self.new.tributaries.items self.new.at (plan_of clock.now))
-            (NodeFor (held_in C.stands_for C.meaning) (meaning_in C.meaning) S.shape self.old.path self.old.tributaries.items self.old.at self.old.say)
-            (NodeFor (held_in C.stands_for C.meaning) (meaning_in C.meaning) S.shape self.new.path self.new.tributaries.items self.new.at self.new.say)
-            (plan_of clock.now) x bit (F.inputs feed.old) (F.inputs feed.new)) }
-        ensures stops { IfErr result (λ stop. (x : ℕ) → NodeAt (placed_in C.stands_at C.says C.is_stopped) (meaning_in C.meaning) share_in S.shape self.old.path self.old.tributaries.items self.old.at (plan_of clock.now) x
-            → Stops (node_meaning S.shape self.old.path (map (meaning_in C.meaning) self.old.tributaries.items)) (plan_of clock.now) x stop (F.inputs feed.old) (F.inputs feed.new) (F.feed_faults feed.old) (F.feed_faults feed.new)) }
+        requires fed { AreFed self.old.tributaries self.old.path clock.now (F.inputs feed.old) }
+        requires stands { (x : ℕ) × ⟦<Node<S, C> as Tx>⟧.stands_at self.old (plan_of clock.now) x }
+        ensures made { let tx = ⟦<Node<S, C> as Tx>⟧ in let plan = plan_of clock.now in IfOk result (λ bit. (x : ℕ) → tx.stands_at self.old plan x
+            → Makes (tx.meaning self.old) self.old.next_say (tx.stands_at self.new plan) (tx.stands_for self.old) (tx.stands_for self.new) plan x bit
+            (F.inputs feed.old) (F.inputs feed.new)) }
+        ensures stops { let tx = ⟦<Node<S, C> as Tx>⟧ in let plan = plan_of clock.now in IfErr result (λ stop. (x : ℕ) → tx.stands_at self.old plan x
+            → Stops (tx.meaning self.old) plan x stop (F.inputs feed.old) (F.inputs feed.new) (F.feed_faults feed.old) (F.feed_faults feed.new)) }
         ensures running { self.new.stopped ≡ self.old.stopped }
         ensures later { F.feed_faults feed.old ≤ F.feed_faults feed.new }
         ensures fed { F.fed feed.old feed.new }
-        ensures same { node_meaning S.shape self.new.path (map (meaning_in C.meaning) self.new.tributaries.items) ≡ node_meaning S.shape self.old.path (map (meaning_in C.meaning) self.old.tributaries.items) }
+        ensures same { ⟦<Node<S, C> as Tx>⟧.meaning self.new ≡ ⟦<Node<S, C> as Tx>⟧.meaning self.old }
         ensures same_says { self.new.next_say ≡ self.old.next_say }
     {
         let say = said(self.at.slot, self.say, self.next_say);
-        let bit = make_bit::<S, C, F>(
-            &mut self.tributaries,
+        let bit = self.tributaries.make_bit(
             self.path,
             self.at.frame,
             self.at.slot,
@@ -176,20 +151,63 @@ impl<S: Shape, C: Tx> Node<S, C> {
         self.at = after::<S>(self.at, bit);
         Ok(bit)
     }
+
+    // Makes the next bits, within a frame, in whose way nothing stands.
+    fn piece<F: Feed>(
+        &mut self,
+        clock: &Schedule,
+        feed: &mut F,
+        into: &mut [bool],
+    ) -> Result<(), Failed>
+        requires fed { AreFed self.old.tributaries self.old.path clock.now (F.inputs feed.old) }
+        requires idles { self.old.next_say ≡ idle }
+        requires some { 0 < length into.old }
+        requires inside { self.old.at.slot + length into.old ≤ S.LEN }
+        requires clear { let tx = ⟦<Node<S, C> as Tx>⟧ in let plan = plan_of clock.now in (x : ℕ) × (tx.stands_at self.old plan x)
+            × (IsClear (tx.meaning self.old) plan x (x + length into.old) (F.inputs feed.old)) }
+        ensures made { let tx = ⟦<Node<S, C> as Tx>⟧ in let plan = plan_of clock.now in OnOk result ((x : ℕ) → tx.stands_at self.old plan x
+            → MakesAll (tx.meaning self.old) (tx.stands_at self.new plan) (tx.stands_for self.old) (tx.stands_for self.new) plan x (x + length into.old)
+            into.new (F.inputs feed.old) (F.inputs feed.new)) }
+        ensures halts { let tx = ⟦<Node<S, C> as Tx>⟧ in let plan = plan_of clock.now in OnErr result ((x : ℕ) → tx.stands_at self.old plan x
+            → Halts (tx.meaning self.old) plan x (x + length into.old) TxStop.Failed (F.inputs feed.old) (F.inputs feed.new)) }
+        ensures running { self.new.stopped ≡ self.old.stopped }
+        ensures cause { HasCause (F.feed_faults feed.old) (F.feed_faults feed.new) result }
+        ensures fed { F.fed feed.old feed.new }
+        ensures same { ⟦<Node<S, C> as Tx>⟧.meaning self.new ≡ ⟦<Node<S, C> as Tx>⟧.meaning self.old }
+        ensures same_says { self.new.next_say ≡ self.old.next_say }
+    {
+        let say = said(self.at.slot, self.say, self.next_say);
+        let at = Piece {
+            path: self.path,
+            frame: self.at.frame,
+            slot: self.at.slot,
+            len: into.len(),
+        };
+        self.tributaries
+            .make_piece(at, &say, self.at.last_odd, clock, feed, into)?;
+        let is_odd = self
+            .tributaries
+            .tables
+            .is_odd(at.slot, self.at.is_odd, into);
+        let last = (at.slot as usize + at.len - 1) as u32;
+        self.say = say;
+        self.at = moved::<S>(self.at, last, is_odd);
+        Ok(())
+    }
 }
 
 impl<S: Shape, C: Tx> Tx for Node<S, C> {
-    ghost stands_at = { λ n plan x. NodeAt (placed_in C.stands_at C.says C.is_stopped) (meaning_in C.meaning) share_in S.shape n.path n.tributaries.items n.at plan x };
+    ghost stands_at = { λ n. IsAt n.tributaries n.path n.at };
 
-    ghost stands_for = { λ n supply x. NodeFor (held_in C.stands_for C.meaning) (meaning_in C.meaning) S.shape n.path n.tributaries.items n.at n.say supply x };
+    ghost stands_for = { λ n. IsFor n.tributaries n.path n.at n.say };
 
-    ghost meaning = { λ n. node_meaning S.shape n.path (map (meaning_in C.meaning) n.tributaries.items) };
+    ghost meaning = { λ n. meaning_of n.tributaries n.path };
 
     ghost says = { λ n. n.next_say };
 
     ghost is_stopped = { λ n. n.stopped };
 
-    ghost grows = { λ n. node_grows C.meaning C.grows S.shape S.is_frame n.path n.tributaries.items };
+    ghost grows = { λ n. node_grows C.Tx.own C.grows S.shape S.is_frame n.path n.tributaries.list.items };
 
     fn stopped(&self) -> bool {
         self.stopped
@@ -203,5 +221,26 @@ impl<S: Shape, C: Tx> Tx for Node<S, C> {
                 Err(stop)
             }
         }
+    }
+
+    fn make_clear<F: Feed>(
+        &mut self,
+        clock: &Schedule,
+        feed: &mut F,
+        into: &mut [bool],
+    ) -> Result<(), Failed> {
+        let mut made = 0;
+        while made < into.len() {
+            let rest = (S::LEN - self.at.slot) as usize;
+            let len = rest.min(into.len() - made);
+            match self.piece(clock, feed, &mut into[made..made + len]) {
+                Ok(()) => made += len,
+                Err(Failed) => {
+                    self.stopped = true;
+                    return Err(Failed);
+                }
+            }
+        }
+        Ok(())
     }
 }

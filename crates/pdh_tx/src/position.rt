@@ -1,7 +1,9 @@
 ghost use Rattle.std.specs.Prelude.{◌≡◌, ◌<◌, ◌^◌, suc};
-ghost use Rattle.pdh_tx.specs.Node.{is_payload as is_payload_role};
+ghost use Rattle.pdh_line.specs.Sending.{Source, odd_before};
+ghost use Rattle.pdh_slots.specs.Slots.{is_payload as is_payload_role};
+ghost use Rattle.pdh_tx.specs.Node.{odd_within};
 ghost use Rattle.pdh_tx.specs.Follows.{Follows};
-ghost use Rattle.pdh_tx.specs.NodeState.{KeepsParity};
+ghost use Rattle.pdh_tx.specs.NodeState.{HasParity, KeepsParity};
 
 use pdh_shape::{Role, Shape};
 
@@ -44,6 +46,31 @@ pub fn after<S: Shape>(at: Position, bit: bool) -> Position
     Position {
         frame: at.frame,
         slot: at.slot + 1,
+        last_odd: at.last_odd,
+        is_odd,
+    }
+}
+
+/// The position after a slot, where `is_odd` is whether its frame holds an odd number of ones up to
+/// that slot.
+pub fn moved<S: Shape>(at: Position, last: u32, is_odd: bool) -> Position
+    requires slot { last < S.LEN }
+    requires bounded { suc at.frame < 2 ^ 64 }
+    ensures follows { Follows S.shape at.frame last result.frame result.slot }
+    ensures parity { (source : Source) → at.last_odd ≡ odd_before S.shape source at.frame
+        → is_odd ≡ odd_within S.shape source at.frame (suc last) → HasParity S.shape source result }
+{
+    if last + 1 == S::LEN {
+        return Position {
+            frame: at.frame + 1,
+            slot: 0,
+            last_odd: is_odd,
+            is_odd: false,
+        };
+    }
+    Position {
+        frame: at.frame,
+        slot: last + 1,
         last_odd: at.last_odd,
         is_odd,
     }

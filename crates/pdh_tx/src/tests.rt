@@ -9,7 +9,9 @@ use pdh_clock::Schedule;
 use pdh_edge::{Feed, MemPort};
 use pdh_levels::E2_LEVEL;
 use pdh_shape::{E2, TOP};
+use pdh_slots::SlotTables;
 use std::alloc::{AllocError, Global};
+use std::rc::Rc;
 use std::test::Fail;
 
 // The leaves 0 to 3.
@@ -30,7 +32,8 @@ fn node(alloc: Global) -> Result<Node<E2, Leaf>, AllocError>
         ⟦<Node<E2, Leaf> as Tx>⟧.stands_for ⟦<Node<E2, Leaf> as Tx>⟧.says
         ⟦<Node<E2, Leaf> as Tx>⟧.is_stopped) }
 {
-    Node::open(alloc, TOP, leaves(alloc)?)
+    let tables = Rc::new(alloc, SlotTables::open(alloc)?)?;
+    Node::open(alloc, TOP, tables, leaves(alloc)?)
 }
 
 // A feed of zeros, as many as a frame with counts of 205 enters.

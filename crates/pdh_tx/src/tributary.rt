@@ -1,13 +1,19 @@
-ghost use Rattle.std.specs.Prelude.{◌≡◌, ◌<◌, ◌≤◌, ℕ, suc, All, OnOk, OnErr, IfOk, IfErr, None, length, nat_le};
+ghost use Rattle.std.specs.Prelude.{◌≡◌, ◌+◌, ◌<◌, ◌≤◌, ℕ, suc, All, OnOk, OnErr, IfOk, IfErr, None, length, nat_le};
 ghost use Rattle.pdh_shape.specs.Frame.{idle};
-ghost use Rattle.pdh_shape.specs.OwnNumbers.{lead, threshold};
+ghost use Rattle.pdh_edge.specs.Ports.{HasCause};
+ghost use Rattle.pdh_shape.specs.OwnNumbers.{lead, threshold, store_size};
 ghost use Rattle.pdh_tx.specs.Meaning.{Plan, Supply, plan_of, IsNodeOf, HoldsAll, Fits, Met};
-ghost use Rattle.pdh_tx.specs.Held.{Placed, Held, Gains, Halts, arrival, lead_of, first_some};
+ghost use Rattle.pdh_tx.specs.Held.{Gains, Halts, lead_of, first_some};
+ghost use Rattle.pdh_tx.specs.Making.{IsClear};
+ghost use Rattle.pdh_slots.specs.Slots.{KeepsOthers};
+ghost use Rattle.pdh_tx.specs.Tributary.{placed_in, held_in, meaning_in, arrival_in};
+ghost use Rattle.pdh_tx.specs.Passing.{carried_in, passed_in};
 
 use crate::{Tx, TxStop};
 use pdh_clock::Schedule;
-use pdh_edge::Feed;
-use pdh_shape::{LEAD, Place};
+use pdh_edge::{Failed, Feed};
+use pdh_shape::{LEAD, Place, Shape};
+use pdh_slots::SlotTables;
 use pdh_store::{Store, Underflow};
 
 /// What a frame brings and carries of a tributary.
@@ -38,22 +44,23 @@ impl<C: Tx> Tributary<C> {
         clock: &Schedule,
         feed: &mut F,
     ) -> Result<(), TxStop>
-        requires lists { HoldsAll (C.meaning self.old.child).leaves (F.inputs feed.old) }
-        requires nodes { All (IsNodeOf clock.now.levels) (C.meaning self.old.child).nodes }
-        requires placed { (made : ℕ) × (read : ℕ) × Placed C.stands_at C.says C.is_stopped self.old.child self.old.store (plan_of clock.now) made read }
-        ensures placed { OnOk result ((made read : ℕ) → Placed C.stands_at C.says C.is_stopped self.old.child self.old.store (plan_of clock.now) made read
-            → Placed C.stands_at C.says C.is_stopped self.new.child self.new.store (plan_of clock.now) (suc made) read) }
-        ensures gains { OnOk result ((made read : ℕ) → Placed C.stands_at C.says C.is_stopped self.old.child self.old.store (plan_of clock.now) made read
-            → Gains (C.meaning self.old.child) (plan_of clock.now) (Held C.stands_for C.meaning self.old.child self.old.store) (Held C.stands_for C.meaning self.new.child self.new.store) made (suc made) read (F.inputs feed.old) (F.inputs feed.new)) }
-        ensures free { OnOk result ((made read : ℕ) → Placed C.stands_at C.says C.is_stopped self.old.child self.old.store (plan_of clock.now) made read
-            → (size : ℕ → ℕ) → Fits (C.meaning self.old.child) (plan_of clock.now) made (F.inputs feed.old) size → first_some (arrival (C.meaning self.old.child) (plan_of clock.now) place size made (length self.old.store)) ≡ None) }
-        ensures halts { IfErr result (λ stop. (made read : ℕ) → Placed C.stands_at C.says C.is_stopped self.old.child self.old.store (plan_of clock.now) made read
-            → Halts (C.meaning self.old.child) (plan_of clock.now) made (suc made) stop (F.inputs feed.old) (F.inputs feed.new)) }
-        ensures met { IfErr result (λ stop. (made read : ℕ) → Placed C.stands_at C.says C.is_stopped self.old.child self.old.store (plan_of clock.now) made read
-            → Met (Fits (C.meaning self.old.child) (plan_of clock.now) made (F.inputs feed.old)) (λ size. first_some (arrival (C.meaning self.old.child) (plan_of clock.now) place size made (length self.old.store))) stop (F.feed_faults feed.old) (F.feed_faults feed.new)) }
+        requires lists { HoldsAll (meaning_in C.Tx self.old).leaves (F.inputs feed.old) }
+        requires nodes { All (IsNodeOf clock.now.levels) (meaning_in C.Tx self.old).nodes }
+        requires placed { (made : ℕ) × (read : ℕ) × placed_in C.Tx self.old (plan_of clock.now) made read }
+        ensures placed { OnOk result ((made read : ℕ) → placed_in C.Tx self.old (plan_of clock.now) made read
+            → placed_in C.Tx self.new (plan_of clock.now) (suc made) read) }
+        ensures gains { OnOk result ((made read : ℕ) → placed_in C.Tx self.old (plan_of clock.now) made read
+            → Gains (meaning_in C.Tx self.old) (plan_of clock.now) (held_in C.Tx self.old) (held_in C.Tx self.new) made (suc made) read (F.inputs feed.old) (F.inputs feed.new)) }
+        ensures free { OnOk result (let plan = plan_of clock.now in (made read : ℕ) → placed_in C.Tx self.old plan made read → (size : ℕ → ℕ)
+            → Fits (meaning_in C.Tx self.old) plan made (F.inputs feed.old) size → first_some (arrival_in C.Tx self.old plan place size made) ≡ None) }
+        ensures halts { IfErr result (λ stop. (made read : ℕ) → placed_in C.Tx self.old (plan_of clock.now) made read
+            → Halts (meaning_in C.Tx self.old) (plan_of clock.now) made (suc made) stop (F.inputs feed.old) (F.inputs feed.new)) }
+        ensures met { IfErr result (λ stop. let plan = plan_of clock.now in (made read : ℕ) → placed_in C.Tx self.old plan made read
+            → Met (Fits (meaning_in C.Tx self.old) plan made (F.inputs feed.old)) (λ size. first_some (arrival_in C.Tx self.old plan place size made))
+            stop (F.feed_faults feed.old) (F.feed_faults feed.new)) }
         ensures later { F.feed_faults feed.old ≤ F.feed_faults feed.new }
         ensures fed { F.fed feed.old feed.new }
-        ensures same { C.meaning self.new.child ≡ C.meaning self.old.child }
+        ensures same { meaning_in C.Tx self.new ≡ meaning_in C.Tx self.old }
         ensures share { self.new.share ≡ self.old.share }
         ensures kept { OnErr result (self.new.store ≡ self.old.store) }
     {
@@ -64,6 +71,53 @@ impl<C: Tx> Tributary<C> {
         }
     }
 
+    /// Takes the child's next bits, so many, and puts those that a piece of a frame carries into its
+    /// slots; the others stand in the store. Nothing stands in the way.
+    pub fn pass<S: Shape, F: Feed>(
+        &mut self,
+        trib: u8,
+        arriving: usize,
+        tables: &SlotTables<S>,
+        first: u32,
+        clock: &Schedule,
+        feed: &mut F,
+        queue: &mut [bool],
+        into: &mut [bool],
+    ) -> Result<(), Failed>
+        requires lists { HoldsAll (meaning_in C.Tx self.old).leaves (F.inputs feed.old) }
+        requires nodes { All (IsNodeOf clock.now.levels) (meaning_in C.Tx self.old).nodes }
+        requires trib { trib < S.TRIBS }
+        requires inside { first + length into.old ≤ S.LEN }
+        requires room { arriving + store_size ≤ length queue.old }
+        requires clear { (made : ℕ) × (read : ℕ) × (placed_in C.Tx self.old (plan_of clock.now) made read)
+            × (IsClear (meaning_in C.Tx self.old) (plan_of clock.now) made (made + arriving) (F.inputs feed.old)) }
+        requires enough { carried_in S.shape trib self.old.share.more first (length into.old) ≤ length self.old.store + arriving }
+        requires few { length self.old.store ≤ store_size
+            → length self.old.store + arriving ≤ carried_in S.shape trib self.old.share.more first (length into.old) + store_size }
+        ensures placed { OnOk result (let gone = carried_in S.shape trib self.old.share.more first (length into.old) in
+            (made read : ℕ) → placed_in C.Tx self.old (plan_of clock.now) made read → placed_in C.Tx self.new (plan_of clock.now) (made + arriving) (read + gone)) }
+        ensures gains { OnOk result (let plan = plan_of clock.now in (made read : ℕ) → placed_in C.Tx self.old plan made read
+            → Gains (meaning_in C.Tx self.old) plan (held_in C.Tx self.old) (passed_in C.Tx S.shape trib first self.old self.new into.new)
+            made (made + arriving) read (F.inputs feed.old) (F.inputs feed.new)) }
+        ensures keeps { OnOk result (KeepsOthers S.shape trib self.old.share.more first into.old into.new) }
+        ensures halts { OnErr result ((made read : ℕ) → placed_in C.Tx self.old (plan_of clock.now) made read
+            → Halts (meaning_in C.Tx self.old) (plan_of clock.now) made (made + arriving) TxStop.Failed (F.inputs feed.old) (F.inputs feed.new)) }
+        ensures cause { HasCause (F.feed_faults feed.old) (F.feed_faults feed.new) result }
+        ensures fed { F.fed feed.old feed.new }
+        ensures same { meaning_in C.Tx self.new ≡ meaning_in C.Tx self.old }
+        ensures share { self.new.share ≡ self.old.share }
+    {
+        let more = self.share.more;
+        let gone = tables.carried(trib, more, first, into.len());
+        let held = self.store.fill() as usize;
+        let all = held + arriving;
+        self.store.take_all(queue);
+        self.child.make_clear(clock, feed, &mut queue[held..all])?;
+        tables.spread(trib, more, first, &queue[..all], into);
+        self.store.put_all(&queue[gone..all]);
+        Ok(())
+    }
+
     /// Takes the child's first bits, which stand in the store before the first frame.
     pub fn lead<F: Feed>(
         &mut self,
@@ -71,17 +125,17 @@ impl<C: Tx> Tributary<C> {
         clock: &Schedule,
         feed: &mut F,
     ) -> Result<(), TxStop>
-        requires lists { HoldsAll (C.meaning self.old.child).leaves (F.inputs feed.old) }
-        requires nodes { All (IsNodeOf clock.now.levels) (C.meaning self.old.child).nodes }
-        requires placed { Placed C.stands_at C.says C.is_stopped self.old.child self.old.store (plan_of clock.now) 0 0 }
-        ensures placed { OnOk result (Placed C.stands_at C.says C.is_stopped self.new.child self.new.store (plan_of clock.now) lead 0) }
-        ensures gains { OnOk result (Gains (C.meaning self.old.child) (plan_of clock.now) (Held C.stands_for C.meaning self.old.child self.old.store) (Held C.stands_for C.meaning self.new.child self.new.store) 0 lead 0 (F.inputs feed.old) (F.inputs feed.new)) }
-        ensures free { OnOk result ((size : ℕ → ℕ) → Fits (C.meaning self.old.child) (plan_of clock.now) 0 (F.inputs feed.old) size → first_some (lead_of (C.meaning self.old.child) (plan_of clock.now) size) ≡ None) }
-        ensures halts { IfErr result (λ stop. Halts (C.meaning self.old.child) (plan_of clock.now) 0 lead stop (F.inputs feed.old) (F.inputs feed.new)) }
-        ensures met { IfErr result (λ stop. Met (Fits (C.meaning self.old.child) (plan_of clock.now) 0 (F.inputs feed.old)) (λ size. first_some (lead_of (C.meaning self.old.child) (plan_of clock.now) size)) stop (F.feed_faults feed.old) (F.feed_faults feed.new)) }
+        requires lists { HoldsAll (meaning_in C.Tx self.old).leaves (F.inputs feed.old) }
+        requires nodes { All (IsNodeOf clock.now.levels) (meaning_in C.Tx self.old).nodes }
+        requires placed { placed_in C.Tx self.old (plan_of clock.now) 0 0 }
+        ensures placed { OnOk result (placed_in C.Tx self.new (plan_of clock.now) lead 0) }
+        ensures gains { OnOk result (Gains (meaning_in C.Tx self.old) (plan_of clock.now) (held_in C.Tx self.old) (held_in C.Tx self.new) 0 lead 0 (F.inputs feed.old) (F.inputs feed.new)) }
+        ensures free { OnOk result ((size : ℕ → ℕ) → Fits (meaning_in C.Tx self.old) (plan_of clock.now) 0 (F.inputs feed.old) size → first_some (lead_of (meaning_in C.Tx self.old) (plan_of clock.now) size) ≡ None) }
+        ensures halts { IfErr result (λ stop. Halts (meaning_in C.Tx self.old) (plan_of clock.now) 0 lead stop (F.inputs feed.old) (F.inputs feed.new)) }
+        ensures met { IfErr result (λ stop. Met (Fits (meaning_in C.Tx self.old) (plan_of clock.now) 0 (F.inputs feed.old)) (λ size. first_some (lead_of (meaning_in C.Tx self.old) (plan_of clock.now) size)) stop (F.feed_faults feed.old) (F.feed_faults feed.new)) }
         ensures later { F.feed_faults feed.old ≤ F.feed_faults feed.new }
         ensures fed { F.fed feed.old feed.new }
-        ensures same { C.meaning self.new.child ≡ C.meaning self.old.child }
+        ensures same { meaning_in C.Tx self.new ≡ meaning_in C.Tx self.old }
         ensures share { self.new.share ≡ self.old.share }
     {
         for _taken in 0..LEAD {
@@ -103,11 +157,11 @@ impl<C: Tx> Tributary<C> {
 
     /// Takes the oldest bit out of the store.
     pub fn leave(&mut self) -> Result<bool, Underflow>
-        ensures ok { IfOk result (λ bit. (plan : Plan) (made read : ℕ) → Placed C.stands_at C.says C.is_stopped self.old.child self.old.store plan made read
-            → Placed C.stands_at C.says C.is_stopped self.new.child self.new.store plan made (suc read)) }
+        ensures ok { IfOk result (λ bit. (plan : Plan) (made read : ℕ) → placed_in C.Tx self.old plan made read
+            → placed_in C.Tx self.new plan made (suc read)) }
         ensures some { OnOk result (0 < length self.old.store) }
-        ensures bit { IfOk result (λ bit. (supply : Supply) (made read : ℕ) → Held C.stands_for C.meaning self.old.child self.old.store supply made read
-            → (bit ≡ (C.meaning self.old.child).line supply read) × Held C.stands_for C.meaning self.new.child self.new.store supply made (suc read)) }
+        ensures bit { IfOk result (λ bit. (supply : Supply) (made read : ℕ) → held_in C.Tx self.old supply made read
+            → (bit ≡ (meaning_in C.Tx self.old).line supply read) × held_in C.Tx self.new supply made (suc read)) }
         ensures none { OnErr result (length self.old.store ≡ 0) }
         ensures child { self.new.child ≡ self.old.child }
         ensures share { self.new.share ≡ self.old.share }

@@ -1,4 +1,4 @@
-ghost use Rattle.std.specs.Prelude.{◌≡◌, [], ◌∷◌, ◌++◌, List};
+ghost use Rattle.std.specs.Prelude.{◌≡◌, true, [], ◌∷◌, ◌++◌, List};
 ghost use Rattle.pdh_watch.specs.declared.event.Event.{Event};
 
 use crate::Event;
@@ -11,6 +11,10 @@ pub trait Watch: Drop {
     /// Sees one event.
     fn note(&mut self, event: &Event)
         ensures { saw self.old (event.now ∷ []) self.new };
+
+    /// Whether it ignores all events, so that none need be told to it.
+    fn ignores(&self) -> bool
+        ensures { result ≡ true → (events : List Event) → saw self.now events self.now };
 
     ghost saw_nothing: { (a : Self) → saw a [] a };
 
@@ -32,4 +36,8 @@ impl Watch for Quiet {
     ghost saw_join = { λ a b c xs ys p q. q ∙ p };
 
     fn note(&mut self, _event: &Event) {}
+
+    fn ignores(&self) -> bool {
+        true
+    }
 }

@@ -1,8 +1,9 @@
-use Rattle.std.proofs.Common.{◌∷◌, sym, ap, ◌∙◌, arith}
+use Rattle.std.proofs.Common.{◌∷◌, map, sym, ap, ◌∙◌, arith}
 use Rattle.std.proofs.lemmas.Result.{err_from_is_err_and}
 use Rattle.pdh_edge.specs.Ports.{Outputs}
+use Rattle.pdh_rx.specs.Node.{node_meaning}
 use Rattle.pdh_rx.proofs.NodeSteps.{frames_exact}
-use Rattle.pdh_chain.proofs.Demuxed.{leaf_held, demuxes, stops, nothing_received}
+use Rattle.pdh_chain.proofs.Demuxed.{leaf_held, demuxes, stops, left, nothing_received}
 use Rattle.pdh_chain.proofs.receiving.demux_with.Goals as goal
 
 pub returns-in_err-start-clause-err : goal.returns-in_err-start-clause-err
@@ -10,28 +11,28 @@ returns-in_err-start-clause-err g c =
     let p = err_from_is_err_and c.from_residual-in_err-start.result c.from_residual-in_err-start.ensures.1 in
     rw (p.1, p.2) (c.in_err-start.ensures.cause.failed, nothing_received (g.S.Shape.shape ∷ g.C.ChainRx.shapes) c.args.bits _ _ _ _ c.in_err-start.ensures.inputs c.in_err-start.ensures.outputs)
 
-pub receive-requires-clause-lists : goal.receive-requires-clause-lists
-receive-requires-clause-lists g c k is =
+pub receive_all-requires-clause-lists : goal.receive_all-requires-clause-lists
+receive_all-requires-clause-lists g c k is =
     let s = g.S.Shape.shape in
     let shapes = s ∷ g.C.ChainRx.shapes in
     let same = c.in_ok-node.ensures.meaning in
     ap (λ (o : Outputs). o.holds k) c.in_ok-start.ensures.outputs ∙ c.requires.leaves k (leaf_held shapes k (sym (ap (λ m. m.leaves k) same) ∙ is))
 
-pub returns-in_err-receive-clause-err : goal.returns-in_err-receive-clause-err
-returns-in_err-receive-clause-err g c =
-    let p = err_from_is_err_and c.from_residual-in_err-receive.result c.from_residual-in_err-receive.ensures.1 in
+pub returns-in_err-receive_all-clause-err : goal.returns-in_err-receive_all-clause-err
+returns-in_err-receive_all-clause-err g c =
+    let p = err_from_is_err_and c.from_residual-in_err-receive_all.result c.from_residual-in_err-receive_all.ensures.1 in
     let s = g.S.Shape.shape in
     let shapes = s ∷ g.C.ChainRx.shapes in
     let same = c.in_ok-node.ensures.meaning in
     let since = g.met.P.Port.kept_counts c.args.port.now c.start.new.self c.start.ensures.kept in
     rw (p.1, p.2, sym c.in_ok-start.ensures.inputs, sym c.in_ok-start.ensures.outputs)
-    (stops shapes _ c.args.bits _ _ _ _ _ _ _ _ _ _ c.in_err-receive.field-0.0 same (g.met.S.Shape.is_frame, g.met.S.Shape.has_tributaries, g.met.C.ChainRx.are_frames) since.0 since.1 c.in_err-receive.ensures.stops)
+    (stops shapes _ c.args.bits _ _ _ _ _ _ _ _ _ _ c.in_err-receive_all.field-0.0 same (g.met.S.Shape.is_frame, g.met.S.Shape.has_tributaries, g.met.C.ChainRx.are_frames) since.0 since.1 c.in_err-receive_all.ensures.stops)
 
 pub returns-clause-kept : goal.returns-clause-kept
-returns-clause-kept g c = g.met.P.Port.kept_join c.args.port.now c.start.new.self c.receive.new.port c.start.ensures.kept c.receive.ensures.kept
+returns-clause-kept g c = g.met.P.Port.kept_join c.args.port.now c.start.new.self c.receive_all.new.port c.start.ensures.kept c.receive_all.ensures.kept
 
 pub returns-clause-ready : goal.returns-clause-ready
-returns-clause-ready g c = g.met.P.Port.kept_ready c.start.new.self c.receive.new.port c.receive.ensures.kept c.in_ok-start.ensures.ok
+returns-clause-ready g c = g.met.P.Port.kept_ready c.start.new.self c.receive_all.new.port c.receive_all.ensures.kept c.in_ok-start.ensures.ok
 
 pub returns-clause-ok : goal.returns-clause-ok
 returns-clause-ok g c =
@@ -40,4 +41,13 @@ returns-clause-ok g c =
     let same = c.in_ok-node.ensures.meaning in
     rw (sym c.in_ok-start.ensures.inputs, sym c.in_ok-start.ensures.outputs)
     (demuxes shapes _ _ c.args.bits c.frames.result _ _ _ _ same (g.met.S.Shape.is_frame, g.met.S.Shape.has_tributaries, g.met.C.ChainRx.are_frames)
-    (λ line count stood. c.frames.ensures line stood ∙ frames_exact s line g.met.S.Shape.is_frame (omega (arith, count, c.requires.few))) c.in_ok-receive.ensures.received)
+    (λ line count stood. c.frames.ensures line stood ∙ frames_exact s line g.met.S.Shape.is_frame (omega (arith, count, c.requires.few))) c.in_ok-receive_all.ensures.received)
+
+pub returns-in_err-receive_all-clause-ready : goal.returns-in_err-receive_all-clause-ready
+returns-in_err-receive_all-clause-ready g c =
+    let p = err_from_is_err_and c.from_residual-in_err-receive_all.result c.from_residual-in_err-receive_all.ensures.1 in
+    let ready = g.met.P.Port.kept_ready c.start.new.self c.receive_all.new.port c.receive_all.ensures.kept c.in_ok-start.ensures.ok in
+    let meaning = node_meaning g.S.Shape.shape c.in_ok-node.node.path (map g.C.Rx.meaning c.in_ok-node.node.children.items) in
+    rw (p.1, p.2)
+    (left meaning c.args.bits (g.P.Feed.inputs c.start.new.self) (g.P.Feed.inputs c.receive_all.new.port) (g.P.Drain.outputs c.start.new.self) (g.P.Drain.outputs c.receive_all.new.port) (g.P.Feed.feed_faults c.start.new.self)
+    (g.P.Feed.feed_faults c.receive_all.new.port) (g.P.Drain.drain_faults c.start.new.self) (g.P.Drain.drain_faults c.receive_all.new.port) _ _ c.in_err-receive_all.field-0.0 c.in_err-receive_all.ensures.stops ready)

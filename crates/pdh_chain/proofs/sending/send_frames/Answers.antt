@@ -22,8 +22,8 @@ returns-in-Err-clause-stops g c =
     (g.met.P.Port.fed_keeps_outputs c.loop-whole.port c.make_frame.new.feed c.make_frame.ensures.fed).0 c.loop-whole-test.true (g.met.P.Port.kept_counts c.args.port.now c.loop-whole.port inv.kept).0 inv.sending
     (c.in-Err.ensures.stops _ inv.sending.makes.place)
 
-pub returns-in-Err-put_frame-clause-fails : goal.returns-in-Err-put_frame-clause-fails
-returns-in-Err-put_frame-clause-fails g c =
+pub returns-in-Err-put_all-clause-fails : goal.returns-in-Err-put_all-clause-fails
+returns-in-Err-put_all-clause-fails g c =
     let plan = plan_of c.args.clock.now in
     let inv = c.loop-whole.invariant in
     let fed = g.met.P.Port.fed_keeps_outputs c.loop-whole.port c.make_frame.new.feed c.make_frame.ensures.fed in
@@ -31,36 +31,36 @@ returns-in-Err-put_frame-clause-fails g c =
     let later : g.P.Drain.drain_faults c.args.port.now ≤ g.P.Drain.drain_faults c.make_frame.new.feed = omega (arith, fed.1, counts.1) in
     sending_fails (g.T.Tx.meaning c.args.sender.now) (g.T.Tx.meaning c.loop-whole.sender) (g.T.Tx.stands_at c.loop-whole.sender plan) (g.T.Tx.stands_at c.make_frame.new.sender plan) (g.T.Tx.stands_for c.args.sender.now)
     (g.T.Tx.stands_for c.loop-whole.sender) (g.T.Tx.stands_for c.make_frame.new.sender) plan c.args.len c.args.frames c.loop-whole._whole c.make_frame.new.frame.items c.deref.result.now (g.P.Feed.inputs c.args.port.now)
-    (g.P.Feed.inputs c.loop-whole.port) (g.P.Feed.inputs c.make_frame.new.feed) (g.P.Feed.inputs c.put_frame.new.drain) (g.P.Drain.outputs c.args.port.now) (g.P.Drain.outputs c.loop-whole.port) (g.P.Drain.outputs c.make_frame.new.feed)
-    (g.P.Drain.outputs c.put_frame.new.drain) (g.P.Drain.drain_faults c.args.port.now) (g.P.Drain.drain_faults c.make_frame.new.feed) (g.P.Drain.drain_faults c.put_frame.new.drain) inv.same c.deref.ensures.value
-    (g.met.P.Port.drained_keeps_inputs c.make_frame.new.feed c.put_frame.new.drain c.put_frame.ensures.drained).0 fed.0 c.loop-whole-test.true later inv.sending
-    (c.in_default.ensures.made (c.loop-whole._whole * c.args.len) inv.sending.makes.place) c.in-Err-put_frame.ensures.err c.in-Err-put_frame.ensures.cause.failed
+    (g.P.Feed.inputs c.loop-whole.port) (g.P.Feed.inputs c.make_frame.new.feed) (g.P.Feed.inputs c.put_all.new.self) (g.P.Drain.outputs c.args.port.now) (g.P.Drain.outputs c.loop-whole.port) (g.P.Drain.outputs c.make_frame.new.feed)
+    (g.P.Drain.outputs c.put_all.new.self) (g.P.Drain.drain_faults c.args.port.now) (g.P.Drain.drain_faults c.make_frame.new.feed) (g.P.Drain.drain_faults c.put_all.new.self) inv.same c.deref.ensures.value
+    (g.met.P.Port.drained_keeps_inputs c.make_frame.new.feed c.put_all.new.self c.put_all.ensures.drained).0 fed.0 c.loop-whole-test.true later inv.sending
+    (c.in_default.ensures.made (c.loop-whole._whole * c.args.len) inv.sending.makes.place) c.in-Err-put_all.ensures.err c.in-Err-put_all.ensures.cause.failed
 
-pub returns-in-Err-put_frame-clause-kept : goal.returns-in-Err-put_frame-clause-kept
-returns-in-Err-put_frame-clause-kept g c =
+pub returns-in-Err-put_all-clause-kept : goal.returns-in-Err-put_all-clause-kept
+returns-in-Err-put_all-clause-kept g c =
     let kept = g.met.P.Port.kept_join c.args.port.now c.loop-whole.port c.make_frame.new.feed c.loop-whole.invariant.kept (g.met.P.Port.fed_is_kept c.loop-whole.port c.make_frame.new.feed c.make_frame.ensures.fed) in
-    g.met.P.Port.kept_join c.args.port.now c.make_frame.new.feed c.put_frame.new.drain kept (g.met.P.Port.drained_is_kept c.make_frame.new.feed c.put_frame.new.drain c.put_frame.ensures.drained)
+    g.met.P.Port.kept_join c.args.port.now c.make_frame.new.feed c.put_all.new.self kept (g.met.P.Port.drained_is_kept c.make_frame.new.feed c.put_all.new.self c.put_all.ensures.drained)
 
 pub loop-whole-preserved : goal.loop-whole-preserved
 loop-whole-preserved g c =
     let plan = plan_of c.args.clock.now in
     let inv = c.loop-whole.invariant in
     let fed = g.met.P.Port.fed_keeps_outputs c.loop-whole.port c.make_frame.new.feed c.make_frame.ensures.fed in
-    let drained = g.met.P.Port.drained_keeps_inputs c.make_frame.new.feed c.put_frame.new.drain c.put_frame.ensures.drained in
+    let drained = g.met.P.Port.drained_keeps_inputs c.make_frame.new.feed c.put_all.new.self c.put_all.ensures.drained in
     let kept = g.met.P.Port.kept_join c.args.port.now c.loop-whole.port c.make_frame.new.feed inv.kept (g.met.P.Port.fed_is_kept c.loop-whole.port c.make_frame.new.feed c.make_frame.ensures.fed) in
     record {
       running = c.in_default.ensures.running;
       idles = c.make_frame.ensures.idles;
       same = c.make_frame.ensures.same ∙ inv.same;
       room = c.make_frame.ensures.room ∙ inv.room;
-      kept = g.met.P.Port.kept_join c.args.port.now c.make_frame.new.feed c.put_frame.new.drain kept (g.met.P.Port.drained_is_kept c.make_frame.new.feed c.put_frame.new.drain c.put_frame.ensures.drained);
+      kept = g.met.P.Port.kept_join c.args.port.now c.make_frame.new.feed c.put_all.new.self kept (g.met.P.Port.drained_is_kept c.make_frame.new.feed c.put_all.new.self c.put_all.ensures.drained);
       lists = ap (λ i. i.holds) drained.0 ∙ g.met.P.Feed.fed_holds c.loop-whole.port c.make_frame.new.feed c.make_frame.ensures.fed ∙ inv.lists;
-      lines = g.met.P.Drain.drained_holds c.make_frame.new.feed c.put_frame.new.drain c.put_frame.ensures.drained ∙ ap (λ o. o.holds) fed.0 ∙ inv.lines;
+      lines = g.met.P.Drain.drained_holds c.make_frame.new.feed c.put_all.new.self c.put_all.ensures.drained ∙ ap (λ o. o.holds) fed.0 ∙ inv.lines;
       sending = sending_more (g.T.Tx.meaning c.args.sender.now) (g.T.Tx.meaning c.loop-whole.sender) (g.T.Tx.stands_at c.loop-whole.sender plan) (g.T.Tx.stands_at c.make_frame.new.sender plan) (g.T.Tx.stands_for c.args.sender.now)
           (g.T.Tx.stands_for c.loop-whole.sender) (g.T.Tx.stands_for c.make_frame.new.sender) plan (c.loop-whole._whole * c.args.len) (c.loop-whole._whole * c.args.len + c.args.len) ((c.loop-whole._whole + 1) * c.args.len) c.make_frame.new.frame.items
-          c.deref.result.now (g.P.Feed.inputs c.args.port.now) (g.P.Feed.inputs c.loop-whole.port) (g.P.Feed.inputs c.make_frame.new.feed) (g.P.Feed.inputs c.put_frame.new.drain) (g.P.Drain.outputs c.args.port.now)
-          (g.P.Drain.outputs c.loop-whole.port) (g.P.Drain.outputs c.make_frame.new.feed) (g.P.Drain.outputs c.put_frame.new.drain) inv.same c.deref.ensures.value drained.0 fed.0 (frame_end c.loop-whole._whole c.args.len) inv.sending
-          (c.in_default.ensures.made (c.loop-whole._whole * c.args.len) inv.sending.makes.place) c.in_default-put_frame.ensures.ok;
+          c.deref.result.now (g.P.Feed.inputs c.args.port.now) (g.P.Feed.inputs c.loop-whole.port) (g.P.Feed.inputs c.make_frame.new.feed) (g.P.Feed.inputs c.put_all.new.self) (g.P.Drain.outputs c.args.port.now)
+          (g.P.Drain.outputs c.loop-whole.port) (g.P.Drain.outputs c.make_frame.new.feed) (g.P.Drain.outputs c.put_all.new.self) inv.same c.deref.ensures.value drained.0 fed.0 (frame_end c.loop-whole._whole c.args.len) inv.sending
+          (c.in_default.ensures.made (c.loop-whole._whole * c.args.len) inv.sending.makes.place) c.in_default-put_all.ensures.ok;
     }
 
 pub returns-clause-sent : goal.returns-clause-sent

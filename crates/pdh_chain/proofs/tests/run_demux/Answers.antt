@@ -1,4 +1,4 @@
-use Rattle.std.proofs.Common.{◌≡◌, true, ◌∙◌, ◌<◌, ◌-◌, ◌++◌, ◌∷◌, [], ap, arith, length, map, nat_lt, subst, sym, ℕ}
+use Rattle.std.proofs.Common.{◌∙◌, ◌<◌, ◌-◌, ◌++◌, ◌∷◌, [], ap, arith, length, map, nat_lt, subst, sym, ℕ}
 use Rattle.std.proofs.lemmas.Bool.{lt-ltb}
 use Rattle.std.proofs.lemmas.List.{length-replicate}
 use Rattle.pdh_edge.specs.MemLists.{items_of}

@@ -1,5 +1,5 @@
-use Rattle.std.proofs.Common.{◌≡◌, ℕ, true, [], ◌∷◌, ◌++◌, length, map, nat_lt, refl, ap, ◌∙◌}
-use Rattle.pdh_edge.specs.MemLists.{items_of, rest_of}
+use Rattle.std.proofs.Common.{[], ◌∷◌, ◌++◌, length, map, nat_lt, ap, ◌∙◌}
+use Rattle.pdh_edge.specs.MemLists.{items_of}
 use Rattle.pdh_edge.proofs.port_tests.port_in_memory.Goals as goal
 
 pub room-requires : goal.room-requires

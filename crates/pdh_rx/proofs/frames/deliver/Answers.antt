@@ -5,7 +5,8 @@ use Rattle.pdh_align.specs.Aligning.{frame_back}
 use Rattle.pdh_rx.specs.Node.{role_bits, with_more}
 use Rattle.pdh_rx.specs.laws.NodeLaws.{all_sound}
 use Rattle.pdh_rx.proofs.Gains.{on_err_from, cause_since, gives_nothing, gives_same, gives_join, gives_part, gives_at, part_at}
-use Rattle.pdh_rx.proofs.SlotBits.{part, part_all, part_begins, slot_step, ones_few, just_counted, decided, count_step, names_known, control_ones-le}
+use Rattle.pdh_slots.proofs.SlotLaws.{ones_few as control_ones-le}
+use Rattle.pdh_rx.proofs.SlotBits.{part, part_all, part_begins, slot_step, ones_few, just_counted, decided, count_step, names_known}
 use Rattle.pdh_rx.proofs.frames.deliver.Goals as goal
 
 pub loop-slot-init : goal.loop-slot-init

@@ -7,8 +7,8 @@ use Rattle.pdh_tx.proofs.node.Node.fill.Goals as goal
 pub returns-clause-fill : goal.returns-clause-fill
 returns-clause-fill g c plan x path ms is old =
     let at = c.args.self.now.at in
-    let ws = c.args.self.now.tributaries.items in
-    let within : c.args.trib < length ws = omega (arith, c.requires, g.met.S.Shape.tribs_is, old.count) in
+    let ws = c.args.self.now.tributaries.list.items in
+    let within : c.args.trib < length ws = omega (arith, c.requires, c.args.self.now.tributaries.count) in
     let here : slice_get ws c.args.trib ≡ Some c.index.result.now = slice_get_read _ _ c.args.trib _ refl within c.index.ensures in
     let was = old.each c.args.trib c.index.result.now here in
     fill_is g.S.Shape.shape c.args.self.now.path path plan g.S.Shape.LEN c.args.trib at.frame at.slot x c.fill.result
@@ -18,8 +18,8 @@ returns-clause-fill g c plan x path ms is old =
 pub returns-clause-none : goal.returns-clause-none
 returns-clause-none g c plan old =
     let at = c.args.self.now.at in
-    let ws = c.args.self.now.tributaries.items in
-    let within : c.args.trib < length ws = omega (arith, c.requires, g.met.S.Shape.tribs_is, old.count) in
+    let ws = c.args.self.now.tributaries.list.items in
+    let within : c.args.trib < length ws = omega (arith, c.requires, c.args.self.now.tributaries.count) in
     let here : slice_get ws c.args.trib ≡ Some c.index.result.now = slice_get_read _ _ c.args.trib _ refl within c.index.ensures in
     let was = old.each c.args.trib c.index.result.now here in
     fill_none g.S.Shape.shape c.args.self.now.path plan c.args.trib at.frame at.slot c.fill.result old.place old.inside

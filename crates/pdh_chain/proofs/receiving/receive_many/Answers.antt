@@ -1,0 +1,107 @@
+use Rattle.std.proofs.Common.{◌≡◌, ◌≤◌, ◌+◌, Err, length, take, refl, ap, ◌∙◌, sym, subst, arith}
+use Rattle.std.proofs.lemmas.List.{length-take, length-take-le, take-append-le}
+use Rattle.std.proofs.lemmas.Result.{err_from_is_err_and}
+use Rattle.pdh_rx.specs.Meaning.{TakesBits, TakesPart}
+use Rattle.pdh_chain.specs.Demuxing.{Receives}
+use Rattle.pdh_chain.proofs.Received.{receives_none, receives_many, feed_stops, put_stops_many}
+use Rattle.pdh_chain.proofs.receiving.receive_many.Goals as goal
+
+pub loop-received-init : goal.loop-received-init
+loop-received-init g c = record {
+  same = refl;
+  within = omega arith;
+  kept = g.met.P.Port.kept_same c.args.port.now;
+  inputs = refl;
+  outputs = refl;
+  receives = receives_none (g.R.Rx.meaning c.args.receiver.now) (g.R.Rx.stands c.args.receiver.now) (g.P.Feed.inputs c.args.port.now) (g.P.Drain.outputs c.args.port.now) c.requires.stands;
+}
+
+pub bits-requires-clause-held : goal.bits-requires-clause-held
+bits-requires-clause-held g c = ap (λ h. h 0) c.loop-received.invariant.inputs ∙ c.requires.line
+
+pub returns-in_err-count-clause-stops : goal.returns-in_err-count-clause-stops
+returns-in_err-count-clause-stops g c =
+    let p = err_from_is_err_and c.from_residual.result c.from_residual.ensures.1 in
+    let inv = c.loop-received.invariant in
+    let fed = g.met.P.Port.fed_keeps_outputs c.loop-received.port c.bits.new.self c.bits.ensures.fed in
+    let counts = g.met.P.Port.kept_counts c.args.port.now c.loop-received.port inv.kept in
+    rw (p.1, p.2)
+    (feed_stops (g.R.Rx.meaning c.args.receiver.now) (g.R.Rx.stands c.loop-received.receiver) c.loop-received.received c.args.bits (g.P.Feed.inputs c.args.port.now) (g.P.Feed.inputs c.loop-received.port) (g.P.Feed.inputs c.bits.new.self)
+    (g.P.Drain.outputs c.args.port.now) (g.P.Drain.outputs c.loop-received.port) (g.P.Drain.outputs c.bits.new.self) _ _ _ _ _ c.in_err-count.field-0.0 c.loop-received-test.true fed.0 inv.receives c.in_err-count.ensures.err counts.0
+    (λ e. c.in_err-count.ensures.cause.failed (ap Err e)) (λ e. c.in_err-count.ensures.ended (ap Err e)))
+
+pub returns-in_err-count-clause-kept : goal.returns-in_err-count-clause-kept
+returns-in_err-count-clause-kept g c =
+    g.met.P.Port.kept_join c.args.port.now c.loop-received.port c.bits.new.self c.loop-received.invariant.kept (g.met.P.Port.fed_is_kept c.loop-received.port c.bits.new.self c.bits.ensures.fed)
+
+pub returns-in_err-count-clause-same : goal.returns-in_err-count-clause-same
+returns-in_err-count-clause-same g c = c.loop-received.invariant.same
+
+pub take-requires-clause-stands : goal.take-requires-clause-stands
+take-requires-clause-stands g c = (c.loop-received.invariant.receives.given, c.loop-received.invariant.receives.stood)
+
+pub take-requires-clause-lists : goal.take-requires-clause-lists
+take-requires-clause-lists g c k is =
+    let inv = c.loop-received.invariant in
+    let fed = g.met.P.Port.fed_keeps_outputs c.loop-received.port c.bits.new.self c.bits.ensures.fed in
+    ap (λ o. o.holds k) fed.0 ∙ ap (λ h. h k) inv.outputs ∙ c.requires.lists k (ap (λ m. m.leaves k) (sym inv.same) ∙ is)
+
+pub returns-in_err-take-clause-stops : goal.returns-in_err-take-clause-stops
+returns-in_err-take-clause-stops g c =
+    let p = err_from_is_err_and c.from_residual-in_err-take.result c.from_residual-in_err-take.ensures.1 in
+    let inv = c.loop-received.invariant in
+    let n = c.in_ok-count.count in
+    let within : n ≤ length c.bits.new.into = omega (arith, c.in_ok-count.ensures.count.1, c.bits.auto.into) in
+    let fed = g.met.P.Port.fed_keeps_outputs c.loop-received.port c.bits.new.self c.bits.ensures.fed in
+    let drained = g.met.P.Port.drained_keeps_inputs c.bits.new.self c.take.new.drain c.take.ensures.drained in
+    let counts = g.met.P.Port.kept_counts c.args.port.now c.loop-received.port inv.kept in
+    let later : g.P.Drain.drain_faults c.args.port.now ≤ g.P.Drain.drain_faults c.bits.new.self = omega (arith, counts.1, fed.1) in
+    let few : c.loop-received.received + length (take n c.bits.new.into) ≤ c.args.bits = omega (arith, length-take-le n c.bits.new.into within, c.in_ok-count.ensures.count.1, length-take c.part-most.result c.loop-received.buffer, c.part-most.ensures.left, c.loop-received-test.true) in
+    rw (p.1, p.2)
+    (put_stops_many (g.R.Rx.meaning c.args.receiver.now) (g.R.Rx.meaning c.loop-received.receiver) (g.R.Rx.stands c.loop-received.receiver) c.loop-received.received c.args.bits (take n c.bits.new.into) (g.P.Feed.inputs c.args.port.now)
+    (g.P.Feed.inputs c.loop-received.port) (g.P.Feed.inputs c.bits.new.self) (g.P.Feed.inputs c.take.new.drain) (g.P.Drain.outputs c.args.port.now) (g.P.Drain.outputs c.loop-received.port) (g.P.Drain.outputs c.bits.new.self)
+    (g.P.Drain.outputs c.take.new.drain) (g.P.Feed.feed_faults c.args.port.now) (g.P.Feed.feed_faults c.take.new.drain) _ _ _ inv.same drained.0 fed.0 few inv.receives c.in_ok-count.ensures.ok
+    (subst (λ bits. TakesPart (g.R.Rx.meaning c.loop-received.receiver) bits (g.R.Rx.stands c.loop-received.receiver) (g.P.Drain.outputs c.bits.new.self) (g.P.Drain.outputs c.take.new.drain)) (take-append-le n c.bits.new.into _ within) c.in_err-take.ensures.part) later c.in_err-take.ensures.cause.failed)
+
+pub returns-in_err-take-clause-kept : goal.returns-in_err-take-clause-kept
+returns-in_err-take-clause-kept g c =
+    let fed = g.met.P.Port.kept_join c.args.port.now c.loop-received.port c.bits.new.self c.loop-received.invariant.kept (g.met.P.Port.fed_is_kept c.loop-received.port c.bits.new.self c.bits.ensures.fed) in
+    g.met.P.Port.kept_join c.args.port.now c.bits.new.self c.take.new.drain fed (g.met.P.Port.drained_is_kept c.bits.new.self c.take.new.drain c.take.ensures.drained)
+
+pub returns-in_err-take-clause-same : goal.returns-in_err-take-clause-same
+returns-in_err-take-clause-same g c = c.take.ensures.same ∙ c.loop-received.invariant.same
+
+pub loop-received-preserved : goal.loop-received-preserved
+loop-received-preserved g c =
+    let inv = c.loop-received.invariant in
+    let n = c.in_ok-count.count in
+    let within : n ≤ length c.bits.new.into = omega (arith, c.in_ok-count.ensures.count.1, c.bits.auto.into) in
+    let fed = g.met.P.Port.fed_keeps_outputs c.loop-received.port c.bits.new.self c.bits.ensures.fed in
+    let drained = g.met.P.Port.drained_keeps_inputs c.bits.new.self c.take.new.drain c.take.ensures.drained in
+    let kept = g.met.P.Port.kept_join c.args.port.now c.loop-received.port c.bits.new.self inv.kept (g.met.P.Port.fed_is_kept c.loop-received.port c.bits.new.self c.bits.ensures.fed) in
+    record {
+      within = omega (arith, c.in_ok-count.ensures.count.1, length-take c.part-most.result c.loop-received.buffer, c.part-most.ensures.left, c.loop-received-test.true);
+      same = c.take.ensures.same ∙ inv.same;
+      kept = g.met.P.Port.kept_join c.args.port.now c.bits.new.self c.take.new.drain kept (g.met.P.Port.drained_is_kept c.bits.new.self c.take.new.drain c.take.ensures.drained);
+      inputs = ap (λ i. i.holds) drained.0 ∙ g.met.P.Feed.fed_holds c.loop-received.port c.bits.new.self c.bits.ensures.fed ∙ inv.inputs;
+      outputs = g.met.P.Drain.drained_holds c.bits.new.self c.take.new.drain c.take.ensures.drained ∙ ap (λ o. o.holds) fed.0 ∙ inv.outputs;
+      receives = receives_many (g.R.Rx.meaning c.args.receiver.now) (g.R.Rx.meaning c.loop-received.receiver) (g.R.Rx.stands c.loop-received.receiver) (g.R.Rx.stands c.take.new.self) c.loop-received.received n (take n c.bits.new.into)
+          (g.P.Feed.inputs c.args.port.now) (g.P.Feed.inputs c.loop-received.port) (g.P.Feed.inputs c.bits.new.self) (g.P.Feed.inputs c.take.new.drain) (g.P.Drain.outputs c.args.port.now) (g.P.Drain.outputs c.loop-received.port)
+          (g.P.Drain.outputs c.bits.new.self) (g.P.Drain.outputs c.take.new.drain) inv.same drained.0 fed.0 (length-take-le n c.bits.new.into within) inv.receives c.in_ok-count.ensures.ok
+          (subst (λ bits. TakesBits (g.R.Rx.meaning c.loop-received.receiver) bits (g.R.Rx.stands c.loop-received.receiver) (g.R.Rx.stands c.take.new.self) (g.P.Drain.outputs c.bits.new.self) (g.P.Drain.outputs c.take.new.drain)) (take-append-le n c.bits.new.into _ within) c.in_ok-take.ensures.taken);
+    }
+
+pub returns-clause-received : goal.returns-clause-received
+returns-clause-received g c =
+    let all : c.loop-received.received ≡ c.args.bits = omega arith in
+    subst (λ n. Receives (g.R.Rx.meaning c.args.receiver.now) (g.R.Rx.stands c.loop-received.receiver) n (g.P.Feed.inputs c.args.port.now) (g.P.Feed.inputs c.loop-received.port) (g.P.Drain.outputs c.args.port.now)
+    (g.P.Drain.outputs c.loop-received.port)) all c.loop-received.invariant.receives
+
+pub returns-clause-kept : goal.returns-clause-kept
+returns-clause-kept g c = c.loop-received.invariant.kept
+
+pub returns-clause-same : goal.returns-clause-same
+returns-clause-same g c = c.loop-received.invariant.same
+
+pub bits-requires-clause-some : goal.bits-requires-clause-some
+bits-requires-clause-some g c = omega (arith, length-take c.part-most.result c.loop-received.buffer, c.part-most.ensures.some, c.part-most.ensures.room)

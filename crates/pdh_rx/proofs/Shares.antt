@@ -1,0 +1,123 @@
+-- Bits for the tributaries, one after another, and calls that follow each other in taking bits.
+use Rattle.std.proofs.Common.{◌≡◌, inl, inr, ℕ, zero, suc, ◌+◌, ◌<◌, ◌≤◌, Bool, true, false, nat_lt, cond, List, [], ◌∷◌, ◌++◌, ◌-◌, length, take, drop, get_or, length-drop, refl, sym, ap, subst, ◌∙◌, arith, append_assoc}
+use Rattle.std.proofs.lemmas.List.{append-nil, take_more, take-append-drop, take_all}
+use Rattle.std.proofs.Math.Seq.{take-add}
+use Rattle.std.proofs.lemmas.Bool.{cases_eq, cases_lt, ne_eqb, eq-eqb, lt-ltb, le-ltb}
+use Rattle.pdh_edge.specs.Ports.{Outputs, IsPrefix, for_leaf}
+use Rattle.pdh_rx.specs.Meaning.{Meaning, IsSound, TakesBits, TakesPart}
+use Rattle.pdh_rx.specs.laws.Growth.{prefix_same}
+use Rattle.pdh_rx.proofs.Gains.{gains_nothing, gains_is, gains_join, part_after}
+
+-- ---- tributaries
+
+-- their bits for each of the first tributaries
+abbrev pub first_bits : (ℕ → List Bool) → ℕ → ℕ → List Bool
+first_bits f tribs j = cond (nat_lt j tribs) (f j) []
+
+pub first_bits_none : (f : ℕ → List Bool) (j : ℕ) → first_bits f 0 j ≡ []
+first_bits_none f j = ap (λ b. cond b (f j) []) (le-ltb j 0 (omega arith))
+
+pub first_bits_push : (f : ℕ → List Bool) (t : ℕ) (bits : List Bool) → bits ≡ f t → (j : ℕ) → first_bits f (t + 1) j ≡ first_bits f t j ++ for_leaf t bits j
+first_bits_push f t bits is j = elim (cases_lt j t) [
+  | inl below ↦
+      ap (λ b. cond b (f j) []) (lt-ltb j (t + 1) (omega (arith, below))) ∙ sym (append-nil (f j))
+      ∙ ap (λ b. cond b (f j) [] ++ []) (sym (lt-ltb j t below))
+      ∙ ap (λ b. first_bits f t j ++ cond b bits []) (sym (ne_eqb j t (λ e. omega (arith, below, e))))
+  | inr above ↦ elim (cases_eq j t) [
+    | inl here ↦
+        ap (λ b. cond b (f j) []) (lt-ltb j (t + 1) (omega (arith, here))) ∙ ap f here ∙ sym is
+        ∙ ap (λ b. cond b (f j) [] ++ bits) (sym (le-ltb j t (omega (arith, here))))
+        ∙ ap (λ b. first_bits f t j ++ cond b bits []) (sym (eq-eqb j t here))
+    | inr other ↦
+        ap (λ b. cond b (f j) []) (le-ltb j (t + 1) (past above other))
+        ∙ ap (λ b. cond b (f j) [] ++ []) (sym (le-ltb j t (omega (arith, above))))
+        ∙ ap (λ b. first_bits f t j ++ cond b bits []) (sym (ne_eqb j t other))
+  ]
+]
+  where
+    past : t ≤ j → (j ≡ t → ⊥) → t + 1 ≤ j
+    past above other = elim (cases_lt t j) [
+      | inl over ↦ omega (arith, over)
+      | inr under ↦ absurd (other (omega (arith, above, under)))
+    ]
+
+pub first_bits_begin : (f : ℕ → List Bool) (t : ℕ) (bits : List Bool) → bits ≡ f t → (j : ℕ) → IsPrefix (first_bits f t j ++ for_leaf t bits j) (f j)
+first_bits_begin f t bits is j =
+    let rest = go (nat_lt j (t + 1)) in
+    (rest.0, rest.1 ∙ ap (λ v. v ++ rest.0) (first_bits_push f t bits is j))
+  where
+    go : (b : Bool) → IsPrefix (cond b (f j) []) (f j)
+    go true = prefix_same (f j)
+    go false = (f j, refl)
+
+pub first_bits_all : (f : ℕ → List Bool) (tribs j : ℕ) → j < tribs → f j ≡ first_bits f tribs j
+first_bits_all f tribs j lt = ap (λ b. cond b (f j) []) (sym (lt-ltb j tribs lt))
+
+-- ---- a list's first bits
+
+pub bits_more : (n : ℕ) (bits : List Bool) (d : Bool) → n < length bits → take (n + 1) bits ≡ take n bits ++ get_or bits n d ∷ []
+bits_more n bits d lt = take_more bits n d lt
+
+pub bits_begin : (n : ℕ) (bits : List Bool) (d : Bool) → n < length bits → IsPrefix (take n bits ++ get_or bits n d ∷ []) bits
+bits_begin n bits d lt = (drop (n + 1) bits, sym (take-append-drop (n + 1) bits) ∙ ap (λ v. v ++ drop (n + 1) bits) (take_more bits n d lt))
+
+pub bits_then : (n m : ℕ) (bits : List Bool) → take (n + m) bits ≡ take n bits ++ take m (take (length bits - n) (drop n bits))
+bits_then n m bits =
+    let rest : take (length bits - n) (drop n bits) ≡ drop n bits = take_all (length bits - n) (drop n bits) (omega (arith, length-drop n bits)) in
+    take-add n m bits ∙ ap (λ l. take n bits ++ take m l) (sym rest)
+
+pub bits_rest : (n : ℕ) (bits : List Bool) → IsPrefix (take n bits ++ take (length bits - n) (drop n bits)) bits
+bits_rest n bits =
+    let rest : take (length bits - n) (drop n bits) ≡ drop n bits = take_all (length bits - n) (drop n bits) (omega (arith, length-drop n bits)) in
+    ([], sym (append-nil (take n bits ++ take (length bits - n) (drop n bits)) ∙ ap (λ l. take n bits ++ l) rest ∙ take-append-drop n bits))
+
+pub bits_all : (n : ℕ) (bits : List Bool) → length bits ≤ n → bits ≡ take n bits ++ []
+bits_all n bits le = sym (append-nil (take n bits) ∙ take_all n bits le)
+
+-- ---- calls that take bits
+
+-- these bits and then those
+pub takes_join : (m now : Meaning) (a b all : List Bool) (was is next : List Bool → Type 0) (o p q : Outputs) → now ≡ m → all ≡ a ++ b → TakesBits m a was is o p → TakesBits now b is next p q → TakesBits m all was next o q
+takes_join m now a b all was is next o p q same e f g' =
+    let g : TakesBits m b is next p q = subst (λ (m : Meaning). TakesBits m b is next p q) same g' in
+    let line_is : (line : List Bool) → line ++ a ++ b ≡ line ++ all = λ line. append_assoc line a b ∙ ap (λ v. line ++ v) (sym e) in
+    record {
+      stands = λ line h. subst next (line_is line) (g.stands (line ++ a) (f.stands line h));
+      gains = λ line h. gains_is (m.got line) (m.got (line ++ a ++ b)) (m.got (line ++ all)) o q (λ k. ap (λ v. m.got v k) (sym (line_is line)))
+          (gains_join (m.got line) (m.got (line ++ a)) (m.got (line ++ a ++ b)) o p q (f.gains line h) (g.gains (line ++ a) (f.stands line h)));
+    }
+
+-- these bits and then those, of which not all could be put; more was to come
+pub takes_part : (m now : Meaning) (a b all : List Bool) (was is : List Bool → Type 0) (o p q : Outputs) → IsSound m → now ≡ m → IsPrefix (a ++ b) all → TakesBits m a was is o p → TakesPart now b is p q → TakesPart m all was o q
+takes_part m now a b all was is o p q sound same more f g' =
+    let g : TakesPart m b is p q = subst (λ (m : Meaning). TakesPart m b is p q) same g' in
+    let line_is : (line : List Bool) → line ++ a ++ b ++ more.0 ≡ line ++ all = λ line. ap (λ v. v ++ more.0) (append_assoc line a b) ∙ append_assoc line (a ++ b) more.0 ∙ ap (λ v. line ++ v) (sym more.1) in
+    record {
+      gains = λ line h.
+          part_after (m.got line) (m.got (line ++ a)) (m.got (line ++ a ++ b)) (m.got (line ++ all)) o p q (f.gains line h) (g.gains (line ++ a) (f.stands line h))
+          (λ k. subst (λ v. IsPrefix (m.got (line ++ a ++ b) k) (m.got v k)) (line_is line) (sound.grows (line ++ a ++ b) more.0 k));
+    }
+
+-- no bits
+pub takes_none : (m : Meaning) (was : List Bool → Type 0) (o : Outputs) → TakesBits m [] was was o o
+takes_none m was o = record {
+  stands = λ line h. subst was (sym (append-nil line)) h;
+  gains = λ line h. gains_nothing (m.got line) (m.got (line ++ [])) o (λ k. ap (λ v. m.got v k) (append-nil line));
+}
+
+-- more was to come
+pub part_longer : (m : Meaning) (bits all : List Bool) (was : List Bool → Type 0) (o q : Outputs) → IsSound m → IsPrefix bits all → TakesPart m bits was o q → TakesPart m all was o q
+part_longer m bits all was o q sound more h = takes_part m m [] bits all was was o o q sound refl more (takes_none m was o) h
+
+pub first_begin : (n : ℕ) (bits : List Bool) → IsPrefix (take n bits) bits
+first_begin n bits = (drop n bits, sym (take-append-drop n bits))
+
+pub take_twice : (n m : ℕ) (bits : List Bool) → n ≤ m → take n (take m bits) ≡ take n bits
+take_twice zero m bits le = refl
+take_twice (suc n) zero bits le = absurd (omega (arith, le))
+take_twice (suc n) (suc m) [] le = refl
+take_twice (suc n) (suc m) (x ∷ bits) le = ap (λ v. x ∷ v) (take_twice n m bits (omega (arith, le)))
+
+pub one_bit : (bits : List Bool) (d : Bool) → 0 < length bits → take 1 bits ≡ get_or bits 0 d ∷ []
+one_bit [] d some = absurd (omega (arith, some))
+one_bit (x ∷ bits) d some = refl

@@ -1,0 +1,12 @@
+use Rattle.std.proofs.Common.{◌≡◌, map}
+use Rattle.pdh_rx.specs.Node.{Gives, ones_bits}
+use Rattle.pdh_rx.proofs.Shares.{first_bits}
+use Rattle.pdh_rx.proofs.parts.fill_parts.Given as goal
+
+-- the first tributaries were given their ones
+abbrev pub invariant-loop-trib : goal.invariant-loop-trib
+invariant-loop-trib g l = record {
+  same : map g.C.Rx.meaning l.children.items ≡ map g.C.Rx.meaning l.fn.children.items;
+  given : Gives g.C.Rx.stands (map g.C.Rx.meaning l.fn.children.items) (first_bits (ones_bits g.S.Shape.shape) l.trib) l.fn.children.items l.children.items (g.D.Drain.outputs l.fn.drain) (g.D.Drain.outputs l.drain);
+  drained : g.D.Drain.drained l.fn.drain l.drain;
+}

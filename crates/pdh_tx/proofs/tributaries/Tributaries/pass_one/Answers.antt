@@ -1,0 +1,163 @@
+use Rattle.std.proofs.Common.{◌≡◌, ◌+◌, ℕ, Bool, List, length, map, refl, sym, ap, ◌∙◌, subst, arith, Some, take, drop, ◌++◌}
+use Rattle.std.proofs.lemmas.List.{length-set, length-append, length-drop, length-take-le}
+use Rattle.std.proofs.lemmas.Option.{slice_get_read}
+use Rattle.std.proofs.lemmas.Result.{on_ok_weaker, on_err_weaker}
+use Rattle.std.proofs.Math.Seq.{map-set_same}
+use Rattle.pdh_shape.specs.Frame.{FrameShape}
+use Rattle.pdh_slots.specs.Slots.{KeepsOthers}
+use Rattle.pdh_tx.specs.declared.tx.TxStop.TheVariants.{Failed}
+use Rattle.pdh_tx.specs.Meaning.{plan_of, Plan, Supply, Meaning}
+use Rattle.pdh_tx.specs.Held.{Gains, Halts}
+use Rattle.pdh_tx.specs.Making.{IsClear}
+use Rattle.pdh_tx.specs.Tributary.{placed_in, held_in, meaning_in, share_in}
+use Rattle.pdh_tx.specs.Node.{IsDisjoint, below, read_to, came_at}
+use Rattle.pdh_tx.specs.Passing.{carried_in, passed_in, made_through, HoldsBitsOf}
+use Rattle.pdh_tx.specs.laws.Growing.{given_more}
+use Rattle.pdh_tx.proofs.Moving.{leaf_of, stays_one}
+use Rattle.pdh_tx.proofs.Advancing.{upto_here, upto_most}
+use Rattle.pdh_tx.proofs.PassingAll.{placed_one, passes_one, holds_from, came_grows}
+use Rattle.pdh_tx.proofs.OnePasses.{next_one}
+use Rattle.pdh_tx.proofs.tributaries.Tributaries.pass_one.Goals as goal
+
+pub pass-requires-clause-lists : goal.pass-requires-clause-lists
+pass-requires-clause-lists g c k leaf =
+    let here = slice_get_read _ _ c.args.trib _ refl (omega (arith, c.requires.trib, c.args.self.now.count)) c.index_mut-tributary.ensures.value in
+    let one = next_one g.met.S.Shape.is_frame c.args.self.now (plan_of c.args.clock.now) c.args.at c.args.trib _ _ c.arriving-arriving.result here (omega (arith, c.requires.inside, g.met.S.Shape.len_is)) c.requires.len c.requires.decided c.requires.placed c.arriving-arriving.ensures in
+    c.requires.fed.lists k (leaf_of _ c.args.trib k _ one.maker leaf)
+
+pub pass-requires-clause-nodes : goal.pass-requires-clause-nodes
+pass-requires-clause-nodes g c =
+    let here = slice_get_read _ _ c.args.trib _ refl (omega (arith, c.requires.trib, c.args.self.now.count)) c.index_mut-tributary.ensures.value in
+    let one = next_one g.met.S.Shape.is_frame c.args.self.now (plan_of c.args.clock.now) c.args.at c.args.trib _ _ c.arriving-arriving.result here (omega (arith, c.requires.inside, g.met.S.Shape.len_is)) c.requires.len c.requires.decided c.requires.placed c.arriving-arriving.ensures in
+    c.requires.fed.nodes c.args.trib _ one.maker
+
+pub pass-requires-clause-room : goal.pass-requires-clause-room
+pass-requires-clause-room g c =
+    let here = slice_get_read _ _ c.args.trib _ refl (omega (arith, c.requires.trib, c.args.self.now.count)) c.index_mut-tributary.ensures.value in
+    let one = next_one g.met.S.Shape.is_frame c.args.self.now (plan_of c.args.clock.now) c.args.at c.args.trib _ _ c.arriving-arriving.result here (omega (arith, c.requires.inside, g.met.S.Shape.len_is)) c.requires.len c.requires.decided c.requires.placed c.arriving-arriving.ensures in
+    omega (arith, c.args.self.now.room, one.few, g.met.S.Shape.len_is)
+
+pub pass-requires-clause-clear : goal.pass-requires-clause-clear
+pass-requires-clause-clear g c =
+    let plan : Plan = plan_of c.args.clock.now in
+    let here = slice_get_read _ _ c.args.trib _ refl (omega (arith, c.requires.trib, c.args.self.now.count)) c.index_mut-tributary.ensures.value in
+    let one = next_one g.met.S.Shape.is_frame c.args.self.now plan c.args.at c.args.trib _ _ c.arriving-arriving.result here (omega (arith, c.requires.inside, g.met.S.Shape.len_is)) c.requires.len c.requires.decided c.requires.placed c.arriving-arriving.ensures in
+    let f : ℕ = came_at g.S.Shape.shape c.args.at.path plan c.args.at.frame c.args.at.slot c.args.trib in
+    let K : ℕ → Type 0 = λ k. IsClear (meaning_in g.C.Tx c.index_mut-tributary.result.now) plan f k (g.F.Feed.inputs c.args.feed.now) in
+    (f, _, one.was, subst K (sym one.came) (c.requires.clear _ one.maker).clear)
+
+pub pass-requires-clause-enough : goal.pass-requires-clause-enough
+pass-requires-clause-enough g c =
+    let here = slice_get_read _ _ c.args.trib _ refl (omega (arith, c.requires.trib, c.args.self.now.count)) c.index_mut-tributary.ensures.value in
+    let one = next_one g.met.S.Shape.is_frame c.args.self.now (plan_of c.args.clock.now) c.args.at c.args.trib _ (length c.args.into.now) c.arriving-arriving.result here (omega (arith, c.requires.inside, g.met.S.Shape.len_is)) c.requires.len c.requires.decided c.requires.placed c.arriving-arriving.ensures in
+    omega (arith, (c.requires.clear _ one.maker).enough, one.was.count, one.came, one.left)
+
+pub pass-requires-clause-few : goal.pass-requires-clause-few
+pass-requires-clause-few g c held =
+    let here = slice_get_read _ _ c.args.trib _ refl (omega (arith, c.requires.trib, c.args.self.now.count)) c.index_mut-tributary.ensures.value in
+    let one = next_one g.met.S.Shape.is_frame c.args.self.now (plan_of c.args.clock.now) c.args.at c.args.trib _ (length c.args.into.now) c.arriving-arriving.result here (omega (arith, c.requires.inside, g.met.S.Shape.len_is)) c.requires.len c.requires.decided c.requires.placed c.arriving-arriving.ensures in
+    let few = (c.requires.clear _ one.maker).few (omega (arith, one.was.count, held)) in
+    omega (arith, few, one.was.count, one.came, one.left)
+
+pub returns-clause-placed : goal.returns-clause-placed
+returns-clause-placed g c =
+    let s : FrameShape = g.S.Shape.shape in
+    let plan : Plan = plan_of c.args.clock.now in
+    let at = c.args.at in
+    let i : ℕ = c.args.trib in
+    let w = c.index_mut-tributary.result.now in
+    let w' = c.pass.new.self in
+    let here = slice_get_read _ _ i _ refl (omega (arith, c.requires.trib, c.args.self.now.count)) c.index_mut-tributary.ensures.value in
+    let one = next_one g.met.S.Shape.is_frame c.args.self.now plan at i w (length c.args.into.now) c.arriving-arriving.result here (omega (arith, c.requires.inside, g.met.S.Shape.len_is)) c.requires.len c.requires.decided c.requires.placed c.arriving-arriving.ensures in
+    let u : ℕ = at.slot + at.len in
+    let f : ℕ → ℕ = came_at s at.path plan at.frame at.slot in
+    let f' : ℕ → ℕ = came_at s at.path plan at.frame u in
+    let h : ℕ → ℕ = read_to s at.path plan at.frame at.slot in
+    let h' : ℕ → ℕ = read_to s at.path plan at.frame u in
+    let X : ℕ → Type 0 = λ v. placed_in g.C.Tx w' plan v (h i + carried_in s i w.share.more at.slot (length c.args.into.now)) in
+    let Y : ℕ → Type 0 = λ v. placed_in g.C.Tx w' plan (f' i) v in
+    on_ok_weaker c.pass.result
+    (λ now. placed_one (placed_in g.C.Tx) (held_in g.C.Tx) (meaning_in g.C.Tx) at.path plan c.args.self.now.list.items i w' f f' h h' c.requires.placed (subst Y one.left (subst X one.came (now (f i) (h i) one.was))))
+    c.pass.ensures.placed
+
+pub returns-clause-passes : goal.returns-clause-passes
+returns-clause-passes g c =
+    let s : FrameShape = g.S.Shape.shape in
+    let plan : Plan = plan_of c.args.clock.now in
+    let at = c.args.at in
+    let i : ℕ = c.args.trib in
+    let ws = c.args.self.now.list.items in
+    let w = c.index_mut-tributary.result.now in
+    let w' = c.pass.new.self in
+    let here = slice_get_read _ _ i _ refl (omega (arith, c.requires.trib, c.args.self.now.count)) c.index_mut-tributary.ensures.value in
+    let one = next_one g.met.S.Shape.is_frame c.args.self.now plan at i w (length c.pass.new.into) c.arriving-arriving.result here (omega (arith, c.requires.inside, g.met.S.Shape.len_is)) (c.pass.auto.into ∙ c.requires.len) c.requires.decided c.requires.placed c.arriving-arriving.ensures in
+    let u : ℕ = at.slot + at.len in
+    let f : ℕ → ℕ = came_at s at.path plan at.frame at.slot in
+    let f' : ℕ → ℕ = came_at s at.path plan at.frame u in
+    let h : ℕ → ℕ = read_to s at.path plan at.frame at.slot in
+    let h' : ℕ → ℕ = read_to s at.path plan at.frame u in
+    let new : Supply → ℕ → ℕ → Type 0 = passed_in g.C.Tx s i at.slot w w' c.pass.new.into in
+    let X : ℕ → Type 0 = λ v. Gains (meaning_in g.C.Tx w) plan (held_in g.C.Tx w) new (f i) v (h i) (g.F.Feed.inputs c.args.feed.now) (g.F.Feed.inputs c.pass.new.feed) in
+    on_ok_weaker c.pass.result
+    (λ gains. passes_one (placed_in g.C.Tx) (held_in g.C.Tx) (meaning_in g.C.Tx) at.path plan ws i w w' f f' h h' new (λ source. HoldsBitsOf s source at.frame at.slot c.pass.new.into i) _ _ c.args.self.now.disjoint here
+    (subst X one.came (gains (f i) (h i) one.was))
+    (λ supply is both.
+    let Y : ℕ → Type 0 = λ v. held_in g.C.Tx w' (below supply) (f' i) v in
+    let same : meaning_in g.C.Tx w' ≡ meaning_in g.C.Tx w = c.pass.ensures.same in
+    (subst Y one.left both.0, holds_from s at.path (map (meaning_in g.C.Tx) ws) plan supply at.frame at.slot i i w.share.more (meaning_in g.C.Tx w') c.pass.new.into is refl one.share.more (one.maker ∙ ap Some (sym same)) both.1)))
+    c.pass.ensures.gains
+
+pub returns-clause-keeps : goal.returns-clause-keeps
+returns-clause-keeps g c =
+    let w = c.index_mut-tributary.result.now in
+    let here = slice_get_read _ _ c.args.trib _ refl (omega (arith, c.requires.trib, c.args.self.now.count)) c.index_mut-tributary.ensures.value in
+    let share = c.requires.decided c.args.trib w here in
+    let Y : Bool → Type 0 = λ b. KeepsOthers g.S.Shape.shape c.args.trib b c.args.at.slot c.args.into.now c.pass.new.into in
+    on_ok_weaker c.pass.result (λ keeps. subst Y share.more keeps) c.pass.ensures.keeps
+
+pub returns-clause-halts : goal.returns-clause-halts
+returns-clause-halts g c =
+    let s : FrameShape = g.S.Shape.shape in
+    let plan : Plan = plan_of c.args.clock.now in
+    let at = c.args.at in
+    let i : ℕ = c.args.trib in
+    let ws = c.args.self.now.list.items in
+    let w = c.index_mut-tributary.result.now in
+    let here = slice_get_read _ _ i _ refl (omega (arith, c.requires.trib, c.args.self.now.count)) c.index_mut-tributary.ensures.value in
+    let one = next_one g.met.S.Shape.is_frame c.args.self.now plan at i w (length c.args.into.now) c.arriving-arriving.result here (omega (arith, c.requires.inside, g.met.S.Shape.len_is)) c.requires.len c.requires.decided c.requires.placed c.arriving-arriving.ensures in
+    let u : ℕ = at.slot + at.len in
+    let f : ℕ → ℕ = came_at s at.path plan at.frame at.slot in
+    let f' : ℕ → ℕ = came_at s at.path plan at.frame u in
+    let m : Meaning = meaning_in g.C.Tx w in
+    let X : ℕ → Type 0 = λ v. Halts m plan (f i) v Failed (g.F.Feed.inputs c.args.feed.now) (g.F.Feed.inputs c.pass.new.feed) in
+    let Y : ℕ → Type 0 = λ v. Halts m plan v (f' i) Failed (g.F.Feed.inputs c.args.feed.now) (g.F.Feed.inputs c.pass.new.feed) in
+    on_err_weaker c.pass.result
+    (λ halts. stays_one (held_in g.C.Tx) (meaning_in g.C.Tx) plan (map (meaning_in g.C.Tx) ws) i m (made_through s plan at i) f' Failed _ _ c.args.self.now.disjoint one.maker
+    (λ k leaf. given_more (meaning_in g.C.Tx) plan ws (made_through s plan at i) f' k (λ v n k. g.met.C.Tx.grows v.child plan n k) (λ j. upto_most f f' i j (came_grows s (plan.counts at.path j) at.frame at.slot u g.met.S.Shape.is_frame (omega arith))))
+    (subst Y (sym (upto_here f f' i)) (subst X one.came (halts (f i) (read_to s at.path plan at.frame at.slot i) one.was))))
+    c.pass.ensures.halts
+
+pub returns-clause-same : goal.returns-clause-same
+returns-clause-same g c =
+    map-set_same (meaning_in g.C.Tx) c.args.self.now.list.items c.args.trib c.pass.new.self c.index_mut-tributary.result.now (c.pass.ensures.same ∙ ap (meaning_in g.C.Tx) c.index_mut-tributary.ensures.value)
+
+pub returns-clause-shares : goal.returns-clause-shares
+returns-clause-shares g c =
+    map-set_same share_in c.args.self.now.list.items c.args.trib c.pass.new.self c.index_mut-tributary.result.now (c.pass.ensures.share ∙ ap share_in c.index_mut-tributary.ensures.value)
+
+pub invariant_of-self-clause-count : goal.invariant_of-self-clause-count
+invariant_of-self-clause-count g c = length-set c.args.self.now.list.items c.args.trib c.pass.new.self ∙ c.args.self.now.count
+
+pub invariant_of-self-clause-disjoint : goal.invariant_of-self-clause-disjoint
+invariant_of-self-clause-disjoint g c =
+    subst IsDisjoint (sym (map-set_same (meaning_in g.C.Tx) c.args.self.now.list.items c.args.trib c.pass.new.self c.index_mut-tributary.result.now (c.pass.ensures.same ∙ ap (meaning_in g.C.Tx) c.index_mut-tributary.ensures.value))) c.args.self.now.disjoint
+
+pub invariant_of-self-clause-room : goal.invariant_of-self-clause-room
+invariant_of-self-clause-room g c =
+    let queue = c.args.self.now.queue in
+    let new : List Bool = c.pass.new.queue in
+    let same : length new ≡ length queue.items = c.pass.auto.queue ∙ ap length c.deref_mut.ensures.value in
+    let rest : List Bool = drop (length new) queue.items in
+    let all : length (new ++ rest) ≡ length queue.items = omega (arith, same, length-append new rest, length-drop (length new) queue.items) in
+    let kept : length (take queue.len (new ++ rest)) ≡ length queue.items = length-take-le queue.len (new ++ rest) (omega (arith, queue.ok.0, all)) ∙ omega (arith, queue.ok.0) in
+    omega (arith, kept, c.args.self.now.room)

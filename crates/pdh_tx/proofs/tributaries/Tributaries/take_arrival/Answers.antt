@@ -1,0 +1,132 @@
+use Rattle.std.proofs.Common.{rules, ◌≡◌, ◌<◌, ℕ, suc, length, map, true, false, refl, sym, ap, ◌∙◌, subst, arith, Some, slice_get}
+use Rattle.std.proofs.lemmas.Option.{slice_get_read, slice_get-map}
+use Rattle.std.proofs.lemmas.List.{length-map, length-set}
+use Rattle.std.proofs.Math.Seq.{map-set_same}
+use Rattle.pdh_shape.specs.Frame.{FrameShape}
+use Rattle.pdh_line.specs.Sending.{arrives_at, came_before}
+use Rattle.pdh_line.proofs.SendingLaws.{came_before_grows}
+use Rattle.pdh_tx.specs.Meaning.{plan_of, Plan}
+use Rattle.pdh_tx.specs.Held.{Gains, Halts}
+use Rattle.pdh_tx.specs.Tributary.{placed_in, held_in, meaning_in, share_in}
+use Rattle.pdh_tx.specs.Node.{read_to, IsDisjoint}
+use Rattle.pdh_tx.specs.Node.{IsDisjoint}
+use Rattle.pdh_tx.proofs.Gaining.{on_ok_three, if_err_two}
+use Rattle.pdh_tx.proofs.Moving.{leaf_of}
+use Rattle.pdh_tx.proofs.Advancing.{upto_here, advance_one, advance_idle, blocked_one}
+use Rattle.pdh_tx.proofs.Arriving.{came_arrives, came_same, no_arrival, arrival_same}
+use Rattle.pdh_tx.proofs.tributaries.Tributaries.take_arrival.Goals as goal
+
+pub returns-then-not-arrives-clause-ok : goal.returns-then-not-arrives-clause-ok
+returns-then-not-arrives-clause-ok g c =
+    let s : FrameShape = g.S.Shape.shape in
+    let plan : Plan = plan_of c.args.clock.now in
+    let ws = c.args.self.now.list.items in
+    let counts : ℕ → ℕ → ℕ = plan.counts c.args.path in
+    let within : c.args.trib < length ws = omega (arith, c.requires.trib, c.args.self.now.count) in
+    let at : slice_get ws c.args.trib ≡ Some c.index.result.now = slice_get_read _ _ c.args.trib _ refl within c.index.ensures in
+    let share = c.requires.decided c.args.trib _ at in
+    let none : arrives_at s (counts c.args.trib c.args.frame) c.args.slot ≡ false = (let off : c.arrives.result ≡ false = search rules in ap (λ n. arrives_at s n c.args.slot) (sym share.arriving) ∙ sym c.arrives.ensures ∙ off) in
+    advance_idle (placed_in g.C.Tx) (held_in g.C.Tx) (meaning_in g.C.Tx) plan _ ws c.args.trib
+    (λ j. came_before s (counts j) c.args.frame c.args.slot) (λ j. came_before s (counts j) c.args.frame (suc c.args.slot)) _ _ _ (length-map ws (meaning_in g.C.Tx))
+    (came_same s (counts c.args.trib) c.args.frame c.args.slot g.met.S.Shape.is_frame share.fits none) c.requires.placed (λ size. no_arrival s c.args.path plan _ size c.args.frame c.args.slot c.args.trib none)
+
+pub arrives-requires-clause-fits : goal.arrives-requires-clause-fits
+arrives-requires-clause-fits g c =
+    let ws = c.args.self.now.list.items in
+    let within : c.args.trib < length ws = omega (arith, c.requires.trib, c.args.self.now.count) in
+    let at : slice_get ws c.args.trib ≡ Some c.index.result.now = slice_get_read _ _ c.args.trib _ refl within c.index.ensures in
+    let share = c.requires.decided c.args.trib _ at in
+    omega (arith, share.fits, share.arriving, g.met.S.Shape.len_is)
+
+pub arrive-requires-clause-lists : goal.arrive-requires-clause-lists
+arrive-requires-clause-lists g c k leaf =
+    let within : c.args.trib < length c.args.self.now.list.items = omega (arith, c.requires.trib, c.args.self.now.count) in
+    let at : slice_get c.args.self.now.list.items c.args.trib ≡ Some c.index_mut.result.now = slice_get_read _ _ c.args.trib _ refl within c.index_mut.ensures.value in
+    c.requires.fed.lists k (leaf_of _ c.args.trib k (meaning_in g.C.Tx c.index_mut.result.now) (slice_get-map (meaning_in g.C.Tx) c.args.self.now.list.items c.args.trib ∙ rw at refl) leaf)
+
+pub arrive-requires-clause-nodes : goal.arrive-requires-clause-nodes
+arrive-requires-clause-nodes g c =
+    let within : c.args.trib < length c.args.self.now.list.items = omega (arith, c.requires.trib, c.args.self.now.count) in
+    let at : slice_get c.args.self.now.list.items c.args.trib ≡ Some c.index_mut.result.now = slice_get_read _ _ c.args.trib _ refl within c.index_mut.ensures.value in
+    c.requires.fed.nodes c.args.trib (meaning_in g.C.Tx c.index_mut.result.now) (slice_get-map (meaning_in g.C.Tx) c.args.self.now.list.items c.args.trib ∙ rw at refl)
+
+pub arrive-requires-clause-placed : goal.arrive-requires-clause-placed
+arrive-requires-clause-placed g c =
+    let within : c.args.trib < length c.args.self.now.list.items = omega (arith, c.requires.trib, c.args.self.now.count) in
+    let at : slice_get c.args.self.now.list.items c.args.trib ≡ Some c.index_mut.result.now = slice_get_read _ _ c.args.trib _ refl within c.index_mut.ensures.value in
+    (_, _, c.requires.placed c.args.trib _ at)
+
+pub returns-clause-ok : goal.returns-clause-ok
+returns-clause-ok g c =
+    let s : FrameShape = g.S.Shape.shape in
+    let plan : Plan = plan_of c.args.clock.now in
+    let counts : ℕ → ℕ → ℕ = plan.counts c.args.path in
+    let i : ℕ = c.args.trib in
+    let n : ℕ = c.args.frame in
+    let t : ℕ = c.args.slot in
+    let ws = c.args.self.now.list.items in
+    let w = c.index_mut.result.now in
+    let w' = c.arrive.new.self in
+    let within : i < length ws = omega (arith, c.requires.trib, c.args.self.now.count) in
+    let read : slice_get ws i ≡ Some c.index.result.now = slice_get_read _ _ i _ refl within c.index.ensures in
+    let share = c.requires.decided i _ read in
+    let is : arrives_at s (counts i n) t ≡ true = (let on : c.arrives.result ≡ true = search rules in ap (λ n. arrives_at s n t) (sym share.arriving) ∙ sym c.arrives.ensures ∙ on) in
+    let at : slice_get ws i ≡ Some w = slice_get_read _ _ i _ refl within c.index_mut.ensures.value in
+    let placed : _ → Plan → ℕ → ℕ → Type 0 = placed_in g.C.Tx in
+    let held : _ → _ → ℕ → ℕ → Type 0 = held_in g.C.Tx in
+    let f : ℕ → ℕ = λ j. came_before s (counts j) n t in
+    let h : ℕ → ℕ = λ j. came_before s (counts j) n (suc t) in
+    let step : suc (f i) ≡ h i = came_arrives s (counts i) n t g.met.S.Shape.is_frame share.fits is in
+    let P : ℕ → Type 0 = λ v. placed w plan v (read_to s c.args.path plan n t i) in
+    let was : placed w plan (f i) (read_to s c.args.path plan n t i) = subst P (upto_here f h i) (c.requires.placed i w at) in
+    let Q : ℕ → Type 0 = λ v. placed w' plan v (read_to s c.args.path plan n t i) in
+    let R : ℕ → Type 0 = λ v. Gains (meaning_in g.C.Tx w) plan (held w) (held w') (f i) v (read_to s c.args.path plan n t i) (g.F.Feed.inputs c.args.feed.now) (g.F.Feed.inputs c.arrive.new.feed) in
+    on_ok_three c.arrive.result c.arrive.ensures.placed c.arrive.ensures.gains c.arrive.ensures.free
+    (λ place gains free.
+    advance_one placed held (meaning_in g.C.Tx) plan ws i w w' f h _ _ _ _ c.args.self.now.disjoint at (length-set ws i w') c.requires.placed
+    (subst Q step (place (f i) _ was)) (subst R step (gains (f i) _ was))
+    (λ size fit. arrival_same s c.args.path plan (map (meaning_in g.C.Tx) ws) size n t i (length w.store) (g.C.Tx.meaning w.child) is
+    (slice_get-map (meaning_in g.C.Tx) ws i ∙ rw at refl) was.count ∙ free (f i) _ was size fit))
+
+pub returns-clause-err : goal.returns-clause-err
+returns-clause-err g c =
+    let s : FrameShape = g.S.Shape.shape in
+    let plan : Plan = plan_of c.args.clock.now in
+    let counts : ℕ → ℕ → ℕ = plan.counts c.args.path in
+    let i : ℕ = c.args.trib in
+    let n : ℕ = c.args.frame in
+    let t : ℕ = c.args.slot in
+    let ws = c.args.self.now.list.items in
+    let w = c.index_mut.result.now in
+    let within : i < length ws = omega (arith, c.requires.trib, c.args.self.now.count) in
+    let read : slice_get ws i ≡ Some c.index.result.now = slice_get_read _ _ i _ refl within c.index.ensures in
+    let share = c.requires.decided i _ read in
+    let is : arrives_at s (counts i n) t ≡ true = (let on : c.arrives.result ≡ true = search rules in ap (λ n. arrives_at s n t) (sym share.arriving) ∙ sym c.arrives.ensures ∙ on) in
+    let at : slice_get ws i ≡ Some w = slice_get_read _ _ i _ refl within c.index_mut.ensures.value in
+    let placed : _ → Plan → ℕ → ℕ → Type 0 = placed_in g.C.Tx in
+    let held : _ → _ → ℕ → ℕ → Type 0 = held_in g.C.Tx in
+    let f : ℕ → ℕ = λ j. came_before s (counts j) n t in
+    let h : ℕ → ℕ = λ j. came_before s (counts j) n (suc t) in
+    let step : suc (f i) ≡ h i = came_arrives s (counts i) n t g.met.S.Shape.is_frame share.fits is in
+    let P : ℕ → Type 0 = λ v. placed w plan v (read_to s c.args.path plan n t i) in
+    let was : placed w plan (f i) (read_to s c.args.path plan n t i) = subst P (upto_here f h i) (c.requires.placed i w at) in
+    if_err_two c.arrive.result _ _ _ c.arrive.ensures.halts c.arrive.ensures.met
+    (λ stop halts met.
+    let R : ℕ → Type 0 = λ v. Halts (meaning_in g.C.Tx w) plan (f i) v stop (g.F.Feed.inputs c.args.feed.now) (g.F.Feed.inputs c.arrive.new.feed) in
+    blocked_one placed held (meaning_in g.C.Tx) plan ws i w f h _ _ stop _ _ _ _ c.args.self.now.disjoint at (λ v n k. g.met.C.Tx.grows v.child plan n k) (λ j. came_before_grows s (counts j) n t g.met.S.Shape.is_frame)
+    (subst R step (halts (f i) _ was)) (met (f i) _ was)
+    (λ size. arrival_same s c.args.path plan (map (meaning_in g.C.Tx) ws) size n t i (length w.store) (g.C.Tx.meaning w.child) is
+    (slice_get-map (meaning_in g.C.Tx) ws i ∙ rw at refl) was.count))
+
+pub returns-clause-same : goal.returns-clause-same
+returns-clause-same g c = map-set_same (meaning_in g.C.Tx) c.args.self.now.list.items c.args.trib c.arrive.new.self c.index_mut.result.now (c.arrive.ensures.same ∙ ap (meaning_in g.C.Tx) c.index_mut.ensures.value)
+
+pub returns-clause-shares : goal.returns-clause-shares
+returns-clause-shares g c = map-set_same share_in c.args.self.now.list.items c.args.trib c.arrive.new.self c.index_mut.result.now (c.arrive.ensures.share ∙ ap share_in c.index_mut.ensures.value)
+
+pub invariant_of-self-clause-count : goal.invariant_of-self-clause-count
+invariant_of-self-clause-count g c = length-set c.args.self.now.list.items c.args.trib c.arrive.new.self ∙ c.args.self.now.count
+
+pub invariant_of-self-clause-disjoint : goal.invariant_of-self-clause-disjoint
+invariant_of-self-clause-disjoint g c =
+    subst IsDisjoint (sym (map-set_same (meaning_in g.C.Tx) c.args.self.now.list.items c.args.trib c.arrive.new.self c.index_mut.result.now (c.arrive.ensures.same ∙ ap (meaning_in g.C.Tx) c.index_mut.ensures.value))) c.args.self.now.disjoint

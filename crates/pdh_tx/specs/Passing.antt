@@ -1,0 +1,106 @@
+-- Many slots of a node's frame at once.
+use Rattle.std.specs.Prelude.{◌≡◌, ℕ, suc, ◌+◌, ◌-◌, ◌<◌, ◌≤◌, ◌^◌, Bool, true, false, nat_lt, List, [], length, None, if◌then◌else◌}
+use Rattle.std.specs.List.{slice_index_or}
+use Rattle.pdh_edge.specs.Ports.{Inputs, Takes}
+use Rattle.pdh_shape.specs.declared.place.Path.{Path}
+use Rattle.pdh_shape.specs.Frame.{FrameShape}
+use Rattle.pdh_shape.specs.Tributary.{reads_from, reads_below}
+use Rattle.pdh_shape.specs.OwnNumbers.{store_size}
+use Rattle.pdh_line.specs.Sending.{Source, sends_more, input_bit, slot_bit, odd_before}
+use Rattle.pdh_tx.specs.declared.pieces.Piece.{Piece}
+use Rattle.pdh_tx.specs.declared.tributary.Tributary.{Tributary}
+use Rattle.pdh_tx.specs.declared.tx.Tx.{Ghosts}
+use Rattle.pdh_tx.specs.Making.{IsClear}
+use Rattle.pdh_tx.specs.Meaning.{Plan, Supply, Meaning, Agrees}
+use Rattle.pdh_shape.specs.declared.role.Service.{Service}
+use Rattle.pdh_tx.specs.declared.tributary.FrameShare.{FrameShare}
+use Rattle.pdh_tx.specs.Held.{Held, first_some}
+use Rattle.pdh_tx.specs.Node.{below, source_of, any_leaf, given_by, AllFit, steps, taken_to, read_to, EachPlaced, IsDecided, EachHeld, came_at}
+use Rattle.pdh_slots.specs.Slots.{Writes}
+
+-- numbers of which the first i are others
+abbrev pub up_to : (ℕ → ℕ) → (ℕ → ℕ) → ℕ → ℕ → ℕ
+up_to f g i j = (if nat_lt j i then g j else f j)
+
+-- how many bits of tributary j are taken, where the first i tributaries have passed their bits of a piece
+abbrev pub made_through : FrameShape → Plan → Piece → ℕ → ℕ → ℕ
+made_through s plan at = up_to (came_at s at.path plan at.frame at.slot) (came_at s at.path plan at.frame (at.slot + at.len))
+
+-- and how many are read
+abbrev pub read_through : FrameShape → Plan → Piece → ℕ → ℕ → ℕ
+read_through s plan at = up_to (read_to s at.path plan at.frame at.slot) (read_to s at.path plan at.frame (at.slot + at.len))
+
+-- nothing stands in the way of tributary j in a piece
+pub record CanPass (s : FrameShape) (plan : Plan) (at : Piece) (j : ℕ) (m : Meaning) (inputs : Inputs) : Type 0 where
+  -- none of its child's bits
+  pub clear : IsClear m plan (came_at s at.path plan at.frame at.slot j) (came_at s at.path plan at.frame (at.slot + at.len) j) inputs
+  -- the bits that the piece carries are there
+  pub enough : read_to s at.path plan at.frame (at.slot + at.len) j ≤ came_at s at.path plan at.frame (at.slot + at.len) j
+  -- and its store holds those that are left over
+  pub few : came_at s at.path plan at.frame at.slot j ≤ read_to s at.path plan at.frame at.slot j + store_size
+      → came_at s at.path plan at.frame (at.slot + at.len) j ≤ read_to s at.path plan at.frame (at.slot + at.len) j + store_size
+
+-- how many slots of a piece of a frame, from slot `first` on, carry a bit of tributary j
+abbrev pub carried_in : FrameShape → ℕ → Bool → ℕ → ℕ → ℕ
+carried_in s j more first len = reads_below s j more (first + len) - reads_below s j more first
+
+-- what a tributary holds, where so many of its bits went into the slots of a piece of a frame, and these slots
+abbrev pub HeldAndWritten : {C : Type 0} → (C → Supply → ℕ → Type 0) → (C → Meaning) → FrameShape → ℕ → Bool → ℕ → C → List Bool → List Bool → ℕ → Supply → ℕ → ℕ → Type 0
+HeldAndWritten stands_for meaning s j more first child store bits gone supply made read =
+    Held stands_for meaning child store supply made (read + gone) × Writes s j more first ((meaning child).line supply) read bits
+
+-- the same, of tributary j in a frame in progress, before and after the bits of a piece went into their slots
+abbrev pub passed_in : {C : Type 0} → Ghosts C → FrameShape → ℕ → ℕ → Tributary C → Tributary C → List Bool → Supply → ℕ → ℕ → Type 0
+passed_in tx s j first old new bits =
+    HeldAndWritten tx.stands_for tx.meaning s j old.share.more first new.child new.store bits (carried_in s j old.share.more first (length bits))
+
+-- the slots of a piece of frame n that carry a bit of tributary j hold it
+abbrev pub HoldsBitsOf : FrameShape → Source → ℕ → ℕ → List Bool → ℕ → Type 0
+HoldsBitsOf s source n first bits j =
+    (v : ℕ) → v < length bits → reads_from j (sends_more s (source.counts j) n) (s.role (first + v)) ≡ true → slice_index_or bits v false ≡ input_bit s source n (first + v) j
+
+-- those of the first i tributaries
+abbrev pub HoldsBits : FrameShape → Source → ℕ → ℕ → List Bool → ℕ → Type 0
+HoldsBits s source n first bits i = (j : ℕ) → j < i → HoldsBitsOf s source n first bits j
+
+-- a slot that carries a bit of none of the first i tributaries is as before
+abbrev pub KeepsSlots : FrameShape → Path → Plan → ℕ → ℕ → List Bool → List Bool → ℕ → Type 0
+KeepsSlots s path plan n first old new i =
+    (v : ℕ) → v < length old → ((j : ℕ) → j < i → reads_from j (sends_more s (plan.counts path j) n) (s.role (first + v)) ≡ false) → slice_index_or new v false ≡ slice_index_or old v false
+
+-- Tributaries took bits of their children, and bits of them were read. `written` tells what was written, by what decides
+-- the node's line.
+pub record Passes {W : Type 0} (held : W → Supply → ℕ → ℕ → Type 0) (path : Path) (ms : List Meaning) (plan : Plan) (old new : List W) (made more gone left : ℕ → ℕ) (before after : Inputs) (written : Source → Type 0) : Type 0 where
+  pub given : ℕ → List Bool
+  pub takes : Takes given before after
+  pub others : (k : ℕ) → any_leaf ms k ≡ false → given k ≡ []
+  pub exact : (k : ℕ) → any_leaf ms k ≡ true → given_by ms plan made k + length (given k) ≡ given_by ms plan more k
+  pub onward : (supply : Supply) → supply.plan ≡ plan → EachHeld held old (below supply) made gone → Agrees (any_leaf ms) supply.lists (given_by ms plan made) given
+      → EachHeld held new (below supply) more left × written (source_of path ms supply)
+
+-- nothing stands in the way of so many slots of frame n, from slot t on, where the tributaries have made so many bits
+pub record StepsClear (s : FrameShape) (path : Path) (plan : Plan) (ms : List Meaning) (n t len : ℕ) (made : ℕ → ℕ) (inputs : Inputs) : Type 0 where
+  -- how many bits the leaves' lists hold in all
+  pub size : ℕ → ℕ
+  pub fits : AllFit ms plan made inputs size
+  pub clear : (v : ℕ) → v < len → first_some (steps s path plan ms size n (t + v)) ≡ None
+
+-- the bits of a piece of frame n are those of the line that this source decides
+abbrev pub HoldsLine : FrameShape → Source → ℕ → ℕ → List Bool → Type 0
+HoldsLine s source n t bits = (v : ℕ) → v < length bits → slice_index_or bits v false ≡ slot_bit s source n (t + v) (s.role (t + v))
+
+-- The tributaries made the bits of frame n from slot t to slot u, with all their steps, where the frame says `say` and `odd`
+-- is whether the information and justifiable slots of the frame before hold an odd number of ones.
+pub record MakesPiece {W : Type 0} (placed : W → Plan → ℕ → ℕ → Type 0) (held : W → Supply → ℕ → ℕ → Type 0) (share : W → FrameShare) (ms : List Meaning) (s : FrameShape) (path : Path) (plan : Plan) (old new : List W) (n t u : ℕ)
+    (say : Service) (odd : Bool) (bits : List Bool) (before after : Inputs) : Type 0 where
+  pub given : ℕ → List Bool
+  pub takes : Takes given before after
+  pub others : (k : ℕ) → any_leaf ms k ≡ false → given k ≡ []
+  pub exact : (k : ℕ) → any_leaf ms k ≡ true → given_by ms plan (taken_to s path plan n t) k + length (given k) ≡ given_by ms plan (came_at s path plan n u) k
+  pub place : EachPlaced placed new plan (came_at s path plan n u) (read_to s path plan n u)
+  pub decided : IsDecided share s path plan n new
+  pub scheduled : n < plan.frames path
+  pub bounded : suc n < 2 ^ 64
+  pub onward : (supply : Supply) → supply.plan ≡ plan → EachHeld held old (below supply) (taken_to s path plan n t) (read_to s path plan n t) → supply.says n ≡ say → odd ≡ odd_before s (source_of path ms supply) n
+      → Agrees (any_leaf ms) supply.lists (given_by ms plan (taken_to s path plan n t)) given
+      → HoldsLine s (source_of path ms supply) n t bits × EachHeld held new (below supply) (came_at s path plan n u) (read_to s path plan n u)

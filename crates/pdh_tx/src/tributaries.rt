@@ -1,0 +1,91 @@
+ghost use Rattle.std.specs.Prelude.{◌≡◌, ◌<◌, ◌≤◌, ◌+◌, ◌==◌, false, All, [], length, map, IfOk};
+ghost use Rattle.pdh_shape.specs.OwnNumbers.{store_size};
+ghost use Rattle.pdh_tx.specs.Tributary.{meaning_in, child_in};
+ghost use Rattle.pdh_tx.specs.Node.{IsDisjoint};
+
+use crate::Tx;
+use crate::tributary::{FrameShare, Tributary};
+use pdh_shape::{STORE_SIZE, Shape};
+use pdh_slots::SlotTables;
+use pdh_store::Store;
+use std::alloc::{AllocError, Global};
+use std::rc::Rc;
+
+/// The tributaries of a node, one for each of its shape's, and what they pass their bits by.
+pub struct Tributaries<S: Shape, C: Tx> {
+    /// In order.
+    pub list: Vec<Tributary<C>>,
+    /// What the slots of the node's frame carry, which nodes with such frames share.
+    pub tables: Rc<SlotTables<S>>,
+    /// Room for the bits that a frame brings of a tributary, behind those that its store holds.
+    pub queue: Vec<bool>,
+    ghost count: { length list.items ≡ S.TRIBS },
+    ghost stores: { (S.shape.copies == 0) ≡ false },
+    ghost disjoint: { IsDisjoint (map (meaning_in C.Tx) list.items) },
+    ghost room: { S.LEN + store_size ≤ length queue.items },
+}
+
+impl<S: Shape, C: Tx> Drop for Tributaries<S, C> {
+    fn drop(self) {
+        let Self {
+            list: _,
+            tables: _,
+            queue: _,
+        } = self;
+    }
+}
+
+// Gives each child an empty store.
+fn join<C: Tx>(alloc: Global, children: Vec<C>) -> Result<Vec<Tributary<C>>, AllocError>
+    ensures children { IfOk result (λ tributaries.
+        map child_in tributaries.items ≡ children.items) }
+    ensures empty { IfOk result (λ tributaries.
+        All (λ tributary. tributary.store ≡ []) tributaries.items) }
+{
+    let mut tributaries = Vec::with_capacity(alloc, children.len())?;
+    for child in children {
+        let store = Store::open(alloc)?;
+        let share = FrameShare {
+            arriving: 0,
+            more: false,
+        };
+        tributaries.push(Tributary {
+            child,
+            store,
+            share,
+        })?;
+    }
+    Ok(tributaries)
+}
+
+// Room for so many bits behind those that a store holds.
+fn empty_queue(alloc: Global, len: u32) -> Result<Vec<bool>, AllocError>
+    ensures { IfOk result (λ queue. len + store_size ≤ length queue.items) }
+{
+    vec![in alloc; false; len as usize + STORE_SIZE]
+}
+
+impl<S: Shape, C: Tx> Tributaries<S, C> {
+    /// Gives each child an empty store; or it finds no memory.
+    pub fn open(
+        alloc: Global,
+        tables: Rc<SlotTables<S>>,
+        children: Vec<C>,
+    ) -> Result<Tributaries<S, C>, AllocError>
+        requires count { length children.items ≡ S.TRIBS }
+        requires stores { 0 < S.COPIES }
+        requires disjoint { IsDisjoint (map C.meaning children.items) }
+        ensures children { IfOk result (λ tributaries.
+            map child_in tributaries.list.items ≡ children.items) }
+        ensures empty { IfOk result (λ tributaries.
+            All (λ tributary. tributary.store ≡ []) tributaries.list.items) }
+    {
+        let list = join(alloc, children)?;
+        let queue = empty_queue(alloc, S::LEN)?;
+        Ok(Tributaries {
+            list,
+            tables,
+            queue,
+        })
+    }
+}
