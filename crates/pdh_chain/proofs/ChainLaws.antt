@@ -1,6 +1,6 @@
 -- What holds of every chain, by the tests that its stages and its entry in the list have passed.
-use Rattle.std.proofs.Common.{◌≡◌, ◌*◌, ◌/◌, ◌%◌, ◌<◌, ◌≤◌, leb-true, List, [], ◌∷◌, length, map, All, refl, sym, ap, ◌∙◌, arith}
-use Rattle.std.proofs.lemmas.Bool.{and_parts, eqb-true, ltb-true, not-true}
+use Rattle.std.proofs.Common.{◌≡◌, ◌*◌, ◌==◌, cond, ◌/◌, ◌%◌, ◌<◌, ◌≤◌, leb-true, List, [], ◌∷◌, length, map, drop, All, refl, sym, ap, ◌∙◌, inl, inr, arith, true}
+use Rattle.std.proofs.lemmas.Bool.{cases_Bool, and_parts, eqb-true, ltb-true, not-true}
 use Rattle.std.proofs.lemmas.Nat.{div-add-mod'}
 use Rattle.std.proofs.Math.Nat.{mul-le-mul}
 use Rattle.std.proofs.lemmas.List.Elements.{All-nil, All-cons}
@@ -8,14 +8,16 @@ use Rattle.std.proofs.lemmas.List.{length-map}
 use Rattle.pdh_shape.specs.declared.place.Level.{Level}
 use Rattle.pdh_shape.specs.laws.LawsOfTest.{laws-is_frame, laws-has_tributaries, laws-reads_evenly}
 use Rattle.pdh_line.specs.Sending.{HasStores, shape_numbers}
-use Rattle.pdh_levels.specs.Levels.{IsLevel, AreLevels, level_numbers, numbers_of as numbers_in}
+use Rattle.pdh_levels.specs.Levels.{IsLevel, IsElastic, AreLevels, level_numbers, numbers_of as numbers_in, shortest_frame}
 use Rattle.pdh_clock.specs.Made.{IsRated}
-use Rattle.pdh_nesting.specs.Chains.{numbers_of, width, top_len, AreFrames, ReadEvenly, AllStores}
-use Rattle.pdh_chain.specs.Stages.{Stage, level_of, frames_of}
+use Rattle.pdh_nesting.specs.Chains.{numbers_of, width, top_len, AreFrames, ReadEvenly}
+use Rattle.pdh_tx.specs.Meaning.{HasNumbers}
+use Rattle.pdh_chain.specs.Stages.{Stage, level_of, frames_of, have_stores, carries_exactly, carries_between}
 use Rattle.pdh_line.specs.Nodes.{width as width_of, top_len as top_len_of, delay_of as delay_by}
 use Rattle.pdh_chain.specs.Chains.{listed, name_of, shapes_of, levels_of, leaves_of, frame_bytes_of, delay_of}
 use Rattle.pdh_chain.specs.Trees.{AreLevelsOf}
 use Rattle.pdh_chain.specs.declared.chain.Chain.{Chain}
+use Rattle.pdh_chain.proofs.LevelNumbers.{same_width, same_len, same_delay}
 
 -- ---- a stage
 
@@ -33,31 +35,32 @@ stage_numbers stage =
     let b = and_parts _ _ a.1 in
     let c = and_parts _ _ b.1 in
     let d = and_parts _ _ c.1 in
-    let e = and_parts _ _ d.1 in
+    let low : IsLow (level_of stage) = ltb-true _ _ d.1 in
     record {
-      level = record { shortest = leb-true _ _ b.0; longest = leb-true _ _ c.0; fewest = leb-true _ _ d.0; most = leb-true _ _ e.0; stores = not-true _ a.0 };
-      low = ltb-true _ _ e.1;
+      level = record { shortest = leb-true _ _ a.0; longest = leb-true _ _ b.0; fewest = leb-true _ _ c.0; most = leb-true _ _ d.0; carried = λ locked. low };
+      low = low;
     }
-
-stage_stores : (stage : Stage) → HasStores stage.frame
-stage_stores stage = (stage_numbers stage).level.stores
 
 stage_rated : (stage : Stage) → IsRated (level_of stage)
 stage_rated stage =
+    let level : Level = level_of stage in
     let a = and_parts _ _ stage.rated in
     let b = and_parts _ _ a.1 in
     let c = and_parts _ _ b.1 in
     let d = and_parts _ _ c.1 in
     let e = and_parts _ _ d.1 in
-    let f = and_parts _ _ e.1 in
+    let carries : cond level.locked (carries_exactly level) (carries_between level) ≡ true = e.1 in
+    let between : IsElastic level → carries_between level ≡ true = λ elastic. sym (ap (λ b. cond b (carries_exactly level) (carries_between level)) elastic) ∙ carries in
+    let exactly : level.locked ≡ true → carries_exactly level ≡ true = λ locked. sym (ap (λ b. cond b (carries_exactly level) (carries_between level)) locked) ∙ carries in
     record {
       some_rate = ltb-true _ _ a.0;
       few = ltb-true _ _ b.0;
       half = leb-true _ _ c.0;
       offset = leb-true _ _ d.0;
       trib_offset = leb-true _ _ e.0;
-      least = leb-true _ _ f.0;
-      most = leb-true _ _ f.1;
+      least = λ elastic. leb-true _ _ (and_parts _ _ (between elastic)).0;
+      most = λ elastic. leb-true _ _ (and_parts _ _ (between elastic)).1;
+      exact = λ locked. eqb-true _ _ (exactly locked);
     }
 
 -- ---- the stages of a chain
@@ -70,20 +73,35 @@ frames_even : (stages : List Stage) → ReadEvenly (frames_of stages)
 frames_even [] = tt
 frames_even (stage ∷ below) = (λ stores. laws-reads_evenly stage.frame stage.lawful, frames_even below)
 
-frames_stores : (stages : List Stage) → AllStores (frames_of stages)
-frames_stores [] = tt
-frames_stores (stage ∷ below) = (stage_stores stage, frames_stores below)
+stage_elastic : (stage : Stage) (below : List Stage) → have_stores (stage ∷ below) ≡ true → HasStores stage.frame
+stage_elastic stage below stores = not-true _ (and_parts _ _ stores).0
+
+all_elastic : (stages : List Stage) → have_stores stages ≡ true → All IsElastic (map level_of stages)
+all_elastic [] stores = All-nil IsElastic
+all_elastic (stage ∷ below) stores = All-cons IsElastic (level_of stage) (map level_of below) (stage_elastic stage below stores) (all_elastic below (and_parts _ _ stores).1)
+
+elastic_below : (stages : List Stage) → have_stores (drop 1 stages) ≡ true → All IsElastic (drop 1 (map level_of stages))
+elastic_below [] stores = All-nil IsElastic
+elastic_below (stage ∷ below) stores = all_elastic below stores
 
 all_levels : (P : Level → Type 0) → ((stage : Stage) → P (level_of stage)) → (stages : List Stage) → All P (map level_of stages)
 all_levels P each [] = All-nil P
 all_levels P each (stage ∷ below) = All-cons P (level_of stage) (map level_of below) (each stage) (all_levels P each below)
 
--- a level has the numbers of its frame
-same_numbers : (stages : List Stage) → AreLevelsOf (frames_of stages) (map level_of stages)
-same_numbers [] = refl
-same_numbers (stage ∷ below) =
-    let own : shape_numbers stage.frame ≡ level_numbers (level_of stage) = rw (stage_stores stage) refl in
-    ap (λ numbers. numbers ∷ numbers_of (frames_of below)) own ∙ ap (λ rest. level_numbers (level_of stage) ∷ rest) (same_numbers below)
+-- a level has the numbers of its frame,
+level_has : (stage : Stage) → HasNumbers (level_of stage) (shape_numbers stage.frame)
+level_has stage = record { len = refl; tribs = refl; low = refl; locked = elim (cases_Bool (stage.frame.copies == 0)) [ inl locked ↦ rw locked refl | inr stores ↦ rw stores refl ] }
+
+-- and stands for the same numbers where its nodes have stores
+same_below : (stages : List Stage) → have_stores stages ≡ true → numbers_of (frames_of stages) ≡ numbers_in (map level_of stages)
+same_below [] stores = refl
+same_below (stage ∷ below) stores =
+    let own : shape_numbers stage.frame ≡ level_numbers (level_of stage) = rw (stage_elastic stage below stores) refl in
+    ap (λ numbers. numbers ∷ numbers_of (frames_of below)) own ∙ ap (λ rest. level_numbers (level_of stage) ∷ rest) (same_below below (and_parts _ _ stores).1)
+
+same_numbers : (stages : List Stage) → have_stores (drop 1 stages) ≡ true → AreLevelsOf (frames_of stages) (map level_of stages)
+same_numbers [] stores = refl
+same_numbers (stage ∷ below) stores = (level_has stage, same_below below stores)
 
 -- ---- every chain
 
@@ -92,12 +110,6 @@ are_frames chain = frames_are (listed chain).stages
 
 pub read_evenly : (chain : Chain) → ReadEvenly (shapes_of chain)
 read_evenly chain = frames_even (listed chain).stages
-
-pub all_stores : (chain : Chain) → AllStores (shapes_of chain)
-all_stores chain = frames_stores (listed chain).stages
-
-pub are_levels_of : (chain : Chain) → AreLevelsOf (shapes_of chain) (levels_of chain)
-are_levels_of chain = same_numbers (listed chain).stages
 
 pub all_rated : (chain : Chain) → All IsRated (levels_of chain)
 all_rated chain = all_levels IsRated stage_rated (listed chain).stages
@@ -110,6 +122,7 @@ record Held (chain : Chain) : Type 0 where
   short : length (name_of chain) ≡ 3
   some : 1 ≤ length (listed chain).stages
   few : length (listed chain).stages ≤ 3
+  stores : have_stores (drop 1 (listed chain).stages) ≡ true
   leaves : leaves_of chain ≤ 64
   whole : top_len (shapes_of chain) % 8 ≡ 0
 
@@ -119,7 +132,11 @@ held chain =
     let b = and_parts _ _ a.1 in
     let c = and_parts _ _ b.1 in
     let d = and_parts _ _ c.1 in
-    record { short = eqb-true _ _ a.0; some = leb-true _ _ b.0; few = leb-true _ _ c.0; leaves = leb-true _ _ d.0; whole = eqb-true _ _ d.1 }
+    let e = and_parts _ _ d.1 in
+    record { short = eqb-true _ _ a.0; some = leb-true _ _ b.0; few = leb-true _ _ c.0; stores = d.0; leaves = leb-true _ _ e.0; whole = eqb-true _ _ e.1 }
+
+pub are_levels_of : (chain : Chain) → AreLevelsOf (shapes_of chain) (levels_of chain)
+are_levels_of chain = same_numbers (listed chain).stages (held chain).stores
 
 pub name_short : (chain : Chain) → length (name_of chain) ≡ 3
 name_short chain = (held chain).short
@@ -134,6 +151,7 @@ are_levels chain =
       some = omega (arith, count, (held chain).some);
       few = omega (arith, count, (held chain).few);
       each = all_levels IsLevel (λ stage. (stage_numbers stage).level) (listed chain).stages;
+      stores_below = elastic_below (listed chain).stages (held chain).stores;
     }
 
 pub few_shapes : (chain : Chain) → length (shapes_of chain) ≤ 3
@@ -152,7 +170,7 @@ pub some_leaves : (chain : Chain) → 0 < leaves_of chain
 some_leaves chain = some_width (listed chain).stages
 
 -- the top has a frame, which is whole bytes
-top_some : (stages : List Stage) → 1 ≤ length stages → 848 ≤ top_len (frames_of stages)
+top_some : (stages : List Stage) → 1 ≤ length stages → shortest_frame ≤ top_len (frames_of stages)
 top_some [] some = absurd (omega arith)
 top_some (stage ∷ below) some = (stage_numbers stage).level.shortest
 
@@ -168,10 +186,10 @@ some_bytes chain = omega (arith, whole_bytes chain, some_bits chain)
 -- ---- the same, by the numbers of its levels
 
 pub leaves-by_levels : (chain : Chain) (levels : List Level) → levels ≡ levels_of chain → width_of (numbers_in levels) ≡ leaves_of chain
-leaves-by_levels chain levels same = ap (λ ls. width_of (numbers_in ls)) same ∙ sym (ap width_of (are_levels_of chain))
+leaves-by_levels chain levels same = ap (λ ls. width_of (numbers_in ls)) same ∙ sym (same_width (shapes_of chain) (levels_of chain) (are_levels_of chain))
 
 pub bytes-by_levels : (chain : Chain) (levels : List Level) → levels ≡ levels_of chain → top_len_of (numbers_in levels) / 8 ≡ frame_bytes_of chain
-bytes-by_levels chain levels same = ap (λ ls. top_len_of (numbers_in ls) / 8) same ∙ sym (ap (λ numbers. top_len_of numbers / 8) (are_levels_of chain))
+bytes-by_levels chain levels same = ap (λ ls. top_len_of (numbers_in ls) / 8) same ∙ sym (ap (λ len. len / 8) (same_len (shapes_of chain) (levels_of chain) (are_levels_of chain)))
 
 pub delay-by_levels : (chain : Chain) (levels : List Level) → levels ≡ levels_of chain → delay_by (numbers_in levels) ≡ delay_of chain
-delay-by_levels chain levels same = ap (λ ls. delay_by (numbers_in ls)) same ∙ sym (ap delay_by (are_levels_of chain))
+delay-by_levels chain levels same = ap (λ ls. delay_by (numbers_in ls)) same ∙ sym (same_delay (shapes_of chain) (levels_of chain) (are_levels_of chain))

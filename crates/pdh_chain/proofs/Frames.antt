@@ -1,5 +1,5 @@
 -- Bits of a line that are made and put, one frame after another.
-use Rattle.std.proofs.Common.{◌≡◌, ℕ, suc, ◌+◌, ◌-◌, ◌*◌, ◌^◌, ◌<◌, ◌≤◌, min, Bool, true, false, List, [], ◌∷◌, ◌++◌, length, map, refl, sym, ap, subst, ◌∙◌, arith, inl, inr}
+use Rattle.std.proofs.Common.{◌≡◌, ℕ, suc, ◌+◌, ◌-◌, ◌*◌, ◌^◌, ◌<◌, ◌≤◌, min, Bool, true, false, List, [], ◌∷◌, ◌++◌, length, map, refl, sym, ap, subst, ◌∙◌, arith, inl, inr, Some}
 use Rattle.std.specs.List.{range_with_len}
 use Rattle.std.proofs.Math.ListN.{get_or-append}
 use Rattle.std.proofs.Math.Nat.{suc-mul, add-mul, mul-le-mul_right}
@@ -7,15 +7,14 @@ use Rattle.std.proofs.lemmas.Bool.{cases_lt}
 use Rattle.std.proofs.lemmas.List.{append-nil, length-append, map-append, get_or-append-add}
 use Rattle.pdh_edge.specs.Files.{Rose}
 use Rattle.pdh_edge.specs.Ports.{Inputs, Outputs, Puts, PutsPart, nothing}
-use Rattle.pdh_shape.specs.Frame.{idle}
 use Rattle.pdh_shape.specs.declared.role.Service.{Service}
 use Rattle.pdh_line.specs.Sending.{front}
 use Rattle.pdh_line.proofs.Ranges.{range_append}
 use Rattle.pdh_tx.specs.declared.tx.TxStop.{TxStop}
 use Rattle.pdh_tx.specs.Meaning.{Plan, Supply, Meaning, Fits, Agrees, Makes, Stops}
 use Rattle.pdh_tx.specs.Held.{IsPart, Halts}
-use Rattle.pdh_tx.specs.Making.{Stood, Gives, IsClear, MakesAll}
-use Rattle.pdh_chain.specs.Muxing.{as_line, IsFree, StopsAt, MakesBits, StopsMaking, Sends, StopsSending, FailsToSend, FailsToTake}
+use Rattle.pdh_tx.specs.Making.{Gives, IsClear, MakesAll}
+use Rattle.pdh_chain.specs.Muxing.{as_line, Stood, HasFrames, SayInFrames, IsFree, StopsAt, MakesBits, StopsMaking, Sends, StopsSending, FailsToSend, FailsToTake}
 use Rattle.pdh_chain.proofs.Lists.{takes_none, takes_then, puts_none, puts_then, puts_part}
 
 -- ---- what is taken
@@ -30,12 +29,12 @@ agrees_rest leaves lists from to g h exact all k leaf i lt =
     let at : from k + (length (g k) + i) ≡ to k + i = omega (arith, exact k leaf) in
     sym (get_or-append-add (g k) (h k) i false) ∙ all k leaf (length (g k) + i) (omega (arith, length-append (g k) (h k))) ∙ ap (lists k) at
 
-pub stood_first : (m : Meaning) (old : Supply → ℕ → Type 0) (plan : Plan) (a : ℕ) (g h : ℕ → List Bool) (supply : Supply) → Stood m old plan a (λ k. g k ++ h k) supply → Stood m old plan a g supply
-stood_first m old plan a g h supply s = record { plan_is = s.plan_is; idles = s.idles; stands = s.stands; agrees = agrees_first m.leaves supply.lists (m.given plan a) g h s.agrees }
+pub stood_first : (m : Meaning) (says : ℕ → Service) (old : Supply → ℕ → Type 0) (plan : Plan) (a : ℕ) (g h : ℕ → List Bool) (supply : Supply) → Stood m says old plan a (λ k. g k ++ h k) supply → Stood m says old plan a g supply
+stood_first m says old plan a g h supply s = record { plan_is = s.plan_is; said = s.said; stands = s.stands; agrees = agrees_first m.leaves supply.lists (m.given plan a) g h s.agrees }
 
-stood_rest : (m : Meaning) (old mid : Supply → ℕ → Type 0) (plan : Plan) (a b : ℕ) (g h : ℕ → List Bool) (x y : Inputs) (supply : Supply) → Gives m plan a b g x y → mid supply b → Stood m old plan a (λ k. g k ++ h k) supply
-    → Stood m mid plan b h supply
-stood_rest m old mid plan a b g h x y supply p here s = record { plan_is = s.plan_is; idles = s.idles; stands = here; agrees = agrees_rest m.leaves supply.lists (m.given plan a) (m.given plan b) g h p.exact s.agrees }
+stood_rest : (m : Meaning) (says : ℕ → Service) (old mid : Supply → ℕ → Type 0) (plan : Plan) (a b : ℕ) (g h : ℕ → List Bool) (x y : Inputs) (supply : Supply) → Gives m plan a b g x y → mid supply b → Stood m says old plan a (λ k. g k ++ h k) supply
+    → Stood m says mid plan b h supply
+stood_rest m says old mid plan a b g h x y supply p here s = record { plan_is = s.plan_is; said = s.said; stands = here; agrees = agrees_rest m.leaves supply.lists (m.given plan a) (m.given plan b) g h p.exact s.agrees }
 
 others_then : (m : Meaning) (g h : ℕ → List Bool) → ((k : ℕ) → m.leaves k ≡ false → g k ≡ []) → ((k : ℕ) → m.leaves k ≡ false → h k ≡ []) → (k : ℕ) → m.leaves k ≡ false → g k ++ h k ≡ []
 others_then m g h p q k out = ap (λ v. v ++ h k) (p k out) ∙ q k out
@@ -82,8 +81,8 @@ part_then line xs ys a b e p q =
     ∙ ap (λ t. xs ++ map line (range_with_len t (length ys))) e
     ∙ ap (λ v. xs ++ v) (sym q))
 
-pub makes_none : (m : Meaning) (placed : ℕ → Type 0) (old : Supply → ℕ → Type 0) (plan : Plan) (a : ℕ) (x : Inputs) → placed a → MakesBits m placed old old plan a a [] x x
-makes_none m placed old plan a x here = record {
+pub makes_none : (m : Meaning) (says : ℕ → Service) (placed : ℕ → Type 0) (old : Supply → ℕ → Type 0) (plan : Plan) (a : ℕ) (x : Inputs) → placed a → MakesBits m says placed old old plan a a [] x x
+makes_none m says placed old plan a x here = record {
   given = nothing;
   gives = record { takes = takes_none x; others = λ k out. refl; exact = λ k leaf. omega arith };
   free = λ size fits i l h. absurd (omega arith);
@@ -92,44 +91,44 @@ makes_none m placed old plan a x here = record {
   onward = λ supply s. (refl, s.stands);
 }
 
-pub makes_one : (m : Meaning) (placed : ℕ → Type 0) (old new : Supply → ℕ → Type 0) (plan : Plan) (a : ℕ) (bit : Bool) (x y : Inputs) → Makes m idle placed old new plan a bit x y
-    → MakesBits m placed old new plan a (suc a) (bit ∷ []) x y
-makes_one m placed old new plan a bit x y p = record {
+pub makes_one : (m : Meaning) (says : ℕ → Service) (now : Service) (placed : ℕ → Type 0) (old new : Supply → ℕ → Type 0) (plan : Plan) (a : ℕ) (bit : Bool) (x y : Inputs) → ((n : ℕ) → m.begins a ≡ Some n → says n ≡ now) → Makes m now placed old new plan a bit x y
+    → MakesBits m says placed old new plan a (suc a) (bit ∷ []) x y
+makes_one m says now placed old new plan a bit x y told p = record {
   given = p.given;
   gives = record { takes = p.takes; others = p.others; exact = p.exact };
   free = λ size fits i l h. (let e : i ≡ a = omega arith in ap (m.obstacle plan size) e ∙ p.free size fits);
   count = omega arith;
   place = p.place;
   onward = λ supply s.
-      let both = p.onward supply s.plan_is s.stands (λ n e. s.idles n) s.agrees in
+      let both = p.onward supply s.plan_is s.stands (λ n e. s.said n ∙ told n e) s.agrees in
       (ap (λ b. b ∷ []) both.0, both.1);
 }
 
-pub makes_then : (m : Meaning) (placed placed' : ℕ → Type 0) (old mid new : Supply → ℕ → Type 0) (plan : Plan) (a b c : ℕ) (xs ys : List Bool) (x y z : Inputs) → MakesBits m placed old mid plan a b xs x y
-    → MakesBits m placed' mid new plan b c ys y z → MakesBits m placed' old new plan a c (xs ++ ys) x z
-makes_then m placed placed' old mid new plan a b c xs ys x y z p q = record {
+pub makes_then : (m : Meaning) (says : ℕ → Service) (placed placed' : ℕ → Type 0) (old mid new : Supply → ℕ → Type 0) (plan : Plan) (a b c : ℕ) (xs ys : List Bool) (x y z : Inputs) → MakesBits m says placed old mid plan a b xs x y
+    → MakesBits m says placed' mid new plan b c ys y z → MakesBits m says placed' old new plan a c (xs ++ ys) x z
+makes_then m says placed placed' old mid new plan a b c xs ys x y z p q = record {
   given = λ k. p.given k ++ q.given k;
   gives = gives_then m plan a b c p.given q.given x y z p.gives q.gives;
   free = free_then m plan a b c p.given x y p.gives p.free q.free;
   count = omega (arith, length-append xs ys, p.count, q.count);
   place = q.place;
   onward = λ supply s.
-      let first = p.onward supply (stood_first m old plan a p.given q.given supply s) in
-      let rest = q.onward supply (stood_rest m old mid plan a b p.given q.given x y supply p.gives first.1 s) in
+      let first = p.onward supply (stood_first m says old plan a p.given q.given supply s) in
+      let rest = q.onward supply (stood_rest m says old mid plan a b p.given q.given x y supply p.gives first.1 s) in
       (part_then (m.line supply) xs ys a b p.count first.0 rest.0, rest.1);
 }
 
-pub makes_start : (m : Meaning) (placed : ℕ → Type 0) (old : Supply → ℕ → Type 0) (plan : Plan) (a b : ℕ) (bits : List Bool) (x : Inputs) → a ≡ b → bits ≡ [] → placed a → MakesBits m placed old old plan a b bits x x
-makes_start m placed old plan a b bits x e none here =
-    subst (λ b. MakesBits m placed old old plan a b bits x x) e (subst (λ bits. MakesBits m placed old old plan a a bits x x) (sym none) (makes_none m placed old plan a x here))
+pub makes_start : (m : Meaning) (says : ℕ → Service) (placed : ℕ → Type 0) (old : Supply → ℕ → Type 0) (plan : Plan) (a b : ℕ) (bits : List Bool) (x : Inputs) → a ≡ b → bits ≡ [] → placed a → MakesBits m says placed old old plan a b bits x x
+makes_start m says placed old plan a b bits x e none here =
+    subst (λ b. MakesBits m says placed old old plan a b bits x x) e (subst (λ bits. MakesBits m says placed old old plan a a bits x x) (sym none) (makes_none m says placed old plan a x here))
 
-pub makes_more : (m m' : Meaning) (now : Service) (placed placed' : ℕ → Type 0) (old mid new : Supply → ℕ → Type 0) (plan : Plan) (a b c : ℕ) (bits more : List Bool) (bit : Bool) (x y z : Inputs) → m' ≡ m → now ≡ idle → suc b ≡ c
-    → more ≡ bits ++ bit ∷ [] → MakesBits m placed old mid plan a b bits x y → Makes m' now placed' mid new plan b bit y z → MakesBits m placed' old new plan a c more x z
-makes_more m m' now placed placed' old mid new plan a b c bits more bit x y z same says next all p q =
-    let step : Makes m idle placed' mid new plan b bit y z =
-    subst (λ now. Makes m now placed' mid new plan b bit y z) says (subst (λ m. Makes m now placed' mid new plan b bit y z) same q) in
-    let longer : MakesBits m placed' old new plan a (suc b) (bits ++ bit ∷ []) x z = makes_then m placed placed' old mid new plan a b (suc b) bits (bit ∷ []) x y z p (makes_one m placed' mid new plan b bit y z step) in
-    subst (λ to. MakesBits m placed' old new plan a to more x z) next (subst (λ bits. MakesBits m placed' old new plan a (suc b) bits x z) (sym all) longer)
+pub makes_more : (m m' : Meaning) (says : ℕ → Service) (now : Service) (placed placed' : ℕ → Type 0) (old mid new : Supply → ℕ → Type 0) (plan : Plan) (a b c : ℕ) (bits more : List Bool) (bit : Bool) (x y z : Inputs) → m' ≡ m
+    → ((n : ℕ) → m.begins b ≡ Some n → says n ≡ now) → suc b ≡ c → more ≡ bits ++ bit ∷ []
+    → MakesBits m says placed old mid plan a b bits x y → Makes m' now placed' mid new plan b bit y z → MakesBits m says placed' old new plan a c more x z
+makes_more m m' says now placed placed' old mid new plan a b c bits more bit x y z same told next all p q =
+    let step : Makes m now placed' mid new plan b bit y z = subst (λ m. Makes m now placed' mid new plan b bit y z) same q in
+    let longer : MakesBits m says placed' old new plan a (suc b) (bits ++ bit ∷ []) x z = makes_then m says placed placed' old mid new plan a b (suc b) bits (bit ∷ []) x y z p (makes_one m says now placed' mid new plan b bit y z told step) in
+    subst (λ to. MakesBits m says placed' old new plan a to more x z) next (subst (λ bits. MakesBits m says placed' old new plan a (suc b) bits x z) (sym all) longer)
 
 -- ---- a stop of the sender
 
@@ -159,9 +158,9 @@ stops_at_then m plan a b made g h stop x y z faults later now p free le s = reco
   };
 }
 
-pub stops_making : (m m' : Meaning) (placed : ℕ → Type 0) (old mid : Supply → ℕ → Type 0) (plan : Plan) (a b to : ℕ) (bits : List Bool) (stop : TxStop) (x y z : Inputs) (faults later now : ℕ) → MakesBits m placed old mid plan a b bits x y
+pub stops_making : (m m' : Meaning) (says : ℕ → Service) (placed : ℕ → Type 0) (old mid : Supply → ℕ → Type 0) (plan : Plan) (a b to : ℕ) (bits : List Bool) (stop : TxStop) (x y z : Inputs) (faults later now : ℕ) → MakesBits m says placed old mid plan a b bits x y
     → m' ≡ m → faults ≤ later → b < to → Stops m' plan b stop y z later now → StopsMaking m plan a to stop x z faults now
-stops_making m m' placed old mid plan a b to bits stop x y z faults later now p same le lt stops = (let s : Stops m plan b stop y z later now = subst (λ m. Stops m plan b stop y z later now) same stops in record {
+stops_making m m' says placed old mid plan a b to bits stop x y z faults later now p same le lt stops = (let s : Stops m plan b stop y z later now = subst (λ m. Stops m plan b stop y z later now) same stops in record {
   made = b;
   begun = omega (arith, p.count);
   within = lt;
@@ -172,49 +171,65 @@ stops_making m m' placed old mid plan a b to bits stop x y z faults later now p 
 -- ---- whole frames
 
 -- so many bits were made from the first on, and all of them put
-pub record Sending (m : Meaning) (placed : ℕ → Type 0) (old new : Supply → ℕ → Type 0) (plan : Plan) (to : ℕ) (inputs inputs_now : Inputs) (outputs outputs_now : Outputs) : Type 0 where
+pub record Sending (m : Meaning) (says : ℕ → Service) (placed : ℕ → Type 0) (old new : Supply → ℕ → Type 0) (plan : Plan) (to : ℕ) (inputs inputs_now : Inputs) (outputs outputs_now : Outputs) : Type 0 where
   pub bits : List Bool
-  pub makes : MakesBits m placed old new plan 0 to bits inputs inputs_now
+  pub makes : MakesBits m says placed old new plan 0 to bits inputs inputs_now
   pub puts : Puts (as_line bits) outputs outputs_now
 
 front_is : (line : ℕ → Bool) (bits : List Bool) (to : ℕ) → 0 + length bits ≡ to → IsPart line bits 0 → bits ≡ front line to
 front_is line bits to e p = (let n : length bits ≡ to = omega arith in p ∙ ap (λ n. map line (range_with_len 0 n)) n)
 
-pub sending_none : (m : Meaning) (placed : ℕ → Type 0) (old : Supply → ℕ → Type 0) (plan : Plan) (to : ℕ) (x : Inputs) (outputs : Outputs) → 0 ≡ to → placed 0 → Sending m placed old old plan to x x outputs outputs
-sending_none m placed old plan to x outputs e here = record { bits = []; makes = makes_start m placed old plan 0 to [] x e refl here; puts = puts_none outputs }
+pub sending_none : (m : Meaning) (says : ℕ → Service) (placed : ℕ → Type 0) (old : Supply → ℕ → Type 0) (plan : Plan) (to : ℕ) (x : Inputs) (outputs : Outputs) → 0 ≡ to → placed 0 → Sending m says placed old old plan to x x outputs outputs
+sending_none m says placed old plan to x outputs e here = record { bits = []; makes = makes_start m says placed old plan 0 to [] x e refl here; puts = puts_none outputs }
 
 -- A frame more. The sender leaves the outputs, and putting bits leaves the inputs.
-pub sending_more : (m m' : Meaning) (placed placed' : ℕ → Type 0) (old mid new : Supply → ℕ → Type 0) (plan : Plan) (b c to : ℕ) (more more' : List Bool) (x y z w : Inputs) (o o' o'' p : Outputs) → m' ≡ m → more' ≡ more → w ≡ z → o'' ≡ o' → c ≡ to
-    → Sending m placed old mid plan b x y o o' → MakesBits m' placed' mid new plan b c more y z → Puts (as_line more') o'' p → Sending m placed' old new plan to x w o p
-sending_more m m' placed placed' old mid new plan b c to more more' x y z w o o' o'' p same bits rest left end s makes puts =
-    let step : MakesBits m placed' mid new plan b c more y z = subst (λ m. MakesBits m placed' mid new plan b c more y z) same makes in
-    let all : MakesBits m placed' old new plan 0 c (s.bits ++ more) x z = makes_then m placed placed' old mid new plan 0 b c s.bits more x y z s.makes step in
+pub sending_more : (m m' : Meaning) (says : ℕ → Service) (placed placed' : ℕ → Type 0) (old mid new : Supply → ℕ → Type 0) (plan : Plan) (b c to : ℕ) (more more' : List Bool) (x y z w : Inputs) (o o' o'' p : Outputs) → m' ≡ m → more' ≡ more → w ≡ z → o'' ≡ o' → c ≡ to
+    → Sending m says placed old mid plan b x y o o' → MakesBits m' says placed' mid new plan b c more y z → Puts (as_line more') o'' p → Sending m says placed' old new plan to x w o p
+sending_more m m' says placed placed' old mid new plan b c to more more' x y z w o o' o'' p same bits rest left end s makes puts =
+    let step : MakesBits m says placed' mid new plan b c more y z = subst (λ m. MakesBits m says placed' mid new plan b c more y z) same makes in
+    let all : MakesBits m says placed' old new plan 0 c (s.bits ++ more) x z = makes_then m says placed placed' old mid new plan 0 b c s.bits more x y z s.makes step in
     let here : Puts (as_line more) o' p = subst (λ o. Puts (as_line more) o p) left (subst (λ bits. Puts (as_line bits) o'' p) bits puts) in
     record {
       bits = s.bits ++ more;
-      makes = subst (λ to. MakesBits m placed' old new plan 0 to (s.bits ++ more) x w) end (subst (λ w. MakesBits m placed' old new plan 0 c (s.bits ++ more) x w) (sym rest) all);
+      makes = subst (λ to. MakesBits m says placed' old new plan 0 to (s.bits ++ more) x w) end (subst (λ w. MakesBits m says placed' old new plan 0 c (s.bits ++ more) x w) (sym rest) all);
       puts = puts_then s.bits more o o' p s.puts here;
     }
 
-sending_puts : (m : Meaning) (placed : ℕ → Type 0) (old new : Supply → ℕ → Type 0) (plan : Plan) (to : ℕ) (x y : Inputs) (o o' : Outputs) (p : Sending m placed old new plan to x y o o') (supply : Supply) → Stood m old plan 0 p.makes.given supply
+-- the sender was told what the next frame says
+pub sending_set : (m : Meaning) (says : ℕ → Service) (placed placed' : ℕ → Type 0) (old mid mid' : Supply → ℕ → Type 0) (plan : Plan) (to : ℕ) (x y : Inputs) (o o' : Outputs) → ((n : ℕ) → placed n → placed' n)
+    → ((supply : Supply) (n : ℕ) → mid supply n → mid' supply n) → Sending m says placed old mid plan to x y o o' → Sending m says placed' old mid' plan to x y o o'
+sending_set m says placed placed' old mid mid' plan to x y o o' place held s = record {
+  bits = s.bits;
+  makes = record {
+    given = s.makes.given;
+    gives = s.makes.gives;
+    free = s.makes.free;
+    count = s.makes.count;
+    place = place to s.makes.place;
+    onward = λ supply st. (let both = s.makes.onward supply st in (both.0, held supply to both.1));
+  };
+  puts = s.puts;
+}
+
+sending_puts : (m : Meaning) (says : ℕ → Service) (placed : ℕ → Type 0) (old new : Supply → ℕ → Type 0) (plan : Plan) (to : ℕ) (x y : Inputs) (o o' : Outputs) (p : Sending m says placed old new plan to x y o o') (supply : Supply) → Stood m says old plan 0 p.makes.given supply
     → Puts (as_line (front (m.line supply) to)) o o'
-sending_puts m placed old new plan to x y o o' p supply s =
+sending_puts m says placed old new plan to x y o o' p supply s =
     subst (λ bits. Puts (as_line bits) o o') (front_is (m.line supply) p.bits to p.makes.count (p.makes.onward supply s).0) p.puts
 
-pub sending_sends : (m : Meaning) (placed : ℕ → Type 0) (old new : Supply → ℕ → Type 0) (plan : Plan) (b to : ℕ) (x y : Inputs) (o o' : Outputs) → b ≡ to → Sending m placed old new plan b x y o o' → Sends m placed old new plan to x y o o'
-sending_sends m placed old new plan b to x y o o' e sending = (let p : Sending m placed old new plan to x y o o' = subst (λ to. Sending m placed old new plan to x y o o') e sending in record {
+pub sending_sends : (m : Meaning) (says : ℕ → Service) (placed : ℕ → Type 0) (old new : Supply → ℕ → Type 0) (plan : Plan) (b to : ℕ) (x y : Inputs) (o o' : Outputs) → b ≡ to → Sending m says placed old new plan b x y o o' → Sends m says placed old new plan to x y o o'
+sending_sends m says placed old new plan b to x y o o' e sending = (let p : Sending m says placed old new plan to x y o o' = subst (λ to. Sending m says placed old new plan to x y o o') e sending in record {
   given = p.makes.given;
   gives = p.makes.gives;
   free = p.makes.free;
   place = p.makes.place;
-  puts = sending_puts m placed old new plan to x y o o' p;
+  puts = sending_puts m says placed old new plan to x y o o' p;
   onward = λ supply s. (p.makes.onward supply s).1;
 })
 
 -- the sender stops in a frame, and leaves the outputs
-pub sending_stops : (m m' : Meaning) (placed : ℕ → Type 0) (old mid : Supply → ℕ → Type 0) (plan : Plan) (len frames n : ℕ) (stop : TxStop) (x y z : Inputs) (o o' o'' : Outputs) (faults later now : ℕ) → m' ≡ m → o'' ≡ o' → n < frames
-    → faults ≤ later → Sending m placed old mid plan (n * len) x y o o' → StopsMaking m' plan (n * len) (n * len + len) stop y z later now → StopsSending m old plan len frames stop x z o o'' faults now
-sending_stops m m' placed old mid plan len frames n stop x y z o o' o'' faults later now same left lt le p stops = (let s : StopsMaking m plan (n * len) (n * len + len) stop y z later now = subst (λ m. StopsMaking m plan (n * len) (n * len + len) stop y z later now) same stops in record {
+pub sending_stops : (m m' : Meaning) (says : ℕ → Service) (placed : ℕ → Type 0) (old mid : Supply → ℕ → Type 0) (plan : Plan) (len frames n : ℕ) (stop : TxStop) (x y z : Inputs) (o o' o'' : Outputs) (faults later now : ℕ) → m' ≡ m → o'' ≡ o' → n < frames
+    → faults ≤ later → Sending m says placed old mid plan (n * len) x y o o' → StopsMaking m' plan (n * len) (n * len + len) stop y z later now → StopsSending m says old plan len frames stop x z o o'' faults now
+sending_stops m m' says placed old mid plan len frames n stop x y z o o' o'' faults later now same left lt le p stops = (let s : StopsMaking m plan (n * len) (n * len + len) stop y z later now = subst (λ m. StopsMaking m plan (n * len) (n * len + len) stop y z later now) same stops in record {
   whole = n;
   fewer = lt;
   made = s.made;
@@ -223,18 +238,18 @@ sending_stops m m' placed old mid plan len frames n stop x y z o o' o'' faults l
   given = λ k. p.makes.given k ++ s.given k;
   at = stops_at_then m plan 0 (n * len) s.made p.makes.given s.given stop x y z faults later now p.makes.gives p.makes.free le s.at;
   puts = λ supply st. subst (Puts (as_line (front (m.line supply) (n * len))) o) (sym left)
-      (sending_puts m placed old mid plan (n * len) x y o o' p supply (stood_first m old plan 0 p.makes.given s.given supply st));
+      (sending_puts m says placed old mid plan (n * len) x y o o' p supply (stood_first m says old plan 0 p.makes.given s.given supply st));
 })
 
 -- a bit of a frame can't be put
-pub sending_fails : (m m' : Meaning) (placed placed' : ℕ → Type 0) (old mid new : Supply → ℕ → Type 0) (plan : Plan) (len frames n : ℕ) (more more' : List Bool) (x y z w : Inputs) (o o' o'' p : Outputs) (faults later now : ℕ) → m' ≡ m → more' ≡ more
-    → w ≡ z → o'' ≡ o' → n < frames → faults ≤ later → Sending m placed old mid plan (n * len) x y o o' → MakesBits m' placed' mid new plan (n * len) (n * len + len) more y z → PutsPart (as_line more') o'' p → Rose later now
-    → FailsToSend m old plan len frames x w o p faults now
-sending_fails m m' placed placed' old mid new plan len frames n more more' x y z w o o' o'' p faults later now same bits rest left lt le s makes puts rose =
-    let step : MakesBits m placed' mid new plan (n * len) (n * len + len) more y z = subst (λ m. MakesBits m placed' mid new plan (n * len) (n * len + len) more y z) same makes in
-    let whole : MakesBits m placed' old new plan 0 (n * len + len) (s.bits ++ more) x z = makes_then m placed placed' old mid new plan 0 (n * len) (n * len + len) s.bits more x y z s.makes step in
-    let all : MakesBits m placed' old new plan 0 (suc n * len) (s.bits ++ more) x w =
-    subst (λ to. MakesBits m placed' old new plan 0 to (s.bits ++ more) x w) (sym (suc-mul n len)) (subst (λ w. MakesBits m placed' old new plan 0 (n * len + len) (s.bits ++ more) x w) (sym rest) whole) in
+pub sending_fails : (m m' : Meaning) (says : ℕ → Service) (placed placed' : ℕ → Type 0) (old mid new : Supply → ℕ → Type 0) (plan : Plan) (len frames n : ℕ) (more more' : List Bool) (x y z w : Inputs) (o o' o'' p : Outputs) (faults later now : ℕ) → m' ≡ m → more' ≡ more
+    → w ≡ z → o'' ≡ o' → n < frames → faults ≤ later → Sending m says placed old mid plan (n * len) x y o o' → MakesBits m' says placed' mid new plan (n * len) (n * len + len) more y z → PutsPart (as_line more') o'' p → Rose later now
+    → FailsToSend m says old plan len frames x w o p faults now
+sending_fails m m' says placed placed' old mid new plan len frames n more more' x y z w o o' o'' p faults later now same bits rest left lt le s makes puts rose =
+    let step : MakesBits m says placed' mid new plan (n * len) (n * len + len) more y z = subst (λ m. MakesBits m says placed' mid new plan (n * len) (n * len + len) more y z) same makes in
+    let whole : MakesBits m says placed' old new plan 0 (n * len + len) (s.bits ++ more) x z = makes_then m says placed placed' old mid new plan 0 (n * len) (n * len + len) s.bits more x y z s.makes step in
+    let all : MakesBits m says placed' old new plan 0 (suc n * len) (s.bits ++ more) x w =
+    subst (λ to. MakesBits m says placed' old new plan 0 to (s.bits ++ more) x w) (sym (suc-mul n len)) (subst (λ w. MakesBits m says placed' old new plan 0 (n * len + len) (s.bits ++ more) x w) (sym rest) whole) in
     let here : PutsPart (as_line more) o' p = subst (λ o. PutsPart (as_line more) o p) left (subst (λ bits. PutsPart (as_line bits) o'' p) bits puts) in
     let part : PutsPart (as_line (s.bits ++ more)) o p = puts_part s.bits more (s.bits ++ more) o o' p s.puts here ([], sym (append-nil (s.bits ++ more))) in
     record {
@@ -252,7 +267,7 @@ frame_end n len = omega (arith, add-mul n 1 len)
 
 -- ---- frames in whose way nothing stands
 
-module _ (m : Meaning) (placed : ℕ → Type 0) (old mid : Supply → ℕ → Type 0) (plan : Plan) (len frames n : ℕ) (x y : Inputs) (o o' : Outputs) (free : IsFree m plan 0 (frames * len) x) (fewer : n < frames) (s : Sending m placed old mid plan (n * len) x y o o') where
+module _ (m : Meaning) (says : ℕ → Service) (placed : ℕ → Type 0) (old mid : Supply → ℕ → Type 0) (plan : Plan) (len frames n : ℕ) (x y : Inputs) (o o' : Outputs) (free : IsFree m plan 0 (frames * len) x) (fewer : n < frames) (s : Sending m says placed old mid plan (n * len) x y o o') where
   -- nothing stands in the way of the next frame
   pub next_free : IsFree m plan (n * len) (n * len + len) y
   next_free = free_rest m plan 0 (n * len) (n * len + len) (frames * len) s.makes.given x y s.makes.gives (omega arith) (omega (arith, mul-le-mul_right len fewer, suc-mul n len)) free
@@ -261,16 +276,40 @@ module _ (m : Meaning) (placed : ℕ → Type 0) (old mid : Supply → ℕ → T
   next_clear = record { size = λ k. m.given plan (n * len) k + y.left k; fits = λ k leaf. refl; clear = next_free (λ k. m.given plan (n * len) k + y.left k) (λ k leaf. refl) }
 
 -- a frame that was made at once is a frame that was made
-pub makes_next : (m m' : Meaning) (placed : ℕ → Type 0) (old new : Supply → ℕ → Type 0) (plan : Plan) (a len l : ℕ) (bits : List Bool) (x y : Inputs) → m' ≡ m → l ≡ len → IsFree m plan a (a + len) x → MakesAll m' placed old new plan a (a + l) bits x y
-    → MakesBits m placed old new plan a (a + len) bits x y
-makes_next m m' placed old new plan a len l bits x y same long free makes =
-    let p : MakesAll m placed old new plan a (a + len) bits x y = subst (λ l. MakesAll m placed old new plan a (a + l) bits x y) long (subst (λ m. MakesAll m placed old new plan a (a + l) bits x y) same makes) in
-    record { given = p.given; gives = p.gives; free = free; count = p.count; place = p.place; onward = p.onward }
+pub makes_next : (m m' : Meaning) (says : ℕ → Service) (now : Service) (placed : ℕ → Type 0) (old new : Supply → ℕ → Type 0) (plan : Plan) (a len l : ℕ) (bits : List Bool) (x y : Inputs) → m' ≡ m → l ≡ len → SayInFrames m says now a (a + len)
+    → IsFree m plan a (a + len) x → MakesAll m' now placed old new plan a (a + l) bits x y → MakesBits m says placed old new plan a (a + len) bits x y
+makes_next m m' says now placed old new plan a len l bits x y same long told free makes =
+    let p : MakesAll m now placed old new plan a (a + len) bits x y = subst (λ l. MakesAll m now placed old new plan a (a + l) bits x y) long (subst (λ m. MakesAll m now placed old new plan a (a + l) bits x y) same makes) in
+    record {
+      given = p.given;
+      gives = p.gives;
+      free = free;
+      count = p.count;
+      place = p.place;
+      onward = λ supply s.
+          p.onward supply (record { plan_is = s.plan_is; said = λ y l h n e. s.said n ∙ told y n l h e; stands = s.stands; agrees = s.agrees });
+    }
+
+-- the frame that begins at such a place is the only one that does before its end
+pub says_in_frame : (m : Meaning) (says : ℕ → Service) (now : Service) (len whole l : ℕ) → HasFrames m len → l ≡ len → says whole ≡ now → SayInFrames m says now (whole * len) (whole * len + l)
+says_in_frame m says now len whole l frames long is y n le lt begins =
+    let at : y ≡ n * len = frames y n begins in
+    let here : n ≡ whole = between (omega (arith, at, le)) (omega (arith, at, lt, long)) in
+    ap says here ∙ is
+  where
+    between : whole * len ≤ n * len → n * len < whole * len + len → n ≡ whole
+    between l h = elim (cases_lt n whole) [
+      | inl less ↦ absurd (omega (arith, l, h, mul-le-mul_right len less, suc-mul n len))
+      | inr more ↦ elim (cases_lt whole n) [
+        | inl less ↦ absurd (omega (arith, h, mul-le-mul_right len less, suc-mul whole len))
+        | inr other ↦ omega arith
+      ]
+    ]
 
 -- a call for bits failed in a frame, and left the outputs
-pub sending_halts : (m m' : Meaning) (placed : ℕ → Type 0) (old mid : Supply → ℕ → Type 0) (plan : Plan) (len frames n : ℕ) (stop : TxStop) (x y z : Inputs) (o o' o'' : Outputs) (faults later now : ℕ) → m' ≡ m → o'' ≡ o' → n < frames
-    → faults ≤ later → Sending m placed old mid plan (n * len) x y o o' → Halts m' plan (n * len) (n * len + len) stop y z → Rose later now → FailsToTake m old plan len frames x z o o'' faults now
-sending_halts m m' placed old mid plan len frames n stop x y z o o' o'' faults later now same left lt le p halts rose = (let h : Halts m plan (n * len) (n * len + len) stop y z = subst (λ m. Halts m plan (n * len) (n * len + len) stop y z) same halts in record {
+pub sending_halts : (m m' : Meaning) (says : ℕ → Service) (placed : ℕ → Type 0) (old mid : Supply → ℕ → Type 0) (plan : Plan) (len frames n : ℕ) (stop : TxStop) (x y z : Inputs) (o o' o'' : Outputs) (faults later now : ℕ) → m' ≡ m → o'' ≡ o' → n < frames
+    → faults ≤ later → Sending m says placed old mid plan (n * len) x y o o' → Halts m' plan (n * len) (n * len + len) stop y z → Rose later now → FailsToTake m says old plan len frames x z o o'' faults now
+sending_halts m m' says placed old mid plan len frames n stop x y z o o' o'' faults later now same left lt le p halts rose = (let h : Halts m plan (n * len) (n * len + len) stop y z = subst (λ m. Halts m plan (n * len) (n * len + len) stop y z) same halts in record {
   whole = n;
   fewer = lt;
   given = λ k. p.makes.given k ++ h.given k;
@@ -280,5 +319,5 @@ sending_halts m m' placed old mid plan len frames n stop x y z o o' o'' faults l
   no_more = λ k leaf. (let end : m.given plan (n * len + len) k ≡ m.given plan (suc n * len) k = ap (λ t. m.given plan t k) (sym (suc-mul n len)) in omega (arith, p.makes.gives.exact k leaf, length-append (p.makes.given k) (h.given k), h.no_more k leaf, end));
   rose = rose_since faults later now le rose;
   puts = λ supply st. subst (Puts (as_line (front (m.line supply) (n * len))) o) (sym left)
-      (sending_puts m placed old mid plan (n * len) x y o o' p supply (stood_first m old plan 0 p.makes.given h.given supply st));
+      (sending_puts m says placed old mid plan (n * len) x y o o' p supply (stood_first m says old plan 0 p.makes.given h.given supply st));
 })

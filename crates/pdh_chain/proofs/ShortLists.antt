@@ -8,6 +8,7 @@ use Rattle.std.proofs.lemmas.List.{length-append, length-map, length-replicate}
 use Rattle.std.proofs.lemmas.List.Sums.{sum_by-cons, length-filter, count_by-le-length}
 use Rattle.pdh_shape.specs.declared.role.Role.{Role}
 use Rattle.pdh_shape.specs.declared.role.Role.TheVariants.{Info, Just}
+use Rattle.pdh_shape.specs.declared.role.Service.{Service}
 use Rattle.pdh_shape.specs.Frame.{FrameShape, IsFrame, slots}
 use Rattle.pdh_shape.specs.Tributary.{HasTributaries, reads_from, carries_more, turned, bits_read, stripped}
 use Rattle.pdh_line.specs.Tracking.{Piece, frame_of, gap_of, is_found, aligned, delivered, is_lost, after_loss, one_search, track_within, track, positions, is_confirmed}
@@ -18,7 +19,6 @@ use Rattle.pdh_line.proofs.Ranges.{length-range}
 use Rattle.pdh_line.proofs.TrackingLaws.{gap_of_is, delivered_none, delivered_within, is_lost_found, after_loss_is, one_search_is, track_within_lost, track_within_open, track_is}
 use Rattle.pdh_edge.specs.Ports.{Inputs, Outputs, PrefixOf}
 use Rattle.pdh_edge.specs.MemLists.{length_of, bits_held}
-use Rattle.pdh_shape.specs.Frame.{idle}
 use Rattle.pdh_line.proofs.SentFrames.{length-front}
 use Rattle.pdh_line.specs.Nodes.{Counts}
 use Rattle.pdh_nesting.specs.Sending.{chain_line}
@@ -214,12 +214,12 @@ line_short bits k = one_of (k == 0)
     one_of false = omega arith
 
 -- Where a bit couldn't be put, no list took more bits than the frames of the whole line have.
-pub mux_short : (shapes : List FrameShape) (counts : Counts) (frames : ℕ) (inputs inputs_now : Inputs) (outputs outputs_now : Outputs) → PutsPrefix shapes counts frames inputs inputs_now outputs outputs_now
+pub mux_short : (shapes : List FrameShape) (counts : Counts) (says : ℕ → Service) (frames : ℕ) (inputs inputs_now : Inputs) (outputs outputs_now : Outputs) → PutsPrefix shapes counts says frames inputs inputs_now outputs outputs_now
     → (k : ℕ) → bits_held outputs_now k ≤ bits_held outputs k + frames * top_len shapes
-mux_short shapes counts frames inputs inputs_now outputs outputs_now put k =
-    let line : List Bool = frames_of_line shapes counts put.given put.made in
+mux_short shapes counts says frames inputs inputs_now outputs outputs_now put k =
+    let line : List Bool = frames_of_line shapes counts says put.given put.made in
     let part = put.puts put.given (λ k i known less. refl) k in
-    omega (arith, prefix_short (as_line line k) (outputs.told k) (outputs_now.told k) part, line_short line k, length-front (chain_line shapes counts (bits_of put.given) (λ n. idle) [] 0) (put.made * top_len shapes), mul-le-mul_right (top_len shapes) put.upto)
+    omega (arith, prefix_short (as_line line k) (outputs.told k) (outputs_now.told k) part, line_short line k, length-front (chain_line shapes counts (bits_of put.given) says [] 0) (put.made * top_len shapes), mul-le-mul_right (top_len shapes) put.upto)
 
 received_few : (shapes : List FrameShape) (line : List Bool) (bits k : ℕ) → AreFrames shapes → length line ≤ bits → length (received_of shapes line k) ≤ bits / width shapes
 received_few shapes line bits k are few = elim (cases_lt k (width shapes)) [

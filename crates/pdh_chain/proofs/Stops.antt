@@ -53,7 +53,7 @@ module _ (other : TxStop → Type 0) where
   tells-append (None ∷ a) b es fs p q = tells-append a b es fs p q
   tells-append (Some stop ∷ a) b es fs p q = longer stop es fs p
 
-  tells-cons : (o : Option TxStop) (b : List (Option TxStop)) (es fs : List Event) → Tells other o es → Tells other (first_some b) fs → Tells other (first_some (o ∷ b)) (es ++ fs)
+  pub tells-cons : (o : Option TxStop) (b : List (Option TxStop)) (es fs : List Event) → Tells other o es → Tells other (first_some b) fs → Tells other (first_some (o ∷ b)) (es ++ fs)
   tells-cons None b es fs p q = after_none (first_some b) es fs p q
   tells-cons (Some stop) b es fs p q = longer stop es fs p
 
@@ -98,3 +98,14 @@ module _ (other : TxStop → Type 0) where
   tells-beginning true true first stop leads es why h = inr (why refl)
   tells-beginning true false true stop leads es why h = h
   tells-beginning true false false stop leads es why h = refl
+
+  -- the beginning of a frame of a node without stores: it isn't scheduled
+  pub tells-unscheduled : (begins missing : Bool) (stop : TxStop) → (missing ≡ true → other stop) → Tells other (cond begins (some_if missing stop) None) []
+  tells-unscheduled false missing stop why = refl
+  tells-unscheduled true true stop why = inr (why refl)
+  tells-unscheduled true false stop why = refl
+
+  -- the child's bit that a slot reads, if it reads one
+  pub tells-read : (reads : Bool) (o : Option TxStop) (es : List Event) → (reads ≡ true → Tells other o es) → Tells other (cond reads o None) (cond reads es [])
+  tells-read true o es child = child refl
+  tells-read false o es child = refl

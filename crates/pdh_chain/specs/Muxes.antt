@@ -1,16 +1,17 @@
 -- What `mux` puts to its port and takes of it. `counts` tells how many bits of each tributary of the node at a path arrive in
--- each of its frames, and `scheduled` how many frames the node has.
+-- each of its frames, `scheduled` how many frames the node has, and `says` what the service bits of the top's frames say.
 use Rattle.std.specs.Prelude.{◌≡◌, ⊤, ℕ, suc, ◌+◌, ◌*◌, ◌<◌, ◌≤◌, ◌⊎◌, Bool, true, false, List, [], ◌∷◌, length, Some, None, Option, Ok, Err, Result, slice_get}
 use Rattle.std.specs.List.{slice_index_or}
 use Rattle.pdh_edge.specs.Files.{Rose}
 use Rattle.pdh_edge.specs.Ports.{Inputs, Outputs, Takes, Puts, PutsPart}
-use Rattle.pdh_shape.specs.Frame.{FrameShape, idle}
+use Rattle.pdh_shape.specs.declared.role.Service.{Service}
+use Rattle.pdh_shape.specs.Frame.{FrameShape}
 use Rattle.pdh_shape.specs.declared.place.Place.{Place}
 use Rattle.pdh_shape.specs.declared.place.Path.{Path}
 use Rattle.pdh_line.specs.Sending.{front, begun, given}
 use Rattle.pdh_line.specs.Events.{Event, Kind}
 use Rattle.pdh_line.specs.Events.Kind.{Overflow, Underflow}
-use Rattle.pdh_nesting.specs.Chains.{width, top_len, AreFrames, AllStores, ReadEvenly}
+use Rattle.pdh_nesting.specs.Chains.{width, top_len, AreFrames, ReadEvenly}
 use Rattle.pdh_line.specs.Nodes.{child, Counts}
 use Rattle.pdh_nesting.specs.Sending.{chain_line, given_below, AllWithin}
 use Rattle.pdh_line.specs.Paths.{steps_of, top, path_of}
@@ -31,20 +32,20 @@ use Rattle.pdh_chain.specs.declared.stop.MuxStop.TheVariants.{Memory, Event as M
 abbrev pub bits_of : (ℕ → List Bool) → ℕ → ℕ → Bool
 bits_of lists k i = slice_index_or (lists k) i false
 
--- so many frames of a chain's line, whose service bits are idle
-abbrev pub frames_of_line : List FrameShape → Counts → (ℕ → List Bool) → ℕ → List Bool
-frames_of_line shapes counts lists frames = front (chain_line shapes counts (bits_of lists) (λ n. idle) [] 0) (frames * top_len shapes)
+-- so many frames of a chain's line, whose top's frames say this
+abbrev pub frames_of_line : List FrameShape → Counts → (ℕ → Service) → (ℕ → List Bool) → ℕ → List Bool
+frames_of_line shapes counts says lists frames = front (chain_line shapes counts (bits_of lists) says [] 0) (frames * top_len shapes)
 
 -- the leaves' lists begin with the bits that were given
 abbrev pub BeginWith : ℕ → (ℕ → List Bool) → (ℕ → List Bool) → Type 0
 BeginWith leaves given lists = (k i : ℕ) → k < leaves → i < length (given k) → slice_index_or (given k) i false ≡ slice_index_or (lists k) i false
 
 -- The leaves gave so many bits, and whatever lists begin with these, the line that such lists give was put: so many frames.
-pub record PutsFrames (shapes : List FrameShape) (counts : Counts) (frames : ℕ) (inputs inputs_now : Inputs) (outputs outputs_now : Outputs) : Type 0 where
+pub record PutsFrames (shapes : List FrameShape) (counts : Counts) (says : ℕ → Service) (frames : ℕ) (inputs inputs_now : Inputs) (outputs outputs_now : Outputs) : Type 0 where
   pub given : ℕ → List Bool
   pub takes : Takes given inputs inputs_now
   pub others : (k : ℕ) → width shapes ≤ k → given k ≡ []
-  pub puts : (lists : ℕ → List Bool) → BeginWith (width shapes) given lists → Puts (as_line (frames_of_line shapes counts lists frames)) outputs outputs_now
+  pub puts : (lists : ℕ → List Bool) → BeginWith (width shapes) given lists → Puts (as_line (frames_of_line shapes counts says lists frames)) outputs outputs_now
 
 -- the leaves gave no fewer bits than so many frames take of them, and no more than one frame more takes
 pub record GivesFrames (shapes : List FrameShape) (counts : Counts) (frames : ℕ) (given : ℕ → List Bool) : Type 0 where
@@ -81,12 +82,11 @@ IsNoEvent (Some (TxOverflow place)) = ⊥
 IsNoEvent (Some (TxUnderflow place)) = ⊥
 IsNoEvent (Some stop) = Unit {0}
 
--- A chain of at most three levels, of which all nodes have stores and read their tributaries evenly, is within the tolerance over the frames that so many bits of
--- its line begin.
+-- A chain of at most three levels, of which all nodes that have stores read their tributaries evenly, is within the tolerance
+-- over the frames that so many bits of its line begin.
 pub record IsTolerated (shapes : List FrameShape) (counts : Counts) (bits : ℕ) : Type 0 where
   pub levels : length shapes ≤ 3
   pub frames : AreFrames shapes
-  pub stores : AllStores shapes
   pub even : ReadEvenly shapes
   pub within : AllWithin shapes counts [] bits
 
@@ -94,8 +94,8 @@ pub record IsTolerated (shapes : List FrameShape) (counts : Counts) (bits : ℕ)
 
 -- all frames were put, in whose way nothing stood: no store met an event, and each leaf gave exactly the bits that these frames
 -- take of it
-pub record Muxes (shapes : List FrameShape) (counts : Counts) (scheduled : List ℕ → ℕ) (frames : ℕ) (inputs inputs_now : Inputs) (outputs outputs_now : Outputs) : Type 0 where
-  pub line : PutsFrames shapes counts frames inputs inputs_now outputs outputs_now
+pub record Muxes (shapes : List FrameShape) (counts : Counts) (says : ℕ → Service) (scheduled : List ℕ → ℕ) (frames : ℕ) (inputs inputs_now : Inputs) (outputs outputs_now : Outputs) : Type 0 where
+  pub line : PutsFrames shapes counts says frames inputs inputs_now outputs outputs_now
   pub given_is : (k : ℕ) → k < width shapes → inputs.left k ≡ given_below shapes counts [] (frames * top_len shapes) k + inputs_now.left k
   pub no_event : first_event shapes counts frames ≡ None
   pub clear : IsClear shapes counts scheduled inputs.left (frames * top_len shapes)
@@ -111,16 +111,16 @@ abbrev pub place_of : Event → Place
 place_of event = record { path = path_of event.path; trib = event.trib + 1; frame = event.frame; slot = event.slot }
 
 -- some whole frames were put, fewer than so many
-pub record PutsFewer (shapes : List FrameShape) (counts : Counts) (frames : ℕ) (inputs inputs_now : Inputs) (outputs outputs_now : Outputs) : Type 0 where
+pub record PutsFewer (shapes : List FrameShape) (counts : Counts) (says : ℕ → Service) (frames : ℕ) (inputs inputs_now : Inputs) (outputs outputs_now : Outputs) : Type 0 where
   pub whole : ℕ
   pub fewer : whole < frames
-  pub line : PutsFrames shapes counts whole inputs inputs_now outputs outputs_now
+  pub line : PutsFrames shapes counts says whole inputs inputs_now outputs outputs_now
   pub gives : GivesFrames shapes counts whole line.given
 
 -- this stands first in the way of a bit of so many frames, and all whole frames before that bit were put
-pub record StopsFirst (shapes : List FrameShape) (counts : Counts) (scheduled : List ℕ → ℕ) (frames : ℕ) (stop : TxStop) (inputs inputs_now : Inputs) (outputs outputs_now : Outputs) : Type 0 where
+pub record StopsFirst (shapes : List FrameShape) (counts : Counts) (says : ℕ → Service) (scheduled : List ℕ → ℕ) (frames : ℕ) (stop : TxStop) (inputs inputs_now : Inputs) (outputs outputs_now : Outputs) : Type 0 where
   pub obstacle : IsFirstObstacle shapes counts scheduled inputs.left frames stop
-  pub put : PutsFewer shapes counts frames inputs inputs_now outputs outputs_now
+  pub put : PutsFewer shapes counts says frames inputs inputs_now outputs outputs_now
   pub begun : put.whole * top_len shapes ≤ obstacle.made
   pub within : obstacle.made < suc put.whole * top_len shapes
 
@@ -131,7 +131,7 @@ stop_at false place = TxUnderflow place
 
 -- The first event stands here. It is met in making this bit of the line, before which none is met, and the whole frames
 -- before that bit were put.
-pub record StopsAtEvent (shapes : List FrameShape) (counts : Counts) (scheduled : List ℕ → ℕ) (frames : ℕ) (over : Bool) (place : Place) (inputs inputs_now : Inputs) (outputs outputs_now : Outputs) : Type 0 where
+pub record StopsAtEvent (shapes : List FrameShape) (counts : Counts) (says : ℕ → Service) (scheduled : List ℕ → ℕ) (frames : ℕ) (over : Bool) (place : Place) (inputs inputs_now : Inputs) (outputs outputs_now : Outputs) : Type 0 where
   pub event : Event
   pub first : first_event shapes counts frames ≡ Some event
   pub kind : over ≡ is_overflow event.kind
@@ -142,18 +142,18 @@ pub record StopsAtEvent (shapes : List FrameShape) (counts : Counts) (scheduled 
   pub whole : ℕ
   pub begun : whole * top_len shapes ≤ made
   pub within : made < suc whole * top_len shapes
-  pub line : PutsFrames shapes counts whole inputs inputs_now outputs outputs_now
-  pub stops : StopsFirst shapes counts scheduled frames (stop_at over place) inputs inputs_now outputs outputs_now
+  pub line : PutsFrames shapes counts says whole inputs inputs_now outputs outputs_now
+  pub stops : StopsFirst shapes counts says scheduled frames (stop_at over place) inputs inputs_now outputs outputs_now
 
 -- some frames were made, and what was put is a prefix of them
-pub record PutsPrefix (shapes : List FrameShape) (counts : Counts) (frames : ℕ) (inputs inputs_now : Inputs) (outputs outputs_now : Outputs) : Type 0 where
+pub record PutsPrefix (shapes : List FrameShape) (counts : Counts) (says : ℕ → Service) (frames : ℕ) (inputs inputs_now : Inputs) (outputs outputs_now : Outputs) : Type 0 where
   pub made : ℕ
   pub upto : made ≤ frames
   pub given : ℕ → List Bool
   pub takes : Takes given inputs inputs_now
   pub others : (k : ℕ) → width shapes ≤ k → given k ≡ []
   pub exact : (k : ℕ) → k < width shapes → length (given k) ≡ given_below shapes counts [] (made * top_len shapes) k
-  pub puts : (lists : ℕ → List Bool) → BeginWith (width shapes) given lists → PutsPart (as_line (frames_of_line shapes counts lists made)) outputs outputs_now
+  pub puts : (lists : ℕ → List Bool) → BeginWith (width shapes) given lists → PutsPart (as_line (frames_of_line shapes counts says lists made)) outputs outputs_now
 
 -- this node is the one at a path, which makes so many bits of its line, or one below it, and it begins more frames than are
 -- scheduled
@@ -182,19 +182,19 @@ pub record StopsAtEnd (shapes : List FrameShape) (counts : Counts) (frames : ℕ
 -- Why `mux` stops: memory was wanting, and nothing was taken or put; the first event of a store; the schedule has too few
 -- frames of a node below the top; a list is shorter than what the frames take of it; a call for bits failed; a call that puts
 -- bits failed.
-abbrev pub IsMuxStop : List FrameShape → Counts → (List ℕ → ℕ) → ℕ → Inputs → Inputs → Outputs → Outputs → ℕ → ℕ → ℕ → ℕ → MuxStop → Type 0
-IsMuxStop shapes counts scheduled frames inputs inputs_now outputs outputs_now reads reads_now writes writes_now Memory =
+abbrev pub IsMuxStop : List FrameShape → Counts → (ℕ → Service) → (List ℕ → ℕ) → ℕ → Inputs → Inputs → Outputs → Outputs → ℕ → ℕ → ℕ → ℕ → MuxStop → Type 0
+IsMuxStop shapes counts says scheduled frames inputs inputs_now outputs outputs_now reads reads_now writes writes_now Memory =
     (inputs_now ≡ inputs) × (outputs_now ≡ outputs)
-IsMuxStop shapes counts scheduled frames inputs inputs_now outputs outputs_now reads reads_now writes writes_now (MeetsEvent over place) =
-    StopsAtEvent shapes counts scheduled frames over place inputs inputs_now outputs outputs_now
-IsMuxStop shapes counts scheduled frames inputs inputs_now outputs outputs_now reads reads_now writes writes_now (NoFrame node) =
-    StopsForFrame shapes counts scheduled frames node × StopsFirst shapes counts scheduled frames (TxNoFrame node) inputs inputs_now outputs outputs_now
-IsMuxStop shapes counts scheduled frames inputs inputs_now outputs outputs_now reads reads_now writes writes_now (Ended leaf) =
-    StopsAtEnd shapes counts frames leaf inputs inputs_now × StopsFirst shapes counts scheduled frames (TxEnded leaf) inputs inputs_now outputs outputs_now
-IsMuxStop shapes counts scheduled frames inputs inputs_now outputs outputs_now reads reads_now writes writes_now ReadFailed =
-    Rose reads reads_now × PutsFewer shapes counts frames inputs inputs_now outputs outputs_now
-IsMuxStop shapes counts scheduled frames inputs inputs_now outputs outputs_now reads reads_now writes writes_now WriteFailed =
-    Rose writes writes_now × PutsPrefix shapes counts frames inputs inputs_now outputs outputs_now
+IsMuxStop shapes counts says scheduled frames inputs inputs_now outputs outputs_now reads reads_now writes writes_now (MeetsEvent over place) =
+    StopsAtEvent shapes counts says scheduled frames over place inputs inputs_now outputs outputs_now
+IsMuxStop shapes counts says scheduled frames inputs inputs_now outputs outputs_now reads reads_now writes writes_now (NoFrame node) =
+    StopsForFrame shapes counts scheduled frames node × StopsFirst shapes counts says scheduled frames (TxNoFrame node) inputs inputs_now outputs outputs_now
+IsMuxStop shapes counts says scheduled frames inputs inputs_now outputs outputs_now reads reads_now writes writes_now (Ended leaf) =
+    StopsAtEnd shapes counts frames leaf inputs inputs_now × StopsFirst shapes counts says scheduled frames (TxEnded leaf) inputs inputs_now outputs outputs_now
+IsMuxStop shapes counts says scheduled frames inputs inputs_now outputs outputs_now reads reads_now writes writes_now ReadFailed =
+    Rose reads reads_now × PutsFewer shapes counts says frames inputs inputs_now outputs outputs_now
+IsMuxStop shapes counts says scheduled frames inputs inputs_now outputs outputs_now reads reads_now writes writes_now WriteFailed =
+    Rose writes writes_now × PutsPrefix shapes counts says frames inputs inputs_now outputs outputs_now
 
 -- the port is fresh still where memory was wanting, and else ready, unless a call that puts bits failed
 abbrev pub IsLeftReady : (fresh ready : Type 0) → Result (Unit {0}) MuxStop → Type 0

@@ -1,12 +1,13 @@
 -- Sending the whole frames of a multiplexer's line.
-use Rattle.std.specs.Prelude.{◌≡◌, ℕ, suc, ◌+◌, ◌*◌, ◌<◌, ◌≤◌, Bool, true, false, ◌==◌, if◌then◌else◌, List, [], length, None}
+use Rattle.std.specs.Prelude.{◌≡◌, ℕ, suc, ◌+◌, ◌*◌, ◌<◌, ◌≤◌, Bool, true, false, ◌==◌, if◌then◌else◌, List, [], length, Some, None}
 use Rattle.pdh_edge.specs.Files.{Rose}
 use Rattle.pdh_edge.specs.Ports.{Inputs, Outputs, Takes, Puts, PutsPart}
+use Rattle.pdh_shape.specs.declared.role.Service.{Service}
 use Rattle.pdh_line.specs.Sending.{front}
 use Rattle.pdh_tx.specs.declared.tx.TxStop.{TxStop}
-use Rattle.pdh_tx.specs.Meaning.{Plan, Supply, Meaning, Fits, Met, IsUsedUp}
+use Rattle.pdh_tx.specs.Meaning.{Plan, Supply, Meaning, Fits, Met, IsUsedUp, Agrees}
 use Rattle.pdh_tx.specs.Held.{IsPart}
-use Rattle.pdh_tx.specs.Making.{Stood, Gives}
+use Rattle.pdh_tx.specs.Making.{Gives}
 use Rattle.pdh_chain.specs.declared.clear_sending.CallStop.{CallStop}
 use Rattle.pdh_chain.specs.declared.clear_sending.CallStop.TheVariants.{TakeFailed, PutFailed}
 use Rattle.pdh_chain.specs.declared.sending.SendStop.{SendStop}
@@ -23,6 +24,28 @@ as_line bits k = (if k == 0 then bits else [])
 -- nothing stands in the way of the bits between two places
 abbrev pub IsFree : Meaning → Plan → ℕ → ℕ → Inputs → Type 0
 IsFree m plan from to inputs = (size : ℕ → ℕ) → Fits m plan from inputs size → (y : ℕ) → from ≤ y → y < to → m.obstacle plan size y ≡ None
+
+-- ---- what is supplied
+
+-- A supply that the sender stood for after so many bits: it has this schedule, its frames say this, and its lists have these
+-- bits next.
+pub record Stood (m : Meaning) (says : ℕ → Service) (stands_for : Supply → ℕ → Type 0) (plan : Plan) (from : ℕ) (given : ℕ → List Bool) (supply : Supply) : Type 0 where
+  -- it has this schedule
+  pub plan_is : supply.plan ≡ plan
+  -- its frames say this
+  pub said : (n : ℕ) → supply.says n ≡ says n
+  -- the sender stood for it
+  pub stands : stands_for supply from
+  -- the bits of its lists from there on
+  pub agrees : Agrees m.leaves supply.lists (m.given plan from) given
+
+-- a frame that the line begins has so many bits
+abbrev pub HasFrames : Meaning → ℕ → Type 0
+HasFrames m len = (y n : ℕ) → m.begins y ≡ Some n → y ≡ n * len
+
+-- each frame that a bit between two places begins says this
+abbrev pub SayInFrames : Meaning → (ℕ → Service) → Service → ℕ → ℕ → Type 0
+SayInFrames m says now from to = (y n : ℕ) → from ≤ y → y < to → m.begins y ≡ Some n → says n ≡ now
 
 -- ---- a stop of the sender
 
@@ -45,9 +68,9 @@ pub record StopsAt (m : Meaning) (plan : Plan) (from made : ℕ) (given : ℕ �
 
 -- ---- the bits of a frame
 
--- Bits of the line were made, between two places. `placed` tells how many bits the new state has made, and `old` and `new`
--- which supplies the states stand for.
-pub record MakesBits (m : Meaning) (placed : ℕ → Type 0) (old new : Supply → ℕ → Type 0) (plan : Plan) (from to : ℕ) (bits : List Bool) (before after : Inputs) : Type 0 where
+-- Bits of the line were made, between two places, whose frames say `says`. `placed` tells how many bits the new state has made,
+-- and `old` and `new` which supplies the states stand for.
+pub record MakesBits (m : Meaning) (says : ℕ → Service) (placed : ℕ → Type 0) (old new : Supply → ℕ → Type 0) (plan : Plan) (from to : ℕ) (bits : List Bool) (before after : Inputs) : Type 0 where
   -- the bits that the leaves gave
   pub given : ℕ → List Bool
   pub gives : Gives m plan from to given before after
@@ -58,7 +81,7 @@ pub record MakesBits (m : Meaning) (placed : ℕ → Type 0) (old new : Supply �
   -- the sender has made as many
   pub place : placed to
   -- they are the line's for every supply that the old state stood for, and the new state stands for it
-  pub onward : (supply : Supply) → Stood m old plan from given supply → IsPart (m.line supply) bits from × new supply to
+  pub onward : (supply : Supply) → Stood m says old plan from given supply → IsPart (m.line supply) bits from × new supply to
 
 -- making the bits between two places stopped on the way
 pub record StopsMaking (m : Meaning) (plan : Plan) (from to : ℕ) (stop : TxStop) (before after : Inputs) (faults now : ℕ) : Type 0 where
@@ -72,8 +95,8 @@ pub record StopsMaking (m : Meaning) (plan : Plan) (from to : ℕ) (stop : TxSto
 
 -- ---- whole frames
 
--- So many bits of the line were sent, from its first on. `placed`, `old` and `new` are as above.
-pub record Sends (m : Meaning) (placed : ℕ → Type 0) (old new : Supply → ℕ → Type 0) (plan : Plan) (to : ℕ) (inputs inputs_now : Inputs) (outputs outputs_now : Outputs) : Type 0 where
+-- So many bits of the line were sent, from its first on. `says`, `placed`, `old` and `new` are as above.
+pub record Sends (m : Meaning) (says : ℕ → Service) (placed : ℕ → Type 0) (old new : Supply → ℕ → Type 0) (plan : Plan) (to : ℕ) (inputs inputs_now : Inputs) (outputs outputs_now : Outputs) : Type 0 where
   -- the bits that the leaves gave
   pub given : ℕ → List Bool
   pub gives : Gives m plan 0 to given inputs inputs_now
@@ -82,12 +105,12 @@ pub record Sends (m : Meaning) (placed : ℕ → Type 0) (old new : Supply → �
   -- the sender has made as many
   pub place : placed to
   -- for every supply that the sender stood for, the front of its line was put
-  pub puts : (supply : Supply) → Stood m old plan 0 given supply → Puts (as_line (front (m.line supply) to)) outputs outputs_now
+  pub puts : (supply : Supply) → Stood m says old plan 0 given supply → Puts (as_line (front (m.line supply) to)) outputs outputs_now
   -- and the sender stands for it
-  pub onward : (supply : Supply) → Stood m old plan 0 given supply → new supply to
+  pub onward : (supply : Supply) → Stood m says old plan 0 given supply → new supply to
 
 -- the sender stopped in a frame, and the whole frames before it were sent
-pub record StopsSending (m : Meaning) (old : Supply → ℕ → Type 0) (plan : Plan) (len frames : ℕ) (stop : TxStop) (inputs inputs_now : Inputs) (outputs outputs_now : Outputs) (faults now : ℕ) : Type 0 where
+pub record StopsSending (m : Meaning) (says : ℕ → Service) (old : Supply → ℕ → Type 0) (plan : Plan) (len frames : ℕ) (stop : TxStop) (inputs inputs_now : Inputs) (outputs outputs_now : Outputs) (faults now : ℕ) : Type 0 where
   -- how many frames were sent
   pub whole : ℕ
   pub fewer : whole < frames
@@ -99,10 +122,10 @@ pub record StopsSending (m : Meaning) (old : Supply → ℕ → Type 0) (plan : 
   pub given : ℕ → List Bool
   pub at : StopsAt m plan 0 made given stop inputs inputs_now faults now
   -- for every supply that the sender stood for, these frames of its line were put
-  pub puts : (supply : Supply) → Stood m old plan 0 given supply → Puts (as_line (front (m.line supply) (whole * len))) outputs outputs_now
+  pub puts : (supply : Supply) → Stood m says old plan 0 given supply → Puts (as_line (front (m.line supply) (whole * len))) outputs outputs_now
 
 -- a frame was made, and a bit of it couldn't be put
-pub record FailsToSend (m : Meaning) (old : Supply → ℕ → Type 0) (plan : Plan) (len frames : ℕ) (inputs inputs_now : Inputs) (outputs outputs_now : Outputs) (faults now : ℕ) : Type 0 where
+pub record FailsToSend (m : Meaning) (says : ℕ → Service) (old : Supply → ℕ → Type 0) (plan : Plan) (len frames : ℕ) (inputs inputs_now : Inputs) (outputs outputs_now : Outputs) (faults now : ℕ) : Type 0 where
   -- how many frames were sent before
   pub whole : ℕ
   pub fewer : whole < frames
@@ -114,10 +137,10 @@ pub record FailsToSend (m : Meaning) (old : Supply → ℕ → Type 0) (plan : P
   -- the count of faults rose
   pub rose : Rose faults now
   -- for every supply that the sender stood for, a prefix of its line was put, at most to the end of this frame
-  pub puts : (supply : Supply) → Stood m old plan 0 given supply → PutsPart (as_line (front (m.line supply) (suc whole * len))) outputs outputs_now
+  pub puts : (supply : Supply) → Stood m says old plan 0 given supply → PutsPart (as_line (front (m.line supply) (suc whole * len))) outputs outputs_now
 
 -- a call that takes bits failed in a frame, and the whole frames before it were sent
-pub record FailsToTake (m : Meaning) (old : Supply → ℕ → Type 0) (plan : Plan) (len frames : ℕ) (inputs inputs_now : Inputs) (outputs outputs_now : Outputs) (faults now : ℕ) : Type 0 where
+pub record FailsToTake (m : Meaning) (says : ℕ → Service) (old : Supply → ℕ → Type 0) (plan : Plan) (len frames : ℕ) (inputs inputs_now : Inputs) (outputs outputs_now : Outputs) (faults now : ℕ) : Type 0 where
   -- how many frames were sent
   pub whole : ℕ
   pub fewer : whole < frames
@@ -132,7 +155,7 @@ pub record FailsToTake (m : Meaning) (old : Supply → ℕ → Type 0) (plan : P
   -- the count of faults rose
   pub rose : Rose faults now
   -- for every supply that the sender stood for, these frames of its line were put
-  pub puts : (supply : Supply) → Stood m old plan 0 given supply → Puts (as_line (front (m.line supply) (whole * len))) outputs outputs_now
+  pub puts : (supply : Supply) → Stood m says old plan 0 given supply → Puts (as_line (front (m.line supply) (whole * len))) outputs outputs_now
 
 -- ---- why sending stopped
 
@@ -147,6 +170,6 @@ IfWriteFailed (Sender stop) P = Unit {0}
 IfWriteFailed WriteFailed P = P
 
 -- why frames in whose way nothing stands weren't all sent
-abbrev pub IsCallStop : Meaning → (Supply → ℕ → Type 0) → Plan → ℕ → ℕ → Inputs → Inputs → Outputs → Outputs → ℕ → ℕ → ℕ → ℕ → CallStop → Type 0
-IsCallStop m old plan len frames inputs inputs_now outputs outputs_now reads reads_now writes writes_now TakeFailed = FailsToTake m old plan len frames inputs inputs_now outputs outputs_now reads reads_now
-IsCallStop m old plan len frames inputs inputs_now outputs outputs_now reads reads_now writes writes_now PutFailed = FailsToSend m old plan len frames inputs inputs_now outputs outputs_now writes writes_now
+abbrev pub IsCallStop : Meaning → (ℕ → Service) → (Supply → ℕ → Type 0) → Plan → ℕ → ℕ → Inputs → Inputs → Outputs → Outputs → ℕ → ℕ → ℕ → ℕ → CallStop → Type 0
+IsCallStop m says old plan len frames inputs inputs_now outputs outputs_now reads reads_now writes writes_now TakeFailed = FailsToTake m says old plan len frames inputs inputs_now outputs outputs_now reads reads_now
+IsCallStop m says old plan len frames inputs inputs_now outputs outputs_now reads reads_now writes writes_now PutFailed = FailsToSend m says old plan len frames inputs inputs_now outputs outputs_now writes writes_now

@@ -1,8 +1,9 @@
 //! `mux` and `demux` of each chain, by the types of its nodes.
 
-ghost use Rattle.std.specs.Prelude.{◌≡◌, ◌<◌, ◌≤◌, ◌^◌, ℕ, [], IsTrue, IfOk, OnOk, IfErr};
+ghost use Rattle.std.specs.Prelude.{◌≡◌, ◌<◌, ◌≤◌, ◌^◌, ℕ, [], IsTrue, IfOk, OnOk, IfErr, IfSome};
 ghost use Rattle.pdh_clock.specs.Contents.{frame_count, counts};
 ghost use Rattle.pdh_chain.specs.Chains.{shapes_of, leaves_of, levels_of};
+ghost use Rattle.pdh_chain.specs.Saying.{says_of};
 ghost use Rattle.pdh_chain.specs.Muxes.{Muxes, IsMuxStop, IsLeftReady};
 ghost use Rattle.pdh_chain.specs.Demuxes.{Demuxes, IsDemuxStop, IsDemuxLeft};
 
@@ -11,7 +12,9 @@ use crate::making::mux_with;
 use crate::receiving::demux_with;
 use crate::stop::{DemuxStop, MuxStop};
 use pdh_clock::Schedule;
+use pdh_ds::{Ds2, Ds3, Ds3C};
 use pdh_edge::Port;
+use pdh_locked::Locked;
 use pdh_rx::{RxNode, Tail};
 use pdh_shape::{E2, E3, E4};
 use pdh_tx::{Leaf, Node};
@@ -24,39 +27,60 @@ type E2Sender = Node<E2, Leaf>;
 // A multiplexer of leaves into 34368 kbit/s.
 type E3Sender = Node<E3, Leaf>;
 
+// A multiplexer into 34368 kbit/s by way of 8448.
+type E13Sender = Node<E3, E2Sender>;
+
+// A multiplexer of leaves into 6312 kbit/s.
+type Ds2Sender = Node<Ds2, Leaf>;
+
 // A demultiplexer of 8448 kbit/s into leaves.
 type E2Receiver = RxNode<E2, Tail>;
 
 // A demultiplexer of 34368 kbit/s into leaves.
 type E3Receiver = RxNode<E3, Tail>;
 
+// A demultiplexer of 6312 kbit/s into leaves.
+type Ds2Receiver = RxNode<Ds2, Tail>;
+
 /// Makes so many frames of a chain's line from the leaves of a port, and puts their bits to its list 0, whole frames only.
-/// It takes its memory before it starts the port.
+/// The frames of the top are idle, but for the code that `feac` asks for: where their shape has a far end alarm and control
+/// channel, its bits are those of the code's words. It takes its memory before it starts the port.
 pub fn mux<P: Port>(
     alloc: Global,
     chain: Chain,
     clock: &Schedule,
     frames: u64,
+    feac: Option<u8>,
     port: &mut P,
 ) -> Result<(), MuxStop>
     requires levels { clock.now.levels ≡ levels_of chain }
     requires scheduled { frames ≤ frame_count clock.now.rows [] }
+    requires code { IfSome feac (λ code. code < 64) }
     requires fresh { P.fresh port.old }
     requires leaves { (k : ℕ) → k < leaves_of chain → IsTrue ((P.inputs port.old).holds k) }
     requires line { IsTrue ((P.outputs port.old).holds 0) }
     ensures kept { P.kept port.old port.new }
     ensures ready { IsLeftReady (P.fresh port.new) (P.ready port.new) result }
-    ensures ok { OnOk result (Muxes (shapes_of chain) (counts clock.now.rows) (frame_count clock.now.rows) frames (P.inputs port.old) (P.inputs port.new) (P.outputs port.old) (P.outputs port.new)) }
-    ensures err { IfErr result (IsMuxStop (shapes_of chain) (counts clock.now.rows) (frame_count clock.now.rows) frames (P.inputs port.old) (P.inputs port.new) (P.outputs port.old) (P.outputs port.new) (P.feed_faults port.old) (P.feed_faults port.new) (P.drain_faults port.old) (P.drain_faults port.new)) }
+    ensures ok { OnOk result (Muxes (shapes_of chain) (counts clock.now.rows) (says_of feac) (frame_count clock.now.rows) frames
+        (P.inputs port.old) (P.inputs port.new) (P.outputs port.old) (P.outputs port.new)) }
+    ensures err { IfErr result (IsMuxStop (shapes_of chain) (counts clock.now.rows) (says_of feac) (frame_count clock.now.rows) frames
+        (P.inputs port.old) (P.inputs port.new) (P.outputs port.old) (P.outputs port.new)
+        (P.feed_faults port.old) (P.feed_faults port.new) (P.drain_faults port.old) (P.drain_faults port.new)) }
 {
     let levels = chain.levels();
     match chain {
-        Chain::E12 => mux_with::<E2, Leaf, P>(alloc, levels, clock, frames, port),
-        Chain::E23 => mux_with::<E3, Leaf, P>(alloc, levels, clock, frames, port),
-        Chain::E34 => mux_with::<E4, Leaf, P>(alloc, levels, clock, frames, port),
-        Chain::E13 => mux_with::<E3, E2Sender, P>(alloc, levels, clock, frames, port),
-        Chain::E24 => mux_with::<E4, E3Sender, P>(alloc, levels, clock, frames, port),
-        Chain::E14 => mux_with::<E4, Node<E3, E2Sender>, P>(alloc, levels, clock, frames, port),
+        Chain::E12 => mux_with::<E2Sender, P>(alloc, levels, clock, frames, feac, port),
+        Chain::E23 => mux_with::<E3Sender, P>(alloc, levels, clock, frames, feac, port),
+        Chain::E34 => mux_with::<Node<E4, Leaf>, P>(alloc, levels, clock, frames, feac, port),
+        Chain::E13 => mux_with::<E13Sender, P>(alloc, levels, clock, frames, feac, port),
+        Chain::E24 => mux_with::<Node<E4, E3Sender>, P>(alloc, levels, clock, frames, feac, port),
+        Chain::E14 => mux_with::<Node<E4, E13Sender>, P>(alloc, levels, clock, frames, feac, port),
+        Chain::M12 => mux_with::<Ds2Sender, P>(alloc, levels, clock, frames, feac, port),
+        Chain::M23 => mux_with::<Node<Ds3, Leaf>, P>(alloc, levels, clock, frames, feac, port),
+        Chain::M13 => mux_with::<Node<Ds3, Ds2Sender>, P>(alloc, levels, clock, frames, feac, port),
+        Chain::C13 => mux_with::<Locked<Ds3C, Ds2Sender>, P>(
+            alloc, levels, clock, frames, feac, port,
+        ),
     }
 }
 
@@ -91,5 +115,9 @@ pub fn demux<P: Port, W: Watch>(
         Chain::E13 => demux_with::<E3, E2Receiver, P, W>(alloc, bits, port, watch),
         Chain::E24 => demux_with::<E4, E3Receiver, P, W>(alloc, bits, port, watch),
         Chain::E14 => demux_with::<E4, RxNode<E3, E2Receiver>, P, W>(alloc, bits, port, watch),
+        Chain::M12 => demux_with::<Ds2, Tail, P, W>(alloc, bits, port, watch),
+        Chain::M23 => demux_with::<Ds3, Tail, P, W>(alloc, bits, port, watch),
+        Chain::M13 => demux_with::<Ds3, Ds2Receiver, P, W>(alloc, bits, port, watch),
+        Chain::C13 => demux_with::<Ds3C, Ds2Receiver, P, W>(alloc, bits, port, watch),
     }
 }

@@ -5,7 +5,10 @@ ghost use Rattle.pdh_clock.specs.Made.{IsRated};
 ghost use Rattle.pdh_shape.specs.declared.place.Level.{Level};
 ghost use Rattle.pdh_chain.specs.Chains.{chains, name_of, shapes_of, frame_bytes_of, leaves_of, levels_of, delay_of};
 
-use pdh_levels::{E2_LEVEL, E3_LEVEL, E4_LEVEL, leaf_count};
+use pdh_levels::{
+    DS2_LEVEL, DS2_LOCKED_LEVEL, DS3_LEVEL, DS3_LOCKED_LEVEL, E2_LEVEL, E3_LEVEL, E4_LEVEL,
+    leaf_count,
+};
 use pdh_shape::Level;
 
 /// A chain of multiplexers, from its top to its leaves.
@@ -24,6 +27,15 @@ pub enum Chain {
     /// Sixty-four streams of 2048 kbit/s in one of 139264 kbit/s, by way of four of 34368 kbit/s and
     /// sixteen of 8448 kbit/s.
     E14,
+    /// Four streams of 1544 kbit/s in one of 6312 kbit/s (ANSI T1.107).
+    M12,
+    /// Seven streams of 6312 kbit/s in one of 44736 kbit/s, by the M23 application (ANSI T1.107).
+    M23,
+    /// Twenty-eight streams of 1544 kbit/s in one of 44736 kbit/s, by way of seven of 6312 kbit/s.
+    M13,
+    /// Twenty-eight streams of 1544 kbit/s in one of 44736 kbit/s with C-bit parity, by way of seven that
+    /// have the line's clock (ANSI T1.107).
+    C13,
 }
 
 // The name and the levels of each chain.
@@ -38,6 +50,10 @@ fn listed(chain: Chain) -> (&'static str, &'static [Level])
         Chain::E13 => ("e13", &[E3_LEVEL, E2_LEVEL]),
         Chain::E24 => ("e24", &[E4_LEVEL, E3_LEVEL]),
         Chain::E14 => ("e14", &[E4_LEVEL, E3_LEVEL, E2_LEVEL]),
+        Chain::M12 => ("m12", &[DS2_LEVEL]),
+        Chain::M23 => ("m23", &[DS3_LEVEL]),
+        Chain::M13 => ("m13", &[DS3_LEVEL, DS2_LEVEL]),
+        Chain::C13 => ("c13", &[DS3_LOCKED_LEVEL, DS2_LOCKED_LEVEL]),
     }
 }
 
@@ -62,7 +78,7 @@ impl Chain {
 }
 
 /// All chains.
-pub fn all_chains() -> [Chain; 6]
+pub fn all_chains() -> [Chain; 10]
     ensures { result ≡ chains }
 {
     [
@@ -72,6 +88,10 @@ pub fn all_chains() -> [Chain; 6]
         Chain::E13,
         Chain::E24,
         Chain::E14,
+        Chain::M12,
+        Chain::M23,
+        Chain::M13,
+        Chain::C13,
     ]
 }
 

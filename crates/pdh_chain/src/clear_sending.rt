@@ -1,13 +1,14 @@
 //! Sending a line in whose way nothing stands, a frame at a time.
 
-ghost use Rattle.std.specs.Prelude.{◌≡◌, ◌≤◌, ℕ, ◌*◌, IsTrue, false, All, length, OnOk, IfErr};
-ghost use Rattle.pdh_shape.specs.Frame.{idle};
+ghost use Rattle.std.specs.Prelude.{◌≡◌, ◌≤◌, ◌<◌, ℕ, ◌*◌, IsTrue, false, All, length, OnOk, IfErr, IfSome};
 ghost use Rattle.pdh_tx.specs.Meaning.{plan_of, IsNodeOf, HoldsAll};
-ghost use Rattle.pdh_chain.specs.Muxing.{IsFree, Sends, IsCallStop};
+ghost use Rattle.pdh_chain.specs.Saying.{says_of};
+ghost use Rattle.pdh_chain.specs.Muxing.{HasFrames, IsFree, Sends, IsCallStop};
 
+use crate::multiplexer::Multiplexer;
+use crate::saying::{channel_of, next_service};
 use pdh_clock::Schedule;
 use pdh_edge::{Failed, Port};
-use pdh_tx::Tx;
 
 /// Why not all frames were sent, though nothing stood in their way.
 #[derive(Clone, Copy, Debug, PartialEq, Eq)]
@@ -20,11 +21,12 @@ pub enum CallStop {
 
 /// Makes so many frames of a multiplexer's line from its first bit on, in whose way nothing stands,
 /// and puts their bits to output 0 of the port. Each frame is made at once into `frame`, which is as
-/// long as a frame, and then put at once.
-pub fn send_clear_frames<T: Tx, P: Port>(
+/// long as a frame, and then put at once. The frames say what `feac` asks for.
+pub fn send_clear_frames<T: Multiplexer, P: Port>(
     sender: &mut T,
     clock: &Schedule,
     frames: u64,
+    feac: Option<u8>,
     frame: &mut [bool],
     port: &mut P,
 ) -> Result<(), CallStop>
@@ -32,16 +34,17 @@ pub fn send_clear_frames<T: Tx, P: Port>(
     requires lists { HoldsAll (T.meaning sender.old).leaves (P.inputs port.old) }
     requires line { IsTrue ((P.outputs port.old).holds 0) }
     requires nodes { All (IsNodeOf clock.now.levels) (T.meaning sender.old).nodes }
-    requires idles { T.says sender.old ≡ idle }
+    requires frames { HasFrames (T.meaning sender.old) (length frame.old) }
+    requires code { IfSome feac (λ code. code < 64) }
     requires stands { T.stands_at sender.old (plan_of clock.now) 0 }
     requires free { IsFree (T.meaning sender.old) (plan_of clock.now) 0
         (frames * length frame.old) (P.inputs port.old) }
     ensures sent { OnOk result
-        (Sends (T.meaning sender.old) (T.stands_at sender.new (plan_of clock.now))
+        (Sends (T.meaning sender.old) (says_of feac) (T.stands_at sender.new (plan_of clock.now))
         (T.stands_for sender.old) (T.stands_for sender.new) (plan_of clock.now)
         (frames * length frame.old)
         (P.inputs port.old) (P.inputs port.new) (P.outputs port.old) (P.outputs port.new)) }
-    ensures fails { IfErr result (IsCallStop (T.meaning sender.old) (T.stands_for sender.old)
+    ensures fails { IfErr result (IsCallStop (T.meaning sender.old) (says_of feac) (T.stands_for sender.old)
         (plan_of clock.now) (length frame.old) frames
         (P.inputs port.old) (P.inputs port.new) (P.outputs port.old) (P.outputs port.new)
         (P.feed_faults port.old) (P.feed_faults port.new)
@@ -49,9 +52,10 @@ pub fn send_clear_frames<T: Tx, P: Port>(
     ensures running { OnOk result (T.is_stopped sender.new ≡ false) }
     ensures kept { P.kept port.old port.new }
     ensures same { T.meaning sender.new ≡ T.meaning sender.old }
-    ensures idles { T.says sender.new ≡ idle }
 {
+    let mut channel = channel_of(feac);
     for _whole in 0..frames {
+        sender.set(next_service(&mut channel));
         if let Err(Failed) = sender.make_clear(clock, port, frame) {
             return Err(CallStop::TakeFailed);
         }

@@ -13,14 +13,18 @@ use pdh_edge::Feed;
 use pdh_levels::{leaf_count, level_of, node_at, node_count};
 use pdh_shape::{Level, Path};
 
-// Whether all tributaries of a node are within the tolerance.
+// Whether all tributaries of a node that have a store are within the tolerance.
 fn node_within(levels: &[Level], clock: &Schedule, node: &Path) -> bool
     requires levels { AreLevels levels.now }
     requires same { clock.now.levels ≡ levels.now }
     requires known { IsSome (level_at levels.now (steps_of node.now)) }
     ensures { result ≡ true → NodeWithin levels.now clock.now.rows (steps_of node.now) }
 {
-    for trib in 0..level_of(levels, node).tribs {
+    let level = level_of(levels, node);
+    if level.locked {
+        return true;
+    }
+    for trib in 0..level.tribs {
         if let Err(_run) = clock.within(node, trib) {
             return false;
         }

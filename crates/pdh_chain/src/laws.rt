@@ -2,6 +2,7 @@
 ghost use Rattle.std.specs.Prelude.{◌≤◌, ◌<◌, ◌+◌, ◌*◌, ◌/◌, ℕ, Bool, List, length};
 ghost use Rattle.pdh_edge.specs.Ports.{Inputs, Outputs};
 ghost use Rattle.pdh_edge.specs.MemLists.{bits_held};
+ghost use Rattle.pdh_shape.specs.declared.role.Service.{Service};
 ghost use Rattle.pdh_shape.specs.Frame.{FrameShape};
 ghost use Rattle.pdh_nesting.specs.Chains.{width, top_len, AreFrames};
 ghost use Rattle.pdh_line.specs.Nodes.{Counts};
@@ -25,9 +26,9 @@ pub fn leaf_receives_no_more_than_its_share()
 
 /// Where `mux` couldn't put a bit, no list took more bits than its frames have.
 pub fn mux_puts_no_more_than_its_frames()
-    ensures { (shapes : List FrameShape) (counts : Counts) (frames : ℕ)
+    ensures { (shapes : List FrameShape) (counts : Counts) (says : ℕ → Service) (frames : ℕ)
         (inputs inputs_now : Inputs) (outputs outputs_now : Outputs)
-        → PutsPrefix shapes counts frames inputs inputs_now outputs outputs_now
+        → PutsPrefix shapes counts says frames inputs inputs_now outputs outputs_now
         → (k : ℕ) → bits_held outputs_now k ≤ bits_held outputs k + frames * top_len shapes }
 {}
 

@@ -7,7 +7,9 @@ mod clear_sending;
 mod clearing;
 mod laws;
 mod making;
+mod multiplexer;
 mod receiving;
+mod saying;
 mod sending;
 #[cfg(test)]
 mod sending_tests;

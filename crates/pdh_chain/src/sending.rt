@@ -1,9 +1,12 @@
-ghost use Rattle.std.specs.Prelude.{◌≡◌, ◌≤◌, ℕ, ◌+◌, ◌*◌, IsTrue, false, All, OnOk, IfErr, OnErr, vec_capacity};
-ghost use Rattle.pdh_shape.specs.Frame.{idle};
+ghost use Rattle.std.specs.Prelude.{◌≡◌, ◌≤◌, ◌<◌, ℕ, ◌+◌, ◌*◌, IsTrue, false, All, OnOk, IfErr, IfSome, OnErr, vec_capacity};
+ghost use Rattle.pdh_shape.specs.declared.role.Service.{Service};
 ghost use Rattle.pdh_edge.specs.Ports.{Puts, PutsPart, HasCause};
 ghost use Rattle.pdh_tx.specs.Meaning.{plan_of, IsNodeOf, HoldsAll};
-ghost use Rattle.pdh_chain.specs.Muxing.{as_line, MakesBits, StopsMaking, Sends, StopsSending, FailsToSend, IfSender, IfWriteFailed};
+ghost use Rattle.pdh_chain.specs.Saying.{says_of};
+ghost use Rattle.pdh_chain.specs.Muxing.{as_line, HasFrames, SayInFrames, MakesBits, StopsMaking, Sends, StopsSending, FailsToSend, IfSender, IfWriteFailed};
 
+use crate::multiplexer::Multiplexer;
+use crate::saying::{channel_of, next_service};
 use pdh_clock::Schedule;
 use pdh_edge::{Drain, Failed, Feed, Port};
 use pdh_tx::{Tx, TxStop};
@@ -28,11 +31,11 @@ fn make_frame<T: Tx, F: Feed>(
     requires running { T.is_stopped sender.old ≡ false }
     requires lists { HoldsAll (T.meaning sender.old).leaves (F.inputs feed.old) }
     requires nodes { All (IsNodeOf clock.now.levels) (T.meaning sender.old).nodes }
-    requires idles { T.says sender.old ≡ idle }
     requires stands { (x : ℕ) × T.stands_at sender.old (plan_of clock.now) x }
     requires room { len ≤ vec_capacity frame.old }
-    ensures made { OnOk result ((x : ℕ) → T.stands_at sender.old (plan_of clock.now) x
-        → MakesBits (T.meaning sender.old) (T.stands_at sender.new (plan_of clock.now))
+    ensures made { OnOk result ((x : ℕ) (says : ℕ → Service) → T.stands_at sender.old (plan_of clock.now) x
+        → SayInFrames (T.meaning sender.old) says (T.says sender.old) x (x + len)
+        → MakesBits (T.meaning sender.old) says (T.stands_at sender.new (plan_of clock.now))
         (T.stands_for sender.old) (T.stands_for sender.new) (plan_of clock.now) x (x + len)
         frame.new.items (F.inputs feed.old) (F.inputs feed.new)) }
     ensures stops { IfErr result (λ stop. (x : ℕ) → T.stands_at sender.old (plan_of clock.now) x
@@ -43,7 +46,7 @@ fn make_frame<T: Tx, F: Feed>(
     ensures room { vec_capacity frame.new ≡ vec_capacity frame.old }
     ensures fed { F.fed feed.old feed.new }
     ensures same { T.meaning sender.new ≡ T.meaning sender.old }
-    ensures idles { T.says sender.new ≡ idle }
+    ensures same_says { T.says sender.new ≡ T.says sender.old }
 {
     frame.clear();
     for _made in 0..len {
@@ -54,12 +57,14 @@ fn make_frame<T: Tx, F: Feed>(
 }
 
 /// Makes so many frames of a multiplexer's line from its first bit on, and puts their bits to output
-/// 0 of the port, whole frames only: the bits of a frame are put once all of them are made.
-pub fn send_frames<T: Tx, P: Port>(
+/// 0 of the port, whole frames only: the bits of a frame are put once all of them are made. The
+/// frames say what `feac` asks for.
+pub fn send_frames<T: Multiplexer, P: Port>(
     sender: &mut T,
     clock: &Schedule,
     len: u32,
     frames: u64,
+    feac: Option<u8>,
     frame: &mut Vec<bool>,
     port: &mut P,
 ) -> Result<(), SendStop>
@@ -67,28 +72,30 @@ pub fn send_frames<T: Tx, P: Port>(
     requires lists { HoldsAll (T.meaning sender.old).leaves (P.inputs port.old) }
     requires line { IsTrue ((P.outputs port.old).holds 0) }
     requires nodes { All (IsNodeOf clock.now.levels) (T.meaning sender.old).nodes }
-    requires idles { T.says sender.old ≡ idle }
+    requires frames { HasFrames (T.meaning sender.old) len }
+    requires code { IfSome feac (λ code. code < 64) }
     requires stands { T.stands_at sender.old (plan_of clock.now) 0 }
     requires room { len ≤ vec_capacity frame.old }
     ensures sent { OnOk result
-        (Sends (T.meaning sender.old) (T.stands_at sender.new (plan_of clock.now))
+        (Sends (T.meaning sender.old) (says_of feac) (T.stands_at sender.new (plan_of clock.now))
         (T.stands_for sender.old) (T.stands_for sender.new) (plan_of clock.now) (frames * len)
         (P.inputs port.old) (P.inputs port.new) (P.outputs port.old) (P.outputs port.new)) }
     ensures stops { IfErr result (λ why. IfSender why (λ stop.
-        StopsSending (T.meaning sender.old) (T.stands_for sender.old) (plan_of clock.now) len frames
+        StopsSending (T.meaning sender.old) (says_of feac) (T.stands_for sender.old) (plan_of clock.now) len frames
         stop (P.inputs port.old) (P.inputs port.new) (P.outputs port.old) (P.outputs port.new)
         (P.feed_faults port.old) (P.feed_faults port.new))) }
     ensures fails { IfErr result (λ why. IfWriteFailed why
-        (FailsToSend (T.meaning sender.old) (T.stands_for sender.old) (plan_of clock.now) len frames
+        (FailsToSend (T.meaning sender.old) (says_of feac) (T.stands_for sender.old) (plan_of clock.now) len frames
         (P.inputs port.old) (P.inputs port.new) (P.outputs port.old) (P.outputs port.new)
         (P.drain_faults port.old) (P.drain_faults port.new))) }
     ensures running { OnOk result (T.is_stopped sender.new ≡ false) }
     ensures room { vec_capacity frame.new ≡ vec_capacity frame.old }
     ensures kept { P.kept port.old port.new }
     ensures same { T.meaning sender.new ≡ T.meaning sender.old }
-    ensures idles { T.says sender.new ≡ idle }
 {
+    let mut channel = channel_of(feac);
     for _whole in 0..frames {
+        sender.set(next_service(&mut channel));
         if let Err(stop) = make_frame(sender, clock, len, frame, port) {
             return Err(SendStop::Sender(stop));
         }

@@ -1,4 +1,4 @@
-ghost use Rattle.std.specs.Prelude.{◌≡◌, ◌≤◌, length, IfOk};
+ghost use Rattle.std.specs.Prelude.{◌≡◌, ◌<◌, ◌≤◌, length, IfOk, IfSome};
 ghost use Rattle.pdh_chain.specs.Chains.{leaves_of, levels_of};
 ghost use Rattle.pdh_clock.specs.Contents.{frame_count};
 
@@ -25,21 +25,23 @@ fn patterns(alloc: Global, chain: Chain, bits: usize) -> Result<Vec<Vec<bool>>, 
     Ok(lists)
 }
 
-// What a run of `mux` over a schedule makes of these lists: its line, if it ends well, and how many
+// What a run of `mux` over a schedule makes of these lists, with this code sent where its top has a channel for it: its line, if it ends well, and how many
 // bits it leaves of each list.
 fn sent(
     alloc: Global,
     chain: Chain,
     clock: &Schedule,
+    feac: Option<u8>,
     lists: Vec<Vec<bool>>,
 ) -> Result<(Vec<bool>, Vec<u64>), Fail>
+    requires code { IfSome feac (λ code. code < 64) }
     requires levels { clock.now.levels ≡ levels_of chain }
     requires lists { length lists.items ≡ leaves_of chain }
     ensures { IfOk result (λ sent. length sent.1.items ≡ leaves_of chain) }
 {
     let mut port = MemPort::open(alloc, lists, 1)?;
-    port.room(0, 10_000)?;
-    if mux(alloc, chain, clock, clock.frames(&TOP), &mut port).is_err() {
+    port.room(0, 100_000)?;
+    if mux(alloc, chain, clock, clock.frames(&TOP), feac, &mut port).is_err() {
         return Err(Fail::new("mux stopped"));
     }
     let mut left = Vec::new(alloc);
@@ -66,22 +68,64 @@ fn shorten(lists: &mut Vec<Vec<bool>>, by: &[u64])
 // bit by bit, and is the same.
 #[test]
 fn lines_at_once_and_bit_by_bit(rt: HostRuntime) -> Result<(), Fail> {
-    let cases = [(Chain::E13, 3), (Chain::E24, 2), (Chain::E14, 3)];
+    let cases = [
+        (Chain::E13, 3),
+        (Chain::E24, 2),
+        (Chain::E14, 3),
+        (Chain::M13, 3),
+        (Chain::C13, 18),
+    ];
     for (chain, frames) in cases {
         let alloc = rt.alloc();
         let clock = Schedule::from_ppm(alloc, chain.levels(), frames, Bias::Mixed)?;
-        let (at_once, left) = sent(alloc, chain, &clock, patterns(alloc, chain, 2_000)?)?;
-        assert!(rt; left[0] < 2_000);
-        let taken = 2_000 - left[0];
+        let (at_once, left) = sent(
+            alloc,
+            chain,
+            &clock,
+            Some(5),
+            patterns(alloc, chain, 4_000)?,
+        )?;
+        assert!(rt; left[0] < 4_000);
+        let taken = 4_000 - left[0];
         assert!(rt; u128::from(taken) < clock.entered(0, frames));
 
-        let mut lists = patterns(alloc, chain, 2_000)?;
+        let mut lists = patterns(alloc, chain, 4_000)?;
         shorten(&mut lists, &left);
-        let (bit_by_bit, none) = sent(alloc, chain, &clock, lists)?;
+        let (bit_by_bit, none) = sent(alloc, chain, &clock, Some(5), lists)?;
         assert_eq!(rt; bit_by_bit, at_once, "{chain:?}");
         for count in none {
             assert_eq!(rt; count, 0, "{chain:?}");
         }
+    }
+    Ok(())
+}
+
+// A code changes the line's bits of the channel alone, one in each frame: those of its word, eight ones, a zero, the code, and
+// a zero.
+#[test]
+fn a_code_is_sent_in_each_frame(rt: HostRuntime) -> Result<(), Fail> {
+    let alloc = rt.alloc();
+    let chain = Chain::C13;
+    let clock = Schedule::from_ppm(alloc, chain.levels(), 18, Bias::Nominal)?;
+    let (idle, _left) = sent(alloc, chain, &clock, None, patterns(alloc, chain, 4_000)?)?;
+    let (coded, _left) = sent(
+        alloc,
+        chain,
+        &clock,
+        Some(5),
+        patterns(alloc, chain, 4_000)?,
+    )?;
+    assert_eq!(rt; idle.len(), coded.len());
+    let mut changed = Vec::new(alloc);
+    for (place, (bit, other)) in idle.iter().zip(coded.iter()).enumerate() {
+        if bit != other {
+            changed.push(place)?;
+        }
+    }
+    let frames = [8, 9, 10, 11, 13, 15];
+    assert_eq!(rt; changed.len(), frames.len());
+    for (place, frame) in changed.iter().zip(frames) {
+        assert_eq!(rt; *place, frame * 4_760 + 510);
     }
     Ok(())
 }

@@ -33,7 +33,7 @@ fn run(
     let clock = Schedule::read(alloc, chain.levels(), schedule)?;
     let mut port = MemPort::open(alloc, zeros(alloc, lengths)?, 1)?;
     port.room(0, 4_096)?;
-    let end = mux(alloc, chain, &clock, clock.frames(&TOP), &mut port);
+    let end = mux(alloc, chain, &clock, clock.frames(&TOP), None, &mut port);
     Ok((end, port.output(0).len()))
 }
 
@@ -73,6 +73,13 @@ fn ends_and_lengths(rt: HostRuntime) -> Result<(), Fail> {
         ),
         (Chain::E12, over, [1_078; 4], event(true, 4, 1, 27), 848),
         (Chain::E12, under, [230; 4], event(false, 1, 0, 108), 0),
+        (
+            Chain::M12,
+            b"/ 1 288 288 288 288\n",
+            [312; 4],
+            Ok(()),
+            1_176,
+        ),
         (
             Chain::E23,
             b"/ 1 378 378 378 378\n",
@@ -140,6 +147,12 @@ fn gaps(rt: HostRuntime) -> Result<(), Fail> {
         (Chain::E13, 18_431, 18_430, Ok(0), 0),
         (Chain::E24, 35_135, 35_135, Ok(0), 377),
         (Chain::E14, 11_711, 11_711, Ok(0), 0),
+        (Chain::M12, 11_760, 11_760, Ok(0), 2_009),
+        (Chain::M23, 19_039, 19_039, Ok(0), 671),
+        (Chain::M23, 19_038, 19_038, Ok(0), 0),
+        (Chain::M13, 52_359, 52_359, Ok(0), 287),
+        (Chain::C13, 52_359, 52_359, Ok(0), 287),
+        (Chain::C13, 52_358, 52_358, Ok(0), 0),
     ];
     for (chain, zeros, bits, end, got) in cases {
         let ran = run_demux(rt.alloc(), chain, zeros, bits)?;
@@ -178,7 +191,7 @@ fn made(
     let clock = Schedule::read(alloc, chain.levels(), schedule)?;
     let mut port = MemPort::open(alloc, zeros(alloc, [9_000; 4])?, 1)?;
     port.room(0, 40_000)?;
-    mux(alloc, chain, &clock, clock.frames(&TOP), &mut port).is_ok();
+    mux(alloc, chain, &clock, clock.frames(&TOP), None, &mut port).is_ok();
     let mut line = Vec::new(alloc);
     for bit in port.output(0) {
         line.push(*bit != (inverted[0] <= line.len() && line.len() < inverted[1]))?;
@@ -216,7 +229,10 @@ fn many_bits_at_a_time(rt: HostRuntime) -> Result<(), Fail> {
     let e2: &[u8] = b"/ 12 205 205 205 205\n";
     let e3: &[u8] = b"/ 12 377 377 377 377\n";
     let e4: &[u8] = b"/ 12 722 722 722 722\n";
+    let ds2: &[u8] = b"/ 12 287 287 287 287\n";
     let cases = [
+        (Chain::M12, Chain::M12, ds2, [0, 0]),
+        (Chain::M12, Chain::M12, ds2, [4_000, 6_000]),
         (Chain::E12, Chain::E12, e2, [0, 0]),
         (Chain::E12, Chain::E12, e2, [3_000, 7_000]),
         (Chain::E13, Chain::E23, e3, [0, 0]),

@@ -1,9 +1,11 @@
-ghost use Rattle.std.specs.Prelude.{◌≡◌, ◌+◌, ◌<◌, ◌≤◌, ◌^◌, ℕ, List, [], ◌∷◌, length, IfOk, OnOk};
+ghost use Rattle.std.specs.Prelude.{◌≡◌, ◌+◌, ◌<◌, ◌≤◌, ◌^◌, ℕ, suc, List, [], ◌∷◌, All, length, map, IfOk, OnOk};
 ghost use Rattle.pdh_shape.specs.Frame.{FrameShape};
-ghost use Rattle.pdh_nesting.specs.Chains.{width, AreFrames, AllStores, ReadEvenly};
+ghost use Rattle.pdh_nesting.specs.Chains.{width, AreFrames, ReadEvenly};
+ghost use Rattle.pdh_line.specs.Sending.{HasStores};
 ghost use Rattle.pdh_tx.specs.Meaning.{IsFresh};
-ghost use Rattle.pdh_chain.specs.Trees.{child_path as path_of_child, sender_of, receiver_of};
+ghost use Rattle.pdh_chain.specs.Trees.{HasNoStores, child_path as path_of_child, sender_of, senders_below, receiver_of};
 
+use pdh_locked::Locked;
 use pdh_rx::{Rx, RxNode, Tail};
 use pdh_shape::{Path, Shape};
 use pdh_slots::SlotTables;
@@ -43,10 +45,21 @@ impl<S: Shape, T: Drop> Drop for LevelTables<S, T> {
     }
 }
 
+impl<S: Shape, T: Drop> LevelTables<S, T> {
+    // Makes the tables of a level above these, or finds no memory.
+    fn open(alloc: Global, below: T) -> Result<LevelTables<S, T>, AllocError> {
+        let here = Rc::new(alloc, SlotTables::open(alloc)?)?;
+        Ok(LevelTables { here, below })
+    }
+}
+
 /// A sender that is a whole chain: a leaf, or a multiplexer of such senders.
 pub trait ChainTx: Tx {
     /// The frames of its levels, from its own down.
     ghost shapes: { List FrameShape };
+
+    /// Its nodes are of the kind of their frames: with stores where the frame has control copies, and else without.
+    ghost fits: { Type 0 };
 
     /// The tables of its levels' slots, which all nodes of a level share.
     type Tables: Drop;
@@ -63,7 +76,7 @@ pub trait ChainTx: Tx {
         next: &mut u32,
     ) -> Result<Self, AllocError>
         requires levels { path.depth + length shapes ≤ 3 }
-        requires stores { AllStores shapes }
+        requires fits { Self.fits }
         requires few { next.old + width shapes < 2 ^ 32 }
         ensures meaning { IfOk result (λ sender. Self.meaning sender ≡ sender_of shapes path next.old) }
         ensures fresh { IfOk result (IsFresh Self.stands_at Self.stands_for Self.says Self.is_stopped) }
@@ -74,6 +87,28 @@ pub trait ChainTx: Tx {
 
     /// Each reads its tributaries evenly.
     ghost read_evenly: { ReadEvenly shapes };
+}
+
+// Makes the tributaries of a node at a path that has such frames, with no bit made, or finds no memory. Their leaves are
+// numbered from `next` on, which then is the next number.
+fn open_tributaries<S: Shape, C: ChainTx>(
+    alloc: Global,
+    tables: &C::Tables,
+    path: Path,
+    next: &mut u32,
+) -> Result<Vec<C>, AllocError>
+    requires levels { path.depth + suc (length C.shapes) ≤ 3 }
+    requires fits { C.fits }
+    requires few { next.old + width (S.shape ∷ C.shapes) < 2 ^ 32 }
+    ensures meanings { IfOk result (λ children. map C.meaning children.items ≡ senders_below C.shapes path next.old S.TRIBS) }
+    ensures fresh { IfOk result (λ children. All (IsFresh C.stands_at C.stands_for C.says C.is_stopped) children.items) }
+    ensures next { OnOk result (next.new ≡ next.old + width (S.shape ∷ C.shapes)) }
+{
+    let mut children = Vec::with_capacity(alloc, usize::from(S::TRIBS))?;
+    for trib in 0..S::TRIBS {
+        children.push(C::open(alloc, tables, child_path(path, trib), next)?)?;
+    }
+    Ok(children)
 }
 
 /// A receiver that is a whole chain: a leaf, or a demultiplexer of such receivers.
@@ -108,6 +143,8 @@ pub trait ChainRx: Rx {
 impl ChainTx for Leaf {
     ghost shapes = { [] };
 
+    ghost fits = { Unit {0} };
+
     ghost are_frames = { tt };
 
     ghost read_evenly = { tt };
@@ -128,6 +165,8 @@ impl ChainTx for Leaf {
 impl<S: Shape, C: ChainTx> ChainTx for Node<S, C> {
     ghost shapes = { S.shape ∷ C.shapes };
 
+    ghost fits = { HasStores S.shape × C.fits };
+
     ghost are_frames = { (S.is_frame, S.has_tributaries, C.are_frames) };
 
     ghost read_evenly = { (λ stores. S.reads_evenly, C.read_evenly) };
@@ -135,9 +174,7 @@ impl<S: Shape, C: ChainTx> ChainTx for Node<S, C> {
     type Tables = LevelTables<S, C::Tables>;
 
     fn tables(alloc: Global) -> Result<LevelTables<S, C::Tables>, AllocError> {
-        let here = Rc::new(alloc, SlotTables::open(alloc)?)?;
-        let below = C::tables(alloc)?;
-        Ok(LevelTables { here, below })
+        LevelTables::open(alloc, C::tables(alloc)?)
     }
 
     fn open(
@@ -146,11 +183,35 @@ impl<S: Shape, C: ChainTx> ChainTx for Node<S, C> {
         path: Path,
         next: &mut u32,
     ) -> Result<Self, AllocError> {
-        let mut children = Vec::with_capacity(alloc, usize::from(S::TRIBS))?;
-        for trib in 0..S::TRIBS {
-            children.push(C::open(alloc, &tables.below, child_path(path, trib), next)?)?;
-        }
+        let children = open_tributaries::<S, C>(alloc, &tables.below, path, next)?;
         Node::open(alloc, path, tables.here.clone()?, children)
+    }
+}
+
+impl<S: Shape, C: ChainTx> ChainTx for Locked<S, C> {
+    ghost shapes = { S.shape ∷ C.shapes };
+
+    ghost fits = { HasNoStores S.shape × C.fits };
+
+    ghost are_frames = { (S.is_frame, S.has_tributaries, C.are_frames) };
+
+    ghost read_evenly = { (λ stores. S.reads_evenly, C.read_evenly) };
+
+    type Tables = LevelTables<S, C::Tables>;
+
+    fn tables(alloc: Global) -> Result<LevelTables<S, C::Tables>, AllocError> {
+        LevelTables::open(alloc, C::tables(alloc)?)
+    }
+
+    fn open(
+        alloc: Global,
+        tables: &LevelTables<S, C::Tables>,
+        path: Path,
+        next: &mut u32,
+    ) -> Result<Self, AllocError> {
+        let children = open_tributaries::<S, C>(alloc, &tables.below, path, next)?;
+        let queue = vec![in alloc; false; S::LOW as usize]?;
+        Ok(Locked::new(path, tables.here.clone()?, queue, children))
     }
 }
 
@@ -180,9 +241,7 @@ impl<S: Shape, C: ChainRx> ChainRx for RxNode<S, C> {
     type Tables = LevelTables<S, C::Tables>;
 
     fn tables(alloc: Global) -> Result<LevelTables<S, C::Tables>, AllocError> {
-        let here = Rc::new(alloc, SlotTables::open(alloc)?)?;
-        let below = C::tables(alloc)?;
-        Ok(LevelTables { here, below })
+        LevelTables::open(alloc, C::tables(alloc)?)
     }
 
     fn open(

@@ -1,5 +1,5 @@
 -- What nodes begin, from the top down.
-use Rattle.std.proofs.Common.{◌≡◌, ℕ, zero, suc, ◌+◌, ◌-◌, ◌*◌, ◌/◌, ◌%◌, ◌<◌, ◌≤◌, ◌==◌, ◌&&◌, nat_le, min, Bool, true, false, cond, List, [], ◌∷◌, ◌++◌, length, get_or, take, Option, Some, None, is_some, IsSome, IsNone, All, ◌⊎◌, inl, inr, refl, ap, sym, ◌∙◌, subst, arith, zero-add, append-nil, append_assoc, suc-mul}
+use Rattle.std.proofs.Common.{◌≡◌, ℕ, zero, suc, ◌+◌, ◌-◌, ◌*◌, ◌/◌, ◌%◌, ◌<◌, ◌≤◌, ◌==◌, ◌&&◌, nat_le, min, Bool, true, false, cond, List, [], ◌∷◌, ◌++◌, length, get_or, take, Option, Some, None, is_some, IsSome, IsNone, ◌⊎◌, inl, inr, refl, ap, sym, ◌∙◌, subst, arith, zero-add, append-nil, append_assoc, suc-mul}
 use Rattle.std.specs.Prelude.{nat_lt, find}
 use Rattle.std.specs.Option.{option_map}
 use Rattle.std.proofs.lemmas.Bool.{cases_Bool, cases_lt, eq-eqb, eqb-true, eqb-false, le-leb, ltb-false, le-ltb, lt-ltb, false≢true}
@@ -9,13 +9,13 @@ use Rattle.pdh_rows.proofs.OutsideLaws.{find_none}
 use Rattle.pdh_shape.specs.declared.place.Level.{Level}
 use Rattle.pdh_clock.specs.Row.{Row}
 use Rattle.pdh_shape.specs.declared.place.Path.{Path}
-use Rattle.pdh_levels.specs.Levels.{IsLevel, nodes_in, level_at, stores_at, place_of}
+use Rattle.pdh_levels.specs.Levels.{nodes_in, level_at, place_of}
 use Rattle.pdh_line.specs.Paths.{steps_of}
 use Rattle.pdh_clock.specs.Contents.{Contents, counts, frame_count}
 use Rattle.pdh_clock.specs.Begun.{taken, begun_from, bits_from, bits_made, top_len, frames_begun, NoneShort, shortage}
 use Rattle.pdh_line.specs.Progress.{begun_by}
 use Rattle.pdh_levels.proofs.NodeOrder.{is_below, placed}
-use Rattle.pdh_levels.proofs.LevelLaws.{stores_is, steps_one, steps_two, place_none}
+use Rattle.pdh_levels.proofs.LevelLaws.{has_level, level_in, steps_one, steps_two, place_none}
 
 -- ---- frames and bits
 
@@ -174,6 +174,12 @@ first_node levels path other some = go (cases_Bool (path.depth == 1))
         let deep = subst (λ steps. IsSome (level_at levels steps)) (steps_two path other (eqb-false path.depth 1 isnt)) some in
         ap is_some (child levels (path.first ∷ []) path.second deep).is
 
+-- a node below the top is of a level below the first
+pub some_below_top : (levels : List Level) (path : Path) → (path.depth ≡ 0 → ⊥) → IsSome (level_at levels (steps_of path)) → 1 < length levels
+some_below_top levels path other some =
+    let has = has_level (level_at levels (path.first ∷ [])) (first_node levels path other some) in
+    (level_in levels (path.first ∷ []) has.level has.is).inside
+
 place_some : (levels : List Level) (step : ℕ) (path : List ℕ) → IsSome (level_at levels (step ∷ path)) → 0 < place_of levels (step ∷ path)
 place_some [] step path some = absurd (false≢true some)
 place_some (level ∷ below) step path some = omega arith
@@ -197,13 +203,15 @@ pub first_before : (levels : List Level) (path : Path) → (path.depth ≡ 0 →
 first_before levels path other other' some =
     subst (λ steps. place_of levels (path.first ∷ []) < place_of levels steps) (sym (steps_two path other other')) (second_node levels path other other' some).after
 
--- a tributary of a node that is a node has a store
-pub stores_child : (levels : List Level) (path : List ℕ) (step : ℕ) → All IsLevel levels → IsChild levels path step → step - 1 < stores_at levels path
-stores_child levels path step each c =
-    let stores = stores_is levels path c.level each c.is in
+-- a node stands below one of the tributaries of the node above it
+pub child_tributary : (levels : List Level) (path : List ℕ) (step : ℕ) (level : Level) → IsChild levels path step → level_at levels path ≡ Some level → step - 1 < level.tribs
+child_tributary levels path step level c is =
+    let high : step ≤ level.tribs = subst (λ (l : Level). step ≤ l.tribs) (same_some c.level level (sym c.is ∙ is)) c.high in
     let low = c.low in
-    let high = c.high in
-    omega (arith, stores)
+    omega arith
+  where
+    same_some : (a b : Level) → Some a ≡ Some b → a ≡ b
+    same_some a b h = cc
 
 -- ---- the first node with too few frames
 

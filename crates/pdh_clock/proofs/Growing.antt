@@ -1,25 +1,27 @@
 -- The rows of a text, line by line, and how much they sum up to.
-use Rattle.std.proofs.Common.{◌≡◌, ℕ, suc, ◌+◌, ◌*◌, ◌<◌, ◌≤◌, ◌^◌, Bool, false, cond, IsSome, List, [], ◌∷◌, ◌++◌, length, map, Result, Ok, Err, All, refl, ap, sym, ◌∙◌, subst, arith, slice_index, add-one, append-nil, inl, inr}
-use Rattle.std.specs.Prelude.{filter}
+use Rattle.std.proofs.Common.{◌≡◌, ℕ, suc, ◌+◌, ◌*◌, ◌<◌, ◌≤◌, ◌^◌, false, cond, IsSome, List, [], ◌∷◌, ◌++◌, length, map, Result, Ok, Err, All, refl, ap, sym, ◌∙◌, subst, arith, slice_index, add-one, append-nil, mul-suc, inl, inr}
 use Rattle.std.specs.List.{flat_map}
 use Rattle.std.proofs.lemmas.Bool.{cases_lt, cases_Bool}
 use Rattle.std.proofs.lemmas.List.{append_assoc, get_or_past, get_or-map, length-append, length-map}
 use Rattle.std.proofs.lemmas.List.Sums.{sum_by-le}
-use Rattle.std.proofs.lemmas.List.Elements.{All-nil, All-get_or, All-weaker, All-push, All-filter}
+use Rattle.std.proofs.lemmas.List.Elements.{All-nil, All-get_or, All-weaker, All-push, All-filter, filter-append}
 use Rattle.std.proofs.Math.Nat.{mul-le-mul_right, mul-le-mul_left, le_of_lt}
 use Rattle.pdh_shape.specs.declared.place.Level.{Level}
 use Rattle.pdh_rows.specs.Rows.{NodeRow}
-use Rattle.pdh_rows.specs.Stored.{row_frames, row_bits}
+use Rattle.pdh_rows.specs.Stored.{row_frames, row_bits, rows_of, node_row}
 use Rattle.pdh_clock.specs.declared.fault.ScheduleFault.{ScheduleFault}
 use Rattle.pdh_clock.specs.declared.fault.ScheduleFault.TheVariants.{TooLong, BadRow, UnknownNode, CountOver, Memory}
+use Rattle.pdh_clock.specs.declared.tree.NodeRows.{NodeRows}
 use Rattle.pdh_clock.specs.declared.tree.Tree.{Tree}
 use Rattle.pdh_clock.specs.Row.{Row}
-use Rattle.pdh_levels.specs.Levels.{level_at, nodes_in}
-use Rattle.pdh_clock.specs.Contents.{rows_at, by_nodes, same_path}
+use Rattle.pdh_levels.specs.Levels.{longest_frame, IsLevel, level_at, level_stores, nodes_in, stores_at}
+use Rattle.pdh_clock.specs.Contents.{IsRowOf, rows_at, by_nodes, same_path}
 use Rattle.pdh_clock.specs.Text.{lines_of}
 use Rattle.pdh_clock.specs.Judged.{◌>>=◌, is_passed_over, row_judged, rows_judged, lines_judged, Fails}
-use Rattle.pdh_clock.specs.Stored.{IsTree, IsSmall, IsSmallRow, at_path, rows_in}
-use Rattle.pdh_clock.proofs.Trees.{rows_at-by_nodes}
+use Rattle.pdh_clock.specs.Stored.{IsTree, IsSmall, IsSmallRow, at_path, node_path, row_bytes, rows_in, most_node_frames}
+use Rattle.pdh_clock.proofs.Trees.{IsNodeAt, rows_at-by_nodes}
+use Rattle.pdh_levels.proofs.LevelLaws.{has_level, known, level_is, stores_count, level_stores_is, has_stores}
+use Rattle.pdh_clock.proofs.Laws.{same_path-true}
 use Rattle.pdh_shape.specs.OwnNumbers.{most_bytes}
 
 -- ---- sums
@@ -32,32 +34,75 @@ pub small_stored : (path : List ℕ) (rows : List NodeRow) → All IsSmallRow (m
 small_stored path rows h = λ k d l.
     subst IsSmallRow (get_or-map (at_path path) rows k d (at_path path d) l) (h k (at_path path d) (omega (arith, length-map rows (at_path path))))
 
-bits_small : (row : NodeRow) (trib : ℕ) → IsSmallNodeRow row → row.repeat * slice_index row.counts trib ≤ 10 ^ 9 * 4760
+bits_small : (row : NodeRow) (trib : ℕ) → IsSmallNodeRow row → row.repeat * slice_index row.counts trib ≤ 10 ^ 9 * longest_frame
 bits_small row trib s =
     let left = mul-le-mul_right (slice_index row.counts trib) (le_of_lt s.repeat_is) in
     let right = mul-le-mul_left (10 ^ 9) (s.counts_are trib) in
     omega (arith, left, right)
 
--- the frames and the bits of so few rows fit
-pub frames_fit : (rows : List NodeRow) (repeat : ℕ) → All IsSmallNodeRow rows → repeat < 10 ^ 9 → 11 * length rows ≤ most_bytes
-    → row_frames rows + repeat < 2 ^ 64
-frames_fit rows repeat small s few =
+-- so few rows have few frames
+pub frames_most : (rows : List NodeRow) → All IsSmallNodeRow rows → row_frames rows ≤ 10 ^ 9 * length rows
+frames_most rows small =
     let each = All-weaker IsSmallNodeRow (λ row. row.repeat ≤ 10 ^ 9) (λ row h. le_of_lt h.repeat_is) rows small in
     omega (arith, sum_by-le (λ row. row.repeat) (10 ^ 9) rows each)
+
+-- their frames and their bits fit
+pub frames_fit : (rows : List NodeRow) (repeat : ℕ) → All IsSmallNodeRow rows → repeat < 10 ^ 9 → length rows ≤ most_bytes
+    → row_frames rows + repeat < 2 ^ 64
+frames_fit rows repeat small s few = omega (arith, frames_most rows small)
+
+-- and one more row has not too many frames
+pub frames_more : (rows : List NodeRow) (repeat : ℕ) (counts : List ℕ) → All IsSmallNodeRow rows → IsSmall repeat counts → 3 * length rows ≤ most_bytes
+    → row_frames (rows ++ node_row repeat counts ∷ []) ≤ most_node_frames
+frames_more rows repeat counts small s few =
+    let all = frames_most (rows ++ node_row repeat counts ∷ []) (All-push IsSmallNodeRow rows (node_row repeat counts) small s) in
+    omega (arith, all, length-append rows (node_row repeat counts ∷ []))
 
 pub bits_fit : (rows : List NodeRow) (row : NodeRow) (trib : ℕ) → All IsSmallNodeRow rows → IsSmallNodeRow row → 11 * length rows ≤ most_bytes
     → row_bits rows trib + row.repeat * slice_index row.counts trib < 2 ^ 64
 bits_fit rows row trib small s few =
-    let each = All-weaker IsSmallNodeRow (λ row. row.repeat * slice_index row.counts trib ≤ 10 ^ 9 * 4760)
+    let each = All-weaker IsSmallNodeRow (λ row. row.repeat * slice_index row.counts trib ≤ 10 ^ 9 * longest_frame)
     (λ row h. bits_small row trib h) rows small in
-    omega (arith, sum_by-le (λ row. row.repeat * slice_index row.counts trib) (10 ^ 9 * 4760) rows each, bits_small row trib s)
+    omega (arith, sum_by-le (λ row. row.repeat * slice_index row.counts trib) (10 ^ 9 * longest_frame) rows each, bits_small row trib s)
 
-pub count_small : (counts : List ℕ) (len : ℕ) → len ≤ 4760 → All (λ count. count ≤ len) counts → (trib : ℕ)
-    → slice_index counts trib ≤ 4760
+pub count_small : (counts : List ℕ) (len : ℕ) → len ≤ longest_frame → All (λ count. count ≤ len) counts → (trib : ℕ)
+    → slice_index counts trib ≤ longest_frame
 count_small counts len l each trib = elim (cases_lt trib (length counts)) [
   | inl within ↦ omega (arith, All-get_or (λ count. count ≤ len) counts trib 0 within each)
   | inr past ↦ omega (arith, get_or_past counts trib 0 past)
 ]
+
+-- ---- the rows of a node
+
+-- so few rows, by the bytes that each has at least
+pub record AreFewRows (rows : List NodeRow) (bytes : ℕ) : Type 0 where
+  pub small : All IsSmallNodeRow rows
+  pub bytes_are : bytes * length rows ≤ most_bytes
+  pub few : 3 * length rows ≤ most_bytes
+
+pub few_rows : (least bytes n : ℕ) → least ≤ bytes → bytes * n ≤ most_bytes → least * n ≤ most_bytes
+few_rows least bytes n h few = omega (arith, mul-le-mul_right n h)
+
+pub few_rows_at : (tree : Tree) (path : List ℕ) (node : NodeRows) → IsNodeAt tree path node → All IsSmallRow (rows_at (rows_in tree) path)
+    → row_bytes tree.levels.items path * length (rows_at (rows_in tree) path) ≤ most_bytes → AreFewRows (rows_of node.table) (row_bytes tree.levels.items path)
+few_rows_at tree path node at small few =
+    let rows : length (rows_at (rows_in tree) path) ≡ length (rows_of node.table) = ap length at.rows_are ∙ length-map (rows_of node.table) (at_path (node_path node)) in
+    let bytes : row_bytes tree.levels.items path * length (rows_of node.table) ≤ most_bytes = subst (λ n. row_bytes tree.levels.items path * n ≤ most_bytes) rows few in
+    record {
+      small = small_stored (node_path node) (rows_of node.table) (subst (All IsSmallRow) at.rows_are small);
+      bytes_are = bytes;
+      few = few_rows 3 (row_bytes tree.levels.items path) (length (rows_of node.table)) (omega arith) bytes;
+    }
+
+-- a row with counts has 11 bytes or more
+pub stores_least : (levels : List Level) (path : List ℕ) (trib : ℕ) → All IsLevel levels → trib < stores_at levels path → 11 ≤ row_bytes levels path
+stores_least levels path trib each store =
+    let has = has_level (level_at levels path) (known levels path trib store) in
+    let level = has.level in
+    let count : stores_at levels path ≡ level_stores level = stores_count levels path level has.is in
+    let all : level_stores level ≡ level.tribs = level_stores_is level (has_stores level trib (omega (arith, count))) in
+    let fewest = (level_is levels path level each has.is).fewest in
+    omega (arith, count, all)
 
 -- ---- lines
 
@@ -65,8 +110,8 @@ count_small counts len l each trib = elim (cases_lt trib (length counts)) [
 abbrev pub with_front : List Row → Result (List Row) ScheduleFault → Result (List Row) ScheduleFault
 with_front front read = read >>= λ rows. Ok (front ++ rows)
 
--- what the reading keeps: the rows so far, each of which had at least 11 bytes, stand at their nodes; with those that are
--- left they are those of the whole text
+-- what the reading keeps: the rows so far, each of which had as many bytes as a row of its node has at least, stand at their
+-- nodes; with those that are left they are those of the whole text
 pub record IsReading (levels : List Level) (tree : Tree) (number : ℕ) (rest text : List ℕ) : Type 0 where
   pub tree_is : IsTree tree
   pub levels_are : tree.levels.items ≡ levels
@@ -74,7 +119,7 @@ pub record IsReading (levels : List Level) (tree : Tree) (number : ℕ) (rest te
   pub rows : rows_in tree ≡ by_nodes levels seen
   pub same : with_front seen (rows_judged levels (number + 1) (lines_of rest)) ≡ rows_judged levels 1 (lines_of text)
   pub small : All IsSmallRow seen
-  pub bytes : 11 * length seen + length rest ≤ length text
+  pub bytes : (path : List ℕ) → row_bytes levels path * length (rows_at seen path) + length rest ≤ length text
   pub lines : number + length rest ≤ length text
 
 none_before : (read : Result (List Row) ScheduleFault) → with_front [] read ≡ read
@@ -94,7 +139,7 @@ reading_begins levels tree text h same none = record {
   rows = none ∙ sym (nothing_seen (nodes_in levels));
   same = ap (λ n. with_front [] (rows_judged levels n (lines_of text))) (let e : 0 + 1 ≡ 1 = omega arith in e) ∙ none_before (rows_judged levels 1 (lines_of text));
   small = All-nil IsSmallRow;
-  bytes = omega arith;
+  bytes = λ path. (let none : row_bytes levels path * 0 ≡ 0 = omega arith in omega (arith, none));
   lines = omega arith;
 }
 
@@ -115,38 +160,51 @@ row_read levels number line lines front row kept judged =
     ∙ ap (λ answer. with_front front (reads answer)) (sym judged)
     ∙ ap (λ b. with_front front (cond b passed (reads (row_judged levels number line)))) (sym kept)
 
--- the rows of a node are some of those that were seen
-length-filter-le : (p : Row → Bool) (rows : List Row) → length (filter p rows) ≤ length rows
-length-filter-le p [] = omega arith
-length-filter-le p (row ∷ rows) =
-    let rest = length-filter-le p rows in
-    elim (cases_Bool (p row)) [ inl is ↦ rw is (omega arith) | inr isnt ↦ rw isnt (omega arith) ]
+-- the bytes of a line are those of one more row of its node, and of none more of another
+bytes_more : (levels : List Level) (seen : List Row) (row : Row) (path : List ℕ) (line rest after text : ℕ) → IsRowOf levels row
+    → row_bytes levels path * length (rows_at seen path) + rest ≤ text → line + after ≤ rest → 3 + 2 * length row.counts ≤ line
+    → row_bytes levels path * length (rows_at (seen ++ row ∷ []) path) + after ≤ text
+bytes_more levels seen row path line rest after text sound bytes lens long =
+    let all : rows_at (seen ++ row ∷ []) path ≡ rows_at seen path ++ rows_at (row ∷ []) path = filter-append (λ row. same_path row.path path) seen (row ∷ []) in
+    let parts : length (rows_at (seen ++ row ∷ []) path) ≡ length (rows_at seen path) + length (rows_at (row ∷ []) path) =
+    ap length all ∙ length-append (rows_at seen path) (rows_at (row ∷ []) path) in
+    elim (cases_Bool (same_path row.path path)) [
+      | inl is ↦
+          let one : length (rows_at (row ∷ []) path) ≡ 1 = rw is refl in
+          let counts : length row.counts ≡ stores_at levels path = sound.stores ∙ ap (stores_at levels) (same_path-true row.path path is) in
+          let next : length (rows_at (seen ++ row ∷ []) path) ≡ suc (length (rows_at seen path)) = omega (arith, parts, one) in
+          let product : row_bytes levels path * suc (length (rows_at seen path)) ≡ row_bytes levels path * length (rows_at seen path) + row_bytes levels path = mul-suc (row_bytes levels path) (length (rows_at seen path)) in
+          omega (arith, product, counts, ap (λ n. row_bytes levels path * n) next)
+      | inr isnt ↦
+          let none : length (rows_at (row ∷ []) path) ≡ 0 = rw isnt refl in
+          let same : length (rows_at (seen ++ row ∷ []) path) ≡ length (rows_at seen path) = omega (arith, parts, none) in
+          omega (arith, ap (λ n. row_bytes levels path * n) same)
+    ]
 
 -- what the rows so far of a node are
-pub record AreFew (tree : Tree) (path : List ℕ) : Type 0 where
+pub record AreFew (levels : List Level) (tree : Tree) (path : List ℕ) : Type 0 where
   pub small : All IsSmallRow (rows_at (rows_in tree) path)
-  pub few : 11 * length (rows_at (rows_in tree) path) ≤ most_bytes
+  pub few : row_bytes levels path * length (rows_at (rows_in tree) path) ≤ most_bytes
 
 pub few_so_far : (levels : List Level) (tree : Tree) (number : ℕ) (rest text path : List ℕ) → IsReading levels tree number rest text
-    → IsSome (level_at levels path) → length text ≤ most_bytes → AreFew tree path
+    → IsSome (level_at levels path) → length text ≤ most_bytes → AreFew levels tree path
 few_so_far levels tree number rest text path h some short =
     let same : rows_at (rows_in tree) path ≡ rows_at h.seen path = ap (λ rows. rows_at rows path) h.rows ∙ rows_at-by_nodes levels h.seen path some in
-    let bytes = h.bytes in
     record {
       small = subst (All IsSmallRow) (sym same) (All-filter (λ row. same_path row.path path) IsSmallRow h.seen h.small);
-      few = omega (arith, ap length same, length-filter-le (λ row. same_path row.path path) h.seen);
+      few = omega (arith, ap (λ rows. row_bytes levels path * length rows) same, h.bytes path);
     }
 
 -- one more row was read
 pub reads_row : (levels : List Level) (old new : Tree) (number : ℕ) (line rest after text : List ℕ) (row : Row)
     → IsReading levels old number rest text
     → lines_of rest ≡ line ∷ lines_of after → length line + length after ≤ length rest → length after < length rest
-    → 11 ≤ length line
+    → IsRowOf levels row → 3 + 2 * length row.counts ≤ length line
     → is_passed_over line ≡ false → row_judged levels (number + 1) line ≡ Ok row → IsSmallRow row
     → IsTree new → new.levels.items ≡ old.levels.items
     → ((rows : List Row) → rows_in old ≡ by_nodes old.levels.items rows → rows_in new ≡ by_nodes old.levels.items (rows ++ row ∷ []))
     → IsReading levels new (number + 1) after text
-reads_row levels old new number line rest after text row h lines lens shorter long kept judged small tree same added = record {
+reads_row levels old new number line rest after text row h lines lens shorter sound long kept judged small tree same added = record {
   tree_is = tree;
   levels_are = same ∙ h.levels_are;
   seen = h.seen ++ row ∷ [];
@@ -154,7 +212,7 @@ reads_row levels old new number line rest after text row h lines lens shorter lo
   same = row_read levels (number + 1) line (lines_of after) h.seen row kept judged
       ∙ ap (λ ls. with_front h.seen (rows_judged levels (number + 1) ls)) (sym lines) ∙ h.same;
   small = All-push IsSmallRow h.seen row h.small small;
-  bytes = omega (arith, h.bytes, length-append h.seen (row ∷ []));
+  bytes = λ path. bytes_more levels h.seen row path (length line) (length rest) (length after) (length text) sound (h.bytes path) lens long;
   lines = omega (arith, h.lines);
 }
 

@@ -1,5 +1,5 @@
 -- One more node of a made schedule, and the whole schedule.
-use Rattle.std.proofs.Common.{◌≡◌, ℕ, ◌+◌, ◌-◌, ◌*◌, ◌<◌, List, [], ◌∷◌, ◌++◌, length, get_or, map, set, Option, Some, None, is_some, IsSome, IsNone, All, inl, inr, refl, ap, sym, ◌∙◌, subst, arith}
+use Rattle.std.proofs.Common.{◌≡◌, ℕ, ◌+◌, ◌*◌, ◌<◌, ◌≤◌, List, [], ◌∷◌, ◌++◌, length, get_or, map, set, Option, Some, None, is_some, IsSome, IsNone, All, inl, inr, refl, ap, sym, ◌∙◌, subst, arith}
 use Rattle.std.specs.Prelude.{replicate}
 use Rattle.std.specs.List.{flat_map}
 use Rattle.std.specs.Option.{option_map_or}
@@ -9,23 +9,23 @@ use Rattle.pdh_shape.specs.declared.place.Level.{Level}
 use Rattle.pdh_shape.specs.Frame.{FrameShape}
 use Rattle.pdh_line.specs.Tolerance.{IsWithin}
 use Rattle.pdh_rows.specs.Rows.{node_frames}
-use Rattle.pdh_rows.specs.Stored.{IsTable, rows_of}
+use Rattle.pdh_rows.specs.Stored.{IsTable, rows_of, row_frames}
 use Rattle.pdh_clock.specs.declared.bias.Bias.{Bias}
 use Rattle.pdh_clock.specs.declared.bias.Offset.{Offset}
 use Rattle.pdh_clock.specs.declared.tree.NodeRows.{NodeRows}
 use Rattle.pdh_clock.specs.declared.tree.Tree.{Tree}
 use Rattle.pdh_clock.specs.Row.{Row}
-use Rattle.pdh_levels.specs.Levels.{IsLevel, AreLevels, nodes_in, level_at, stores_at, low_at, place_of}
+use Rattle.pdh_levels.specs.Levels.{IsLevel, AreLevels, nodes_in, level_at, level_stores, stores_at, low_at, place_of}
 use Rattle.pdh_clock.specs.Contents.{IsRowOf, rows_at, frames_of, frame_count, counts, same_path}
 use Rattle.pdh_line.specs.Progress.{begun_by}
 use Rattle.pdh_clock.specs.Begun.{frames_begun, shortage}
-use Rattle.pdh_clock.specs.Made.{IsRated, offset_of, made_frames, made}
-use Rattle.pdh_clock.specs.Making.{AreMade, last_step}
-use Rattle.pdh_clock.specs.Stored.{IsTree, at_path, contents_of, node_path, node_rows, rows_in}
-use Rattle.pdh_levels.proofs.LevelLaws.{has_level, level_in, stores_is, known}
+use Rattle.pdh_clock.specs.Made.{IsRated, made_frames, made, most_made}
+use Rattle.pdh_clock.specs.Making.{AreMade, line_at}
+use Rattle.pdh_clock.specs.Stored.{IsTree, at_path, contents_of, node_path, node_rows, rows_in, most_node_frames}
+use Rattle.pdh_levels.proofs.LevelLaws.{has_level, level_in, level_is, stores_count, known}
 use Rattle.pdh_clock.proofs.Trees.{Changes, IsTree_changed, length-nodes, length-changed, path_of_node, frames_of_node, known_node, place_inside, node_changed, node_kept, rows_at_none, at_path-paths}
 use Rattle.pdh_clock.proofs.Begins.{shortage_none, begun_by_whole}
-use Rattle.pdh_clock.proofs.MadeRows.{made_rows, made_rows-sound, node_frames-made, length-made_frames}
+use Rattle.pdh_clock.proofs.MadeRows.{made_rows, made_rows-few, made_rows-sound, node_frames-made, length-made_frames}
 use Rattle.pdh_clock.proofs.MadeRuns.{frame_counts, made-within}
 use Rattle.pdh_clock.proofs.MadeTrees.{height_of, bits_of_made, made_is, made_none, made_at, begun_is_made, none_short_made}
 
@@ -44,10 +44,11 @@ pub record IsMadeNode (tree : Tree) (bias : Bias) (frames place : ℕ) (path : L
   pub known_is : level_at tree.levels.items path ≡ Some level
   pub node_is : node_path node ≡ path
   pub height_is : height + length path + 1 ≡ length tree.levels.items
-  pub line_is : line ≡ offset_of bias (length tree.levels.items - length path) (last_step path)
+  pub line_is : line ≡ line_at tree.levels.items bias path
   pub frames_are : n ≡ frames_begun (contents_of tree) frames path
   pub stored : IsTable node.table
-  pub tribs : node.table.tribs ≡ level.tribs
+  pub tribs : node.table.tribs ≡ level_stores level
+  pub few : n ≤ most_made
   pub rows : rows_of node.table ≡ made_rows level bias height line n
 
 pub changes_made : (old new : Tree) (bias : Bias) (frames place : ℕ) (path : List ℕ) (node : NodeRows) (level : Level) (height : ℕ) (line : Offset) (n : ℕ)
@@ -60,7 +61,9 @@ changes_made old new bias frames place path node level height line n h rated m l
   path = λ d. m.node_is ∙ sym m.path_is ∙ sym (path_of_node old place d [] h m.inside);
   node_is = record {
     stored = m.stored;
-    tribs = m.tribs ∙ sym (stores_is old.levels.items path level h.levels_are.each m.known_is) ∙ ap (stores_at old.levels.items) (sym m.node_is);
+    tribs = m.tribs ∙ sym (stores_count old.levels.items path level m.known_is) ∙ ap (stores_at old.levels.items) (sym m.node_is);
+    frames_few = subst (λ rows. row_frames rows ≤ most_node_frames) (sym m.rows)
+        (made_rows-few level bias height line n (level_is old.levels.items path level h.levels_are.each m.known_is) (rated_is old.levels.items path level rated m.known_is) m.few);
     rows = subst (All (IsRowOf old.levels.items))
         (ap (λ p. map (at_path p) (made_rows level bias height line n)) (sym m.node_is) ∙ ap (map (at_path (node_path node))) (sym m.rows))
         (made_rows-sound old.levels.items path level bias height line n h.levels_are.each m.known_is (rated_is old.levels.items path level rated m.known_is));
@@ -94,7 +97,7 @@ frames_here old new bias frames place path node level height line n h before m c
     ∙ ap (λ node. node_frames (rows_of node.table)) here ∙ ap node_frames m.rows ∙ node_frames-made level bias height line n
     ∙ ap (λ h. made_frames level bias h line n) deep
     ∙ ap (λ line. made_frames level bias (height_of levels path) line n) m.line_is
-    ∙ ap (made_frames level bias (height_of levels path) (offset_of bias (length levels - length path) (last_step path))) begun
+    ∙ ap (made_frames level bias (height_of levels path) (line_at levels bias path)) begun
     ∙ sym (made_is levels bias frames path level m.known_is)
 
 pub made_more : (old new : Tree) (bias : Bias) (frames place : ℕ) (path : List ℕ) (node : NodeRows) (level : Level) (height : ℕ) (line : Offset) (n : ℕ)
@@ -151,7 +154,7 @@ made_top [] bias frames h = absurd (let some = h.some in omega arith)
 made_top (level ∷ below) bias frames h =
     let shortest = (All-head IsLevel level below h.each).shortest in
     ap length (made_is (level ∷ below) bias frames [] level refl)
-    ∙ length-made_frames level bias (height_of (level ∷ below) []) (offset_of bias (length (level ∷ below) - 0) 1) (begun_by level.len (frames * level.len))
+    ∙ length-made_frames level bias (height_of (level ∷ below) []) (line_at (level ∷ below) bias []) (begun_by level.len (frames * level.len))
     ∙ begun_by_whole level.len frames (omega arith)
 
 -- each tributary is within the tolerance
@@ -161,9 +164,9 @@ node_within : (levels : List Level) (bias : Bias) (frames : ℕ) (path : List �
 node_within levels bias frames path trib shape each rated inside low =
     let has = has_level (level_at levels path) (known levels path trib inside) in
     let level = has.level in
-    let stores = stores_is levels path level each has.is in
+    let stores = stores_count levels path level has.is in
     let least : shape.low ≡ level.low = low ∙ ap (λ (o : Option Level). option_map_or (λ (level : Level). level.low) o 0) has.is in
-    let offset = offset_of bias (length levels - length path) (last_step path) in
+    let offset = line_at levels bias path in
     subst (λ frames. IsWithin shape (frame_counts frames trib) (length frames)) (sym (made_is levels bias frames path level has.is))
     (made-within level bias (height_of levels path) offset (begun_by level.len (bits_of_made levels bias frames path)) trib shape
     (rated_is levels path level rated has.is) (omega (arith, stores)) least)

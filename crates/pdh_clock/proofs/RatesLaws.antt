@@ -4,6 +4,7 @@ use Rattle.std.specs.Option.{option_map_or}
 use Rattle.std.proofs.Math.Nat.{mul-le-mul_left, mul-pos, le_of_mul-le-mul_right}
 use Rattle.pdh_shape.specs.Frame.{FrameShape}
 use Rattle.pdh_shape.specs.declared.place.Level.{Level}
+use Rattle.pdh_levels.specs.Levels.{IsElastic}
 use Rattle.pdh_shape.specs.OwnNumbers.{allowance}
 use Rattle.pdh_line.specs.Tolerance.{arrived_over, IsWithin}
 use Rattle.pdh_rows.specs.declared.outside.Outside.{Outside}
@@ -29,16 +30,16 @@ most_cancels low run len arriving line bits carried arrive some =
     let product : bits * line ≤ (suc low * run + allowance) * line = omega (arith, more, arrive) in
     le_of_mul-le-mul_right product some
 
-pub within_rates-none : (level : Level) (counts : ℕ → ℕ) (frames : ℕ) → IsRated level → IsWithinRates level counts frames
+pub within_rates-none : (level : Level) (counts : ℕ → ℕ) (frames : ℕ) → IsRated level → IsElastic level → IsWithinRates level counts frames
     → first_outside level.low counts frames ≡ None
-within_rates-none level counts frames rated within = none_breaks level.low counts frames (λ m n h l.
+within_rates-none level counts frames rated elastic within = none_breaks level.low counts frames (λ m n h l.
     let inside : m + (n - m) ≤ frames = omega arith in
     let offset : level.ppm ≤ 1000 = rated.offset in
     keeps_run level.low counts m (n - m)
     (most_cancels level.low (n - m) level.len (level.trib_rate * level.per * fast level.trib_ppm) (level.rate * level.trib_per * slow level.ppm)
-    (arrived_over counts m (n - m)) rated.most (within.most m (n - m) inside) (mul-pos rated.some_rate (omega arith)))
+    (arrived_over counts m (n - m)) (rated.most elastic) (within.most m (n - m) inside) (mul-pos rated.some_rate (omega arith)))
     (least_cancels level.low (n - m) level.len (level.trib_rate * level.per * slow level.trib_ppm) (level.rate * level.trib_per * fast level.ppm)
-    (arrived_over counts m (n - m)) rated.least (within.least m (n - m) inside) (mul-pos rated.some_rate (omega arith))))
+    (arrived_over counts m (n - m)) (rated.least elastic) (within.least m (n - m) inside) (mul-pos rated.some_rate (omega arith))))
 
 -- ---- an answer about the tolerance
 
@@ -62,7 +63,7 @@ within_ok s low counts frames answer run same within =
 
 pub within_rates-ok : (level : Level) (found : Option Level) (counts : ℕ → ℕ) (frames : ℕ) (answer : Result (Unit {0}) Outside)
     → run_in answer ≡ first_outside (option_map_or (λ (level : Level). level.low) found 0) counts frames → found ≡ Some level
-    → IsRated level → IsWithinRates level counts frames → answer ≡ Ok tt
-within_rates-ok level found counts frames answer run is rated within =
+    → IsRated level → IsElastic level → IsWithinRates level counts frames → answer ≡ Ok tt
+within_rates-ok level found counts frames answer run is rated elastic within =
     ok_of_none answer (run ∙ ap (λ o. first_outside (option_map_or (λ (level : Level). level.low) o 0) counts frames) is
-    ∙ within_rates-none level counts frames rated within)
+    ∙ within_rates-none level counts frames rated elastic within)

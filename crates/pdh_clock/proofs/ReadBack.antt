@@ -16,7 +16,7 @@ use Rattle.pdh_shape.specs.declared.place.Level.{Level}
 use Rattle.pdh_clock.specs.declared.fault.ScheduleFault.TheVariants.{TooLong, BadRow, UnknownNode, CountOver}
 use Rattle.pdh_clock.specs.Text.{lines_of, words_of, digits_value, is_number, number_of, numbers_of, path_of}
 use Rattle.pdh_clock.specs.Row.{Row, row_of, row_of_words}
-use Rattle.pdh_levels.specs.Levels.{IsLevel, AreLevels, nodes_in, level_at, level_stores, stores_at, len_at, place_of}
+use Rattle.pdh_levels.specs.Levels.{most_tributaries, IsLevel, AreLevels, nodes_in, level_at, level_stores, stores_at, len_at, place_of}
 use Rattle.pdh_clock.specs.Contents.{IsRowOf, rows_at, by_nodes, frames_of, same_path}
 use Rattle.pdh_clock.specs.Judged.{◌>>=◌, is_passed_over, counts_judged, stores_judged, row_judged, rows_judged, lines_judged, schedule_of}
 use Rattle.pdh_shape.specs.OwnNumbers.{most_bytes}
@@ -25,9 +25,7 @@ use Rattle.pdh_clock.specs.Written.{text_with, with_frame, longest_rows, rows_wr
 use Rattle.pdh_line.specs.Paths.{path_text}
 use Rattle.pdh_clock.proofs.Laws.{same_path-true}
 use Rattle.pdh_levels.proofs.NodeOrder.{is_below, only_at, node_place, placed, nodes_known}
-use Rattle.pdh_levels.proofs.LevelLaws.{has_level, level_in, level_is, stores_is, len_is}
-use Rattle.pdh_line.specs.Progress.{by_stores}
-use Rattle.pdh_line.specs.Progress.Stores.{Elastic, Locked}
+use Rattle.pdh_levels.proofs.LevelLaws.{has_level, level_in, level_is, stores_count, len_is}
 use Rattle.pdh_clock.proofs.Trees.{AtPath, rows_at_all, rows_at_none, rows_at-joined, frames_of-by_nodes}
 
 -- ---- numbers
@@ -143,10 +141,10 @@ step_lacks mark a rest h lacks =
     All-cons (λ byte. (byte == mark) ≡ false) 47 ((48 + a) ∷ rest) (slash_lacks mark h)
     (All-cons (λ byte. (byte == mark) ≡ false) (48 + a) rest (digit_lacks mark a h) lacks)
 
-is_step_digit : (a : ℕ) → 1 ≤ a → a ≤ 7 → (nat_le 49 (48 + a) && nat_le (48 + a) 57) ≡ true
+is_step_digit : (a : ℕ) → 1 ≤ a → a ≤ most_tributaries → (nat_le 49 (48 + a) && nat_le (48 + a) 57) ≡ true
 is_step_digit a low high = rw (le-leb 49 (48 + a) (omega arith), le-leb (48 + a) 57 (omega arith)) refl
 
-word_of_one : (a : ℕ) → 1 ≤ a → a ≤ 7 → IsPathWord (a ∷ []) (47 ∷ (48 + a) ∷ [])
+word_of_one : (a : ℕ) → 1 ≤ a → a ≤ most_tributaries → IsPathWord (a ∷ []) (47 ∷ (48 + a) ∷ [])
 word_of_one a low high =
     let back : 48 + a - 48 ≡ a = omega arith in
     record {
@@ -155,7 +153,7 @@ word_of_one a low high =
       no_feed = step_lacks 10 a [] (lit< tt) (All-nil (λ byte. (byte == 10) ≡ false));
     }
 
-word_of_two : (a b : ℕ) → 1 ≤ a → a ≤ 7 → 1 ≤ b → b ≤ 7 → IsPathWord (a ∷ b ∷ []) (47 ∷ (48 + a) ∷ 47 ∷ (48 + b) ∷ [])
+word_of_two : (a b : ℕ) → 1 ≤ a → a ≤ most_tributaries → 1 ≤ b → b ≤ most_tributaries → IsPathWord (a ∷ b ∷ []) (47 ∷ (48 + a) ∷ 47 ∷ (48 + b) ∷ [])
 word_of_two a b low high low' high' =
     let back : 48 + a - 48 ≡ a = omega arith in
     let back' : 48 + b - 48 ≡ b = omega arith in
@@ -168,7 +166,7 @@ word_of_two a b low high low' high' =
 -- the steps to a node are numbers of tributaries
 record IsStep (levels : List Level) (step : ℕ) (path : List ℕ) : Type 0 where
   low : 1 ≤ step
-  high : step ≤ 7
+  high : step ≤ most_tributaries
   below : List Level
   each : All IsLevel below
   rest : IsSome (level_at below path)
@@ -216,7 +214,7 @@ not_passed (step ∷ path) rest = refl
 
 -- counts of a frame
 record IsFrame (level : Level) (counts : List ℕ) : Type 0 where
-  number : length counts ≡ level.tribs
+  number : length counts ≡ level_stores level
   most : All (λ count. count ≤ level.len) counts
 
 -- a row of a node with a repeat that a text may have
@@ -266,7 +264,7 @@ line_judged : (levels : List Level) (number : ℕ) (row : Row) → AreLevels lev
 line_judged levels number row l w =
     let judged = λ (row : Row). ok_or (level_at levels row.path) (UnknownNode number) >>= λ level. stores_judged number level row in
     let stores : (length row.counts == level_stores w.level) ≡ true = eq-eqb (length row.counts) (level_stores w.level)
-    (w.frame.number ∙ ap (λ b. by_stores (cond b (Locked (λ j t. 0)) Elastic) w.level.tribs (λ reads. 0)) (sym (level_is levels row.path w.level l.each w.known).stores)) in
+    w.frame.number in
     let none = none_over w.level.len row.counts w.frame.most in
     ap (λ o. ok_or o (BadRow number) >>= judged) (row_of_line levels row l w)
     ∙ ap (λ o. ok_or o (UnknownNode number) >>= λ level. stores_judged number level row) w.known
@@ -354,7 +352,7 @@ writable_longest levels level path (frame ∷ frames) is h = writable_with level
 frame_of_row : (levels : List Level) (level : Level) (path : List ℕ) (row : Row) → AreLevels levels → level_at levels path ≡ Some level
     → row.path ≡ path → IsRowOf levels row → IsFrame level row.counts
 frame_of_row levels level path row l is at h = record {
-  number = h.stores ∙ ap (stores_at levels) at ∙ stores_is levels path level l.each is;
+  number = h.stores ∙ ap (stores_at levels) at ∙ stores_count levels path level is;
   most = subst (λ len. All (λ count. count ≤ len) row.counts) (ap (len_at levels) at ∙ len_is levels path level is) h.most;
 }
 

@@ -1,5 +1,5 @@
 -- What a tree answers about its nodes.
-use Rattle.std.proofs.Common.{◌≡◌, ℕ, ◌*◌, ◌<◌, ◌≤◌, List, [], ◌∷◌, length, get_or, All, ap, sym, ◌∙◌, subst, slice_index}
+use Rattle.std.proofs.Common.{◌≡◌, ℕ, ◌*◌, ◌<◌, ◌≤◌, List, [], ◌∷◌, length, get_or, All, IsSome, ap, sym, ◌∙◌, subst, arith, slice_index}
 use Rattle.std.specs.List.{flat_map, slice_index_or}
 use Rattle.std.proofs.lemmas.List.Elements.{All-nil, All-append, All-head, All-tail}
 use Rattle.pdh_shape.specs.declared.place.Level.{Level}
@@ -9,11 +9,12 @@ use Rattle.pdh_rows.specs.Stored.{rows_of}
 use Rattle.pdh_rows.specs.declared.table.Table.{Table}
 use Rattle.pdh_clock.specs.declared.tree.NodeRows.{NodeRows}
 use Rattle.pdh_clock.specs.declared.tree.Tree.{Tree}
-use Rattle.pdh_levels.specs.Levels.{len_at, nodes_in}
-use Rattle.pdh_clock.specs.Contents.{IsRowOf, frames_of, counts}
-use Rattle.pdh_clock.specs.Stored.{IsNode, IsTree, node_rows, rows_in}
+use Rattle.pdh_levels.specs.Levels.{len_at, level_at, nodes_in, place_of}
+use Rattle.pdh_clock.specs.Contents.{IsRowOf, frames_of, frame_count, counts}
+use Rattle.pdh_clock.specs.Stored.{IsNode, IsTree, node_rows, rows_in, most_node_frames}
 use Rattle.pdh_clock.proofs.Laws.{counts_most, arrived_most}
-use Rattle.pdh_clock.proofs.Trees.{length-nodes, path_of_node, frames_of_node}
+use Rattle.pdh_clock.proofs.Trees.{length-nodes, path_of_node, frames_of_node, node_at, place_inside}
+use Rattle.pdh_rows.proofs.Tabled.{node_frame_count-row_frames}
 
 nodes_sound : (levels : List Level) (nodes : List NodeRows) → All (IsNode levels) nodes → All (IsRowOf levels) (flat_map node_rows nodes)
 nodes_sound levels [] h = All-nil (IsRowOf levels)
@@ -58,3 +59,15 @@ read_at tree k path node h inside at read =
       frames = ap (λ (node : NodeRows). node_frames (rows_of node.table)) read ∙ sym (frames_of_node tree k node h inside)
           ∙ ap (frames_of (rows_in tree)) (path_of_node tree k node [] h inside ∙ sym at);
     }
+
+-- no node has many frames
+pub frames_few : (tree : Tree) (path : List ℕ) → IsTree tree → IsSome (level_at tree.levels.items path) → frame_count (rows_in tree) path ≤ most_node_frames
+frames_few tree path h some = go tree.nodes.items (place_inside tree path h some)
+  where
+    go : (nodes : List NodeRows) → place_of tree.levels.items path < length nodes → frame_count (rows_in tree) path ≤ most_node_frames
+    go [] inside = absurd (omega arith)
+    go (first ∷ nodes) inside =
+        let node = get_or tree.nodes.items (place_of tree.levels.items path) first in
+        let at = node_at tree path first h some in
+        let few = at.node_is.frames_few in
+        omega (arith, ap length at.frames_are, node_frame_count-row_frames node.table)

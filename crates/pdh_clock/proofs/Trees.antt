@@ -1,5 +1,5 @@
 -- The rows of nodes, by node and all in order.
-use Rattle.std.proofs.Common.{◌≡◌, ℕ, ◌+◌, ◌<◌, ◌==◌, Bool, true, false, cond, List, [], ◌∷◌, ◌++◌, length, get_or, take, map, set, IsSome, All, ◌⊎◌, inl, inr, refl, ap, sym, ◌∙◌, subst, append-nil}
+use Rattle.std.proofs.Common.{◌≡◌, ℕ, ◌+◌, ◌<◌, ◌≤◌, arith, ◌==◌, Bool, true, false, cond, List, [], ◌∷◌, ◌++◌, length, get_or, take, map, set, IsSome, All, ◌⊎◌, inl, inr, refl, ap, sym, ◌∙◌, subst, append-nil}
 use Rattle.std.specs.Prelude.{replicate}
 use Rattle.std.specs.List.{flat_map}
 use Rattle.std.proofs.lemmas.Bool.{cases_Bool, eq-eqb, eqb-true, eqb-false}
@@ -7,13 +7,13 @@ use Rattle.std.proofs.lemmas.List.{length-map, length-set, get_or-map, get_or-se
 use Rattle.std.proofs.lemmas.List.Elements.{All-nil, All-cons, All-push, All-head, All-tail, All-set, All-get_or, All-weaker, filter-append}
 use Rattle.pdh_shape.specs.declared.place.Level.{Level}
 use Rattle.pdh_rows.specs.Rows.{NodeRow, node_frames}
-use Rattle.pdh_rows.specs.Stored.{IsTable, rows_of, node_row}
+use Rattle.pdh_rows.specs.Stored.{IsTable, rows_of, node_row, row_frames}
 use Rattle.pdh_clock.specs.declared.tree.NodeRows.{NodeRows}
 use Rattle.pdh_clock.specs.declared.tree.Tree.{Tree}
 use Rattle.pdh_clock.specs.Row.{Row}
 use Rattle.pdh_levels.specs.Levels.{AreLevels, level_at, nodes_in, stores_at, place_of}
 use Rattle.pdh_clock.specs.Contents.{IsRowOf, rows_at, by_nodes, frames_of, same_path}
-use Rattle.pdh_clock.specs.Stored.{IsNode, IsTree, at_path, path_row, node_path, node_rows, rows_in}
+use Rattle.pdh_clock.specs.Stored.{IsNode, IsTree, at_path, path_row, node_path, node_rows, rows_in, most_node_frames}
 use Rattle.pdh_clock.proofs.Laws.{same_path-true}
 use Rattle.pdh_levels.proofs.NodeOrder.{only_at, node_place, nodes_known, placed}
 
@@ -279,6 +279,7 @@ empty_is_node : (levels : List Level) (node : NodeRows) → IsEmptyNode levels n
 empty_is_node levels node h = record {
   stored = h.stored;
   tribs = h.tribs;
+  frames_few = subst (λ rows. row_frames rows ≤ most_node_frames) (sym h.none) (omega arith);
   rows = subst (λ rows. All (IsRowOf levels) (map (at_path (node_path node)) rows)) (sym h.none) (All-nil (IsRowOf levels));
 }
 
@@ -315,6 +316,7 @@ pub record PutsRow (tree : Tree) (path : List ℕ) (node more : NodeRows) (repea
   pub stored : IsTable more.table
   pub tribs : more.table.tribs ≡ node.table.tribs
   pub rows : rows_of more.table ≡ rows_of node.table ++ node_row repeat counts ∷ []
+  pub frames_few : row_frames (rows_of more.table) ≤ most_node_frames
   pub sound : IsRowOf tree.levels.items (path_row path repeat counts)
 
 pub node_put : (tree : Tree) (path : List ℕ) (node more : NodeRows) (repeat : ℕ) (counts : List ℕ) → PutsRow tree path node more repeat counts
@@ -329,6 +331,7 @@ pub is_node_put : (tree : Tree) (path : List ℕ) (node more : NodeRows) (repeat
 is_node_put tree path node more repeat counts p = record {
   stored = p.stored;
   tribs = p.tribs ∙ p.found.node_is.tribs ∙ ap (stores_at tree.levels.items) (p.found.path_is ∙ sym p.path_is);
+  frames_few = p.frames_few;
   rows = subst (All (IsRowOf tree.levels.items)) (sym (node_put tree path node more repeat counts p))
       (All-push (IsRowOf tree.levels.items) (node_rows node) (path_row path repeat counts) p.found.node_is.rows p.sound);
 }

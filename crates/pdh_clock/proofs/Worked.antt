@@ -1,16 +1,18 @@
 -- The definitions on worked texts.
 use Rattle.std.proofs.Common.{◌≡◌, ℕ, false, List, [], ◌∷◌, ◌++◌, length, take, Some, None, Result, Ok, Err, refl}
-use Rattle.std.specs.Prelude.{codes}
+use Rattle.std.specs.Prelude.{codes, replicate}
 use Rattle.pdh_shape.specs.declared.place.Level.{Level}
+use Rattle.pdh_levels.proofs.Worked.{ds3_locked, ds2_locked}
 use Rattle.pdh_clock.specs.declared.fault.ScheduleFault.{ScheduleFault}
 use Rattle.pdh_clock.specs.declared.fault.ScheduleFault.TheVariants.{BadRow, UnknownNode, CountOver}
 use Rattle.pdh_line.specs.Progress.{arrived}
 use Rattle.pdh_clock.specs.Text.{lines_of, words_of, number_of, path_of}
 use Rattle.pdh_clock.specs.Row.{Row}
+use Rattle.pdh_line.specs.Nodes.{entered_at}
 use Rattle.pdh_levels.specs.Levels.{nodes_in, size_of, place_of}
 use Rattle.pdh_clock.specs.Judged.{schedule_of}
 use Rattle.pdh_clock.specs.Contents.{Contents, by_nodes, frames_of, frame_count, counts}
-use Rattle.pdh_clock.specs.Begun.{frames_begun, shortage}
+use Rattle.pdh_clock.specs.Begun.{bits_made, bits_entered, frames_begun, shortage}
 
 -- a line and its line feed
 abbrev line : List ℕ → List ℕ
@@ -191,3 +193,34 @@ begun_below = (refl, refl, refl)
 first_shortage : shortage below 3 ≡ Some (record { path = 1 ∷ []; have = 0; need = 2 })
 unfolding arrived frames_of frames_begun shortage
 first_shortage = refl
+
+-- ---- a top without stores
+
+abbrev read_locked : List ℕ → Result (List Row) ScheduleFault
+read_locked text = schedule_of (ds3_locked ∷ ds2_locked ∷ []) text
+
+-- a row of the top has no counts, and the node is judged first
+locked_rows : (read_locked (codes "/ 17") ≡ Ok (row 17 [] ∷ [])) × (read_locked (codes "/ 17 671") ≡ Err (BadRow 1)) × (read_locked (codes "/8 1 1") ≡ Err (UnknownNode 1))
+    × (read_locked (codes "/1 1 1177 1 1 1") ≡ Err (CountOver 1 1177 1176))
+unfolding schedule_of
+locked_rows = (refl, refl, refl, refl)
+
+-- seventeen frames of the top, and ten of a node below it
+abbrev locked_top : Contents
+locked_top = record { levels = ds3_locked ∷ ds2_locked ∷ []; rows = row 17 [] ∷ record { path = 1 ∷ []; repeat = 10; counts = replicate 4 288 } ∷ [] }
+
+-- the node makes 17 · 671 = 11407 bits, which are 9 frames and 823 bits of a tenth one
+bits_below_locked : (bits_made locked_top 17 (1 ∷ []) ≡ 11407) × (frames_begun locked_top 17 (1 ∷ []) ≡ 10) × (frames_begun locked_top 17 (2 ∷ []) ≡ 10)
+    × (frames_begun locked_top 0 (1 ∷ []) ≡ 0)
+unfolding arrived frames_of frames_begun
+bits_below_locked = (refl, refl, refl, refl)
+
+-- so that a leaf enters 24 + 10 · 288 = 2904 bits
+entered_below_locked : (bits_entered locked_top 17 0 ≡ 2904) × (bits_entered locked_top 17 3 ≡ 2904) × (bits_entered locked_top 0 0 ≡ 0)
+unfolding arrived frames_of entered_at
+entered_below_locked = (refl, refl, refl)
+
+-- the node that has no row is short
+locked_shortage : shortage locked_top 17 ≡ Some (record { path = 2 ∷ []; have = 0; need = 10 })
+unfolding arrived frames_of frames_begun shortage
+locked_shortage = refl

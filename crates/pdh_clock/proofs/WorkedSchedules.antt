@@ -1,13 +1,17 @@
 -- Worked schedules, computed by the checker.
-use Rattle.std.proofs.Common.{◌≡◌, [], ◌∷◌, false, refl}
+use Rattle.std.proofs.Common.{◌≡◌, List, [], ◌∷◌, false, refl}
 use Rattle.std.specs.Prelude.{replicate, codes}
 use Rattle.std.specs.Fmt.{digits}
 use Rattle.pdh_shape.specs.declared.place.Level.{Level}
+use Rattle.pdh_levels.proofs.Worked.{ds3_locked, ds2_locked}
 use Rattle.pdh_clock.specs.declared.bias.Bias.TheVariants.{Nominal, Fast, Slow, Mixed}
-use Rattle.pdh_clock.specs.declared.bias.Offset.TheVariants.{Ahead, Behind}
+use Rattle.pdh_clock.specs.declared.bias.Offset.TheVariants.{Exact, Ahead, Behind}
+use Rattle.pdh_clock.specs.declared.bias.Bias.{Bias}
+use Rattle.pdh_clock.specs.declared.bias.Offset.{Offset}
+use Rattle.pdh_clock.specs.Making.{line_at}
 use Rattle.pdh_line.specs.Progress.{arrived}
 use Rattle.pdh_clock.specs.Contents.{frames_of}
-use Rattle.pdh_clock.specs.Made.{made, made_frames, offset_of}
+use Rattle.pdh_clock.specs.Made.{made, made_frames, offset_of, tributary_offset}
 use Rattle.pdh_clock.specs.Written.{longest_rows, text_of, text_with}
 
 -- four streams of 2048 kbit/s in one of 8448 kbit/s
@@ -61,3 +65,19 @@ no_node_below = refl
 pub offsets : (offset_of Fast 0 2 ≡ Ahead) × (offset_of Fast 1 2 ≡ Behind) × (offset_of Fast 2 1 ≡ Ahead) × (offset_of Slow 0 2 ≡ Behind)
     × (offset_of Mixed 3 1 ≡ Ahead) × (offset_of Mixed 1 2 ≡ Behind) × (offset_of Mixed 0 3 ≡ Ahead)
 offsets = (refl, refl, refl, refl, refl, refl, refl)
+
+-- the top's frames have no counts; the node below makes 3 · 671 bits, which begin two frames
+pub locked_frames : (made (ds3_locked ∷ ds2_locked ∷ []) Mixed 3 [] ≡ replicate 3 []) × (made (ds3_locked ∷ ds2_locked ∷ []) Mixed 3 (7 ∷ []) ≡ replicate 4 287 ∷ replicate 4 288 ∷ [])
+unfolding made made_frames
+locked_frames = (refl, refl)
+
+-- the offsets of the top's line, of the lines of the second and third node below it, and of the second's second leaf and
+-- the third's third
+abbrev offsets_below : Bias → List Offset
+offsets_below bias =
+    line_at (ds3_locked ∷ ds2_locked ∷ []) bias [] ∷ line_at (ds3_locked ∷ ds2_locked ∷ []) bias (2 ∷ []) ∷ line_at (ds3_locked ∷ ds2_locked ∷ []) bias (3 ∷ [])
+    ∷ tributary_offset ds2_locked bias 0 (line_at (ds3_locked ∷ ds2_locked ∷ []) bias (2 ∷ [])) 2 ∷ tributary_offset ds2_locked bias 0 (line_at (ds3_locked ∷ ds2_locked ∷ []) bias (3 ∷ [])) 3 ∷ []
+
+pub locked_offsets : (offsets_below Nominal ≡ replicate 5 Exact) × (offsets_below Fast ≡ replicate 5 Ahead) × (offsets_below Slow ≡ replicate 5 Behind)
+    × (offsets_below Mixed ≡ Ahead ∷ Ahead ∷ Ahead ∷ Behind ∷ Ahead ∷ [])
+locked_offsets = (refl, refl, refl, refl)

@@ -1,18 +1,24 @@
 -- The making of a schedule, node by node.
 use Rattle.std.specs.Prelude.{◌≡◌, ℕ, ◌<◌, List, [], ◌∷◌, length}
 use Rattle.std.specs.List.{slice_index_or}
+use Rattle.pdh_shape.specs.declared.place.Level.{Level}
 use Rattle.pdh_clock.specs.declared.bias.Bias.{Bias}
+use Rattle.pdh_clock.specs.declared.bias.Offset.{Offset}
 use Rattle.pdh_clock.specs.declared.tree.Tree.{Tree}
 use Rattle.pdh_levels.specs.Levels.{nodes_in}
 use Rattle.pdh_clock.specs.Contents.{frames_of}
-use Rattle.pdh_clock.specs.Made.{made}
+use Rattle.pdh_clock.specs.Made.{made, offset_of, tributary_offset}
 use Rattle.pdh_clock.specs.Stored.{rows_in}
 
--- the number of a node under the one above it; the top is as the first
-abbrev pub last_step : List ℕ → ℕ
-last_step [] = 1
-last_step (step ∷ []) = step
-last_step (step ∷ next ∷ path) = last_step (next ∷ path)
+-- the offset of the line of the node to which the path leads from one of the first of the levels, whose line has that offset
+abbrev pub line_from : List Level → Bias → Offset → List ℕ → Offset
+line_from levels bias line [] = line
+line_from [] bias line (step ∷ path) = line
+line_from (level ∷ below) bias line (step ∷ path) = line_from below bias (tributary_offset level bias (length below) line step) path
+
+-- the same of the node at a path
+abbrev pub line_at : List Level → Bias → List ℕ → Offset
+line_at levels bias path = line_from levels bias (offset_of bias (length levels) 1) path
 
 -- so many nodes have the frames of the made schedule
 abbrev pub AreMade : Tree → Bias → ℕ → ℕ → Type 0

@@ -4,7 +4,7 @@ ghost use Rattle.std.specs.Prelude.{◌≡◌, ◌≤◌, ◌<◌, ◌*◌, ◌+
 ghost use Rattle.pdh_line.specs.Nodes.{width};
 ghost use Rattle.pdh_line.specs.Paths.{path_of};
 ghost use Rattle.pdh_shape.specs.declared.place.Level.{Level};
-ghost use Rattle.pdh_levels.specs.Levels.{level_at, stores_at, place_of, numbers_of};
+ghost use Rattle.pdh_levels.specs.Levels.{level_at, place_of, numbers_of};
 ghost use Rattle.pdh_line.specs.Paths.{steps_of};
 ghost use Rattle.pdh_clock.specs.Contents.{counts, frame_count};
 ghost use Rattle.pdh_clock.specs.Begun.{taken as bits_taken, bits_made, bits_entered, frames_begun, NoneShort, shortage, shortage_of};
@@ -30,21 +30,27 @@ pub struct Short {
 const LEAD: u128 = pdh_shape::LEAD as u128;
 
 impl Tree {
-    /// How many bits of a tributary, counted from 0, a node has taken when it made so many bits of its line.
+    /// How many bits of a tributary, counted from 0, a node has taken when it made so many bits of its line; where it has no
+    /// stores, those of its whole frames.
     fn taken(&self, node: &Path, trib: u8, bits: u128) -> u128
         requires tree { IsTree self.now }
-        requires in_range { trib < stores_at self.now.levels.items (steps_of node.now) }
+        requires node { IsSome (level_at self.now.levels.items (steps_of node.now)) }
+        requires in_range { (level : Level) → level_at self.now.levels.items (steps_of node.now) ≡ Some level → trib < level.tribs }
         requires enough { (level : Level) → level_at self.now.levels.items (steps_of node.now) ≡ Some level
             → begun_by level.len bits ≤ frame_count (rows_in self.now) (steps_of node.now) }
         requires few { (level : Level) → level_at self.now.levels.items (steps_of node.now) ≡ Some level → bits ≤ 18446744073709551615 * level.len }
         ensures taken { (level : Level) → level_at self.now.levels.items (steps_of node.now) ≡ Some level
             → result ≡ bits_taken level trib (counts (rows_in self.now) (steps_of node.now) trib) bits }
-        ensures few { result ≤ 2 ^ 65 }
+        ensures few { result ≤ 2 ^ 70 }
     {
+        let level = self.level_of(node);
+        let len = u128::from(level.len);
+        if level.locked {
+            return bits / len * u128::from(level.low);
+        }
         if bits == 0 {
             return 0;
         }
-        let len = u128::from(self.level_of(node).len);
         let table = self.table_of(node);
         let frames = (bits / len) as u64;
         let begun = bits % len;
@@ -99,6 +105,10 @@ impl Tree {
     {
         let place = leaf_place(&self.levels, leaf);
         let begun = self.begun(&place.node, top_frames);
+        let level = self.level_of(&place.node);
+        if level.locked {
+            return u128::from(begun) * u128::from(level.low);
+        }
         if begun == 0 {
             return 0;
         }

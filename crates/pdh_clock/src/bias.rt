@@ -4,7 +4,8 @@ ghost use Rattle.std.specs.Prelude.{◌≡◌, ◌≤◌, if◌then◌else◌};
 ghost use Rattle.pdh_clock.specs.Made.{scale_of, offset_of};
 ghost use Rattle.pdh_clock.specs.declared.bias.Offset.TheVariants.{Ahead, Behind};
 
-/// Which clock offsets a made schedule has, each as many parts per million as the stream's level says.
+/// Which clock offsets a made schedule has, each as many parts per million as the stream's level says. Where the top has no
+/// stores, its tributaries have the top's offset, whatever is said here of others.
 #[derive(Clone, Copy, Debug, PartialEq, Eq)]
 pub enum Bias {
     /// No offset.

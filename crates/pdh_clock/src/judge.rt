@@ -1,15 +1,16 @@
 //! The judgement of a line of a schedule.
 
-ghost use Rattle.std.specs.Prelude.{◌≡◌, ◌≤◌, ◌<◌, ◌^◌, ℕ, List, ◌∷◌, length, nat_lt, find, IfNone, IfOk, OnOk, All};
+ghost use Rattle.std.specs.Prelude.{◌≡◌, ◌+◌, ◌*◌, ◌≤◌, ◌<◌, ◌^◌, ℕ, List, ◌∷◌, length, nat_lt, find, IfNone, IfOk, OnOk, All};
 ghost use Rattle.pdh_clock.specs.Judged.{Gives, is_passed_over as passed_over, stores_judged, row_judged};
 ghost use Rattle.pdh_clock.specs.Parsed.{IsRow, row_found};
 ghost use Rattle.pdh_clock.specs.Row.{Row};
 ghost use Rattle.std.specs.Option.{option_copied, option_and_then};
-ghost use Rattle.pdh_levels.specs.Levels.{IsLevel, level_at};
+ghost use Rattle.pdh_levels.specs.Levels.{IsLevel, level_at, level_stores, longest_frame, most_tributaries};
 ghost use Rattle.pdh_line.specs.Paths.{steps_of};
 
 use crate::fault::ScheduleFault;
 use crate::row::{FoundRow, row};
+use pdh_levels::store_count;
 use pdh_shape::{Level, Path};
 
 /// Whether a line says nothing: an empty one, or one that begins with `#`.
@@ -54,10 +55,10 @@ fn level_of(levels: &[Level], node: &Path) -> Option<Level>
 fn judge_counts(level: &Level, number: u32, row: &FoundRow) -> Result<(), ScheduleFault>
     requires { IsLevel level.now }
     ensures judged { (said : Row) → IsRow row.now said → Gives (λ _. row_found row.now) result (stores_judged number level.now said) }
-    ensures stores { OnOk result (row.now.counts.number ≡ level.now.tribs) }
+    ensures stores { OnOk result (row.now.counts.number ≡ level_stores level.now) }
     ensures most { OnOk result (All (λ count. count ≤ level.now.len) (row_found row.now).counts) }
 {
-    if row.counts.number != usize::from(level.tribs) {
+    if row.counts.number != store_count(level) {
         return Err(ScheduleFault::BadRow { line: number });
     }
     match first_over(row.counts.as_slice(), level.len) {
@@ -74,10 +75,10 @@ fn judge_counts(level: &Level, number: u32, row: &FoundRow) -> Result<(), Schedu
 pub fn judge(levels: &[Level], number: u32, line: &[u8]) -> Result<FoundRow, ScheduleFault>
     requires { All IsLevel levels.now }
     ensures judged { Gives row_found result (row_judged levels.now number line.now) }
-    ensures few { IfOk result (λ row. row.counts.number ≤ 7) }
-    ensures most { IfOk result (λ row. All (λ count. count ≤ 4760) (row_found row).counts) }
+    ensures few { IfOk result (λ row. row.counts.number ≤ most_tributaries) }
+    ensures most { IfOk result (λ row. All (λ count. count ≤ longest_frame) (row_found row).counts) }
     ensures repeat { IfOk result (λ row. row.repeat < 10 ^ 9) }
-    ensures lens { IfOk result (λ row. 11 ≤ length line.now) }
+    ensures lens { IfOk result (λ row. 3 + 2 * length (row_found row).counts ≤ length line.now) }
 {
     let Some(row) = row(line) else {
         return Err(ScheduleFault::BadRow { line: number });

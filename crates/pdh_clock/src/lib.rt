@@ -14,6 +14,8 @@
 //! a node that isn't of the last level is a node of the next one. So `/` is the top, `/2` the node of its second
 //! tributary, and `/2/3` that of the third tributary of `/2`. The rows of a node may stand between those of others.
 //! A schedule keeps the nodes in order, a node before those below it, each with its rows in order of lines.
+//!
+//! A top may have no stores. Then its rows have no counts, and each of its frames carries as many bits of every tributary.
 #![tactic(auto)]
 
 mod beginning;

@@ -1,17 +1,17 @@
 //! The rows of schedules that are made from rates and clock offsets.
 
-ghost use Rattle.std.specs.Prelude.{◌≡◌, ℕ, ◌<◌, ◌≤◌, ◌+◌, ◌-◌, All, length, map, slice_index, IfOk, OnOk};
+ghost use Rattle.std.specs.Prelude.{◌≡◌, ℕ, ◌<◌, ◌≤◌, ◌+◌, ◌-◌, All, IsSome, length, map, slice_index, IfOk, OnOk};
 ghost use Rattle.pdh_rows.specs.Stored.{IsTable, rows_of, node_row};
-ghost use Rattle.pdh_levels.specs.Levels.{AreLevels, IsLevel};
+ghost use Rattle.pdh_levels.specs.Levels.{AreLevels, IsLevel, level_at, level_stores};
 ghost use Rattle.pdh_line.specs.Paths.{steps_of};
-ghost use Rattle.pdh_clock.specs.Made.{IsRated, offset_of, made_arrived, made_count, made_frames, most_made};
-ghost use Rattle.pdh_clock.specs.Making.{AreMade, last_step};
+ghost use Rattle.pdh_clock.specs.Made.{IsRated, tributary_offset, made_arrived, made_count, made_frames, most_made};
+ghost use Rattle.pdh_clock.specs.Making.{AreMade, line_at};
 ghost use Rattle.pdh_clock.specs.Stored.{IsTree};
 ghost use Rattle.pdh_shape.specs.OwnNumbers.{most_frames};
 
 use crate::bias::{Bias, Offset};
-use crate::row::MOST_TRIBS;
 use crate::tree::Tree;
+use pdh_levels::{MOST_TRIBUTARIES, store_count};
 use pdh_rows::Table;
 use pdh_shape::{Level, Path};
 use std::alloc::{AllocError, Global};
@@ -23,6 +23,33 @@ struct Clocks {
     // How many levels of nodes there are below the node.
     height: usize,
     line: Offset,
+}
+
+impl Clocks {
+    // The offset of a tributary of a node of this level, by its number from 1.
+    fn tributary(self, level: &Level, number: u8) -> Offset
+        ensures { result ≡ tributary_offset level.now self.bias self.height self.line number }
+    {
+        if level.locked {
+            self.line
+        } else {
+            self.bias.offset(self.height, number)
+        }
+    }
+
+    // The clocks at the node of a tributary.
+    fn below(self, level: &Level, number: u8) -> Clocks
+        requires { 0 < self.height }
+        ensures bias { result.bias ≡ self.bias }
+        ensures height { result.height + 1 ≡ self.height }
+        ensures line { result.line ≡ tributary_offset level.now self.bias self.height self.line number }
+    {
+        Clocks {
+            bias: self.bias,
+            height: self.height - 1,
+            line: self.tributary(level, number),
+        }
+    }
 }
 
 // How many bits of a tributary have arrived after n frames, by the offsets of the line and of the tributary.
@@ -39,17 +66,17 @@ fn arrived(level: &Level, line: Offset, trib: Offset, n: u64) -> u128
 }
 
 // How many bits of each tributary arrive in a frame; what stands behind the last tributary is 0.
-fn counts(level: &Level, clocks: Clocks, frame: u64) -> [u32; MOST_TRIBS]
+fn counts(level: &Level, clocks: Clocks, frame: u64) -> [u32; MOST_TRIBUTARIES]
     requires level { IsLevel level.now }
     requires rated { IsRated level.now }
     requires few { frame < most_made }
     ensures counts { (trib : ℕ) → trib < level.now.tribs
-        → slice_index result trib ≡ made_count level.now clocks.line (offset_of clocks.bias clocks.height (trib + 1)) frame }
+        → slice_index result trib ≡ made_count level.now clocks.line (tributary_offset level.now clocks.bias clocks.height clocks.line (trib + 1)) frame }
     ensures most { (trib : ℕ) → trib < level.now.tribs → slice_index result trib ≤ level.now.len }
 {
-    let mut counts = [0; MOST_TRIBS];
+    let mut counts = [0; MOST_TRIBUTARIES];
     for trib in 0..level.tribs {
-        let offset = clocks.bias.offset(clocks.height, trib + 1);
+        let offset = clocks.tributary(level, trib + 1);
         let before = arrived(level, clocks.line, offset, frame);
         let after = arrived(level, clocks.line, offset, frame + 1);
         counts[usize::from(trib)] = (after - before) as u32;
@@ -69,34 +96,37 @@ fn made_table(
     requires few { frames ≤ most_made }
     ensures rows { IfOk result (λ table. rows_of table ≡ map (node_row 1) (made_frames level.now clocks.bias clocks.height clocks.line frames)) }
     ensures table { IfOk result (λ table. IsTable table) }
-    ensures tribs { IfOk result (λ table. table.tribs ≡ level.now.tribs) }
+    ensures tribs { IfOk result (λ table. table.tribs ≡ level_stores level.now) }
 {
-    let tribs = usize::from(level.tribs);
-    let mut table = Table::new(alloc, tribs)?;
+    let stores = store_count(level);
+    let mut table = Table::new(alloc, stores)?;
     for frame in 0..frames {
         let counts = counts(level, clocks, frame);
-        table.add(1, &counts[..tribs])?;
+        table.add(1, &counts[..stores])?;
     }
     Ok(table)
 }
 
-// The clocks at a node of a chain of so many levels.
-fn clocks_of(levels: usize, node: &Path, bias: Bias) -> Clocks
-    requires { length (steps_of node.now) < levels }
+// The clocks at a node of a chain.
+fn clocks_of(levels: &[Level], node: &Path, bias: Bias) -> Clocks
+    requires { IsSome (level_at levels.now (steps_of node.now)) }
     ensures bias { result.bias ≡ bias }
-    ensures height { result.height + length (steps_of node.now) + 1 ≡ levels }
-    ensures line { result.line ≡ offset_of bias (levels - length (steps_of node.now)) (last_step (steps_of node.now)) }
+    ensures height { result.height + length (steps_of node.now) + 1 ≡ length levels.now }
+    ensures line { result.line ≡ line_at levels.now bias (steps_of node.now) }
 {
-    let (depth, number) = match node.depth {
-        0 => (0, 1),
-        1 => (1, node.first),
-        _ => (2, node.second),
-    };
-    Clocks {
+    let top = Clocks {
         bias,
-        height: levels - depth - 1,
-        line: bias.offset(levels - depth, number),
+        height: levels.len() - 1,
+        line: bias.offset(levels.len(), 1),
+    };
+    if node.depth == 0 {
+        return top;
     }
+    let first = top.below(&levels[0], node.first);
+    if node.depth == 1 {
+        return first;
+    }
+    first.below(&levels[1], node.second)
 }
 
 // Makes the rows of a node, where those of the nodes before it are made.
@@ -120,7 +150,7 @@ fn make_node(
     let node = tree.nodes[place].path;
     let level = tree.level_of(&node);
     let frames = tree.begun(&node, top_frames);
-    let clocks = clocks_of(tree.levels.len(), &node, bias);
+    let clocks = clocks_of(&tree.levels, &node, bias);
     tree.nodes[place].table = made_table(alloc, &level, clocks, frames)?;
     Ok(())
 }

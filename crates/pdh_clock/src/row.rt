@@ -2,21 +2,20 @@
 
 ghost use Rattle.std.specs.Prelude.{ℕ, ◌+◌, ◌*◌, ◌^◌, IfSome, List, [], ◌∷◌, ◌++◌, ◌≡◌, ◌≤◌, ◌<◌, length, take};
 ghost use Rattle.std.specs.Option.{option_copied};
+ghost use Rattle.pdh_levels.specs.Levels.{most_tributaries};
 ghost use Rattle.pdh_clock.specs.Text.{numbers_of};
 ghost use Rattle.pdh_clock.specs.Row.{row_of};
 ghost use Rattle.pdh_clock.specs.Parsed.{Finds, AreCounts, IsRow, left_len, words_left};
 
 use crate::words::{first_word, number, path};
+use pdh_levels::MOST_TRIBUTARIES;
 use pdh_shape::Path;
-
-/// The most tributaries that a multiplexer has.
-pub const MOST_TRIBS: usize = 7;
 
 /// The counts of a row: how many there are, and the first ones, as many as a node has at most.
 #[derive(Clone, Copy)]
 pub struct Counts {
     pub number: usize,
-    pub first: [u32; MOST_TRIBS],
+    pub first: [u32; MOST_TRIBUTARIES],
 }
 
 /// A row in its form, of whatever node.
@@ -35,7 +34,7 @@ impl Counts {
         ensures counts { (counts : List ℕ)
             → AreCounts self.old counts → AreCounts self.new (counts ++ count ∷ []) }
     {
-        if self.number < MOST_TRIBS {
+        if self.number < MOST_TRIBUTARIES {
             self.first[self.number] = count;
         }
         self.number += 1;
@@ -43,7 +42,7 @@ impl Counts {
 
     /// The counts, where they are no more than a node has at most.
     pub fn as_slice(&self) -> &[u32]
-        requires { self.now.number ≤ MOST_TRIBS }
+        requires { self.now.number ≤ most_tributaries }
         ensures { result.now ≡ take self.now.number self.now.first }
     {
         &self.first[..self.number]
@@ -58,7 +57,7 @@ fn counts_in(words: Option<&[u8]>) -> Option<Counts>
 {
     let mut found = Counts {
         number: 0,
-        first: [0; MOST_TRIBS],
+        first: [0; MOST_TRIBUTARIES],
     };
     let mut rest = words;
     while let Some(line) = rest {

@@ -125,7 +125,8 @@ impl Schedule {
     }
 
     /// How many bits of a leaf, counted from 0, enter while the top makes so many frames: none where the leaf's node begins
-    /// no frame, else its lead and what arrives in the frames that the node begins.
+    /// no frame, else its lead and what arrives in the frames that the node begins; or what these frames carry, where the node
+    /// has no stores.
     pub fn entered(&self, leaf: u32, top_frames: u64) -> u128
         requires leaf { leaf < width (numbers_of self.now.levels) }
         requires enough { IsNone (shortage self.now top_frames) }
@@ -136,7 +137,7 @@ impl Schedule {
 
     /// Makes the schedule of so many frames of the top, and of as many of each other node as it begins in their time, in
     /// which every tributary brings the whole bits of its own clock. Clocks are off by as many parts per million as the
-    /// levels say.
+    /// levels say. Where the top has no stores, its frames have no counts, and its tributaries' clock is its own.
     pub fn from_ppm(
         alloc: Global,
         levels: &[Level],

@@ -3,8 +3,8 @@
 ghost use Rattle.std.specs.Prelude.{◌<◌};
 
 use crate::{Bias, Outside, Schedule, ScheduleFault, Short};
-use pdh_levels::{E2_LEVEL, E3_LEVEL, E4_LEVEL};
-use pdh_shape::{MOST_BYTES, Path, TOP};
+use pdh_levels::{DS2_LOCKED_LEVEL, DS3_LOCKED_LEVEL, E2_LEVEL, E3_LEVEL, E4_LEVEL};
+use pdh_shape::{Level, MOST_BYTES, Path, TOP};
 use std::alloc::Global;
 use std::test::Fail;
 
@@ -432,5 +432,146 @@ fn makes_three_levels(rt: HostRuntime) -> Result<(), Fail> {
     for node in [TOP, FIRST, last] {
         assert_eq!(rt; again.frames(&node), schedule.frames(&node));
     }
+    Ok(())
+}
+
+/// The levels of a 44736 kbit/s line with C-bit parity, whose top has no stores.
+const LOCKED: [Level; 2] = [DS3_LOCKED_LEVEL, DS2_LOCKED_LEVEL];
+
+/// How many frames a text gives such a top, what it is written as, and the first node that has too few frames in the time of
+/// all of the top; or the text's fault.
+fn read_locked(alloc: Global, text: &[u8]) -> Result<(u64, Vec<u8>, Option<Short>), ScheduleFault> {
+    let schedule = Schedule::read(alloc, &LOCKED, text)?;
+    let frames = schedule.frames(&TOP);
+    let short = schedule.short(frames);
+    Ok((frames, schedule.text(alloc)?, short))
+}
+
+#[test]
+fn judges_rows_of_a_top_without_stores(rt: HostRuntime) {
+    let bad = ScheduleFault::BadRow { line: 1 };
+    let unknown = ScheduleFault::UnknownNode { line: 1 };
+    let over = ScheduleFault::CountOver {
+        line: 1,
+        count: 1_177,
+        most: 1_176,
+    };
+    let rows = [
+        ("/ 17 671", bad),
+        ("/ 17 671 671 671 671 671 671 671", bad),
+        ("/ 17 0\n/9 1 1", bad),
+        ("/ 1 1 1 1 1 1 1 1 1", bad),
+        ("/ 0", bad),
+        ("/ ", bad),
+        ("/ 12 ", bad),
+        ("/1 1 1", bad),
+        ("/8 1 1 1 1 1", unknown),
+        ("/9 4 287 287", unknown),
+        ("/1/1 3 1 2 3 4", unknown),
+        ("/1 1 1177 1 1 1", over),
+    ];
+    for (text, fault) in rows {
+        let answer = read_locked(rt.alloc(), text.as_bytes()).err();
+        assert_eq!(rt; answer, Some(fault), "at {text}");
+    }
+}
+
+#[test]
+fn reads_a_top_without_stores(rt: HostRuntime) -> Result<(), Fail> {
+    let short = |first: u8, have: u64, need: u64| {
+        let node = Path {
+            depth: 1,
+            first,
+            second: 0,
+        };
+        Some(Short { node, have, need })
+    };
+    let rows: [(&str, u64, &str, Option<Short>); 5] = [
+        ("/1 4 287 287 287 287\n", 0, "/1 4 287 287 287 287\n", None),
+        // Three frames of 671 bits are one frame of 1176 and a part of another.
+        (
+            "/ 3\n/1 1 288 288 288 288\n",
+            3,
+            "/ 3\n/1 1 288 288 288 288\n",
+            short(1, 1, 2),
+        ),
+        (
+            "/ 1\n/ 2\n/1 10 288 288 288 288\n/ 14\n",
+            17,
+            "/ 17\n/1 10 288 288 288 288\n",
+            short(2, 0, 10),
+        ),
+        (
+            "/ 17\n/1 10 1 1 1 1\n/2 10 1 1 1 1\n/3 10 1 1 1 1\n/4 10 1 1 1 1\n/5 10 1 1 1 1\n/6 10 1 1 1 1\n/7 9 1 1 1 1\n",
+            17,
+            "/ 17\n/1 10 1 1 1 1\n/2 10 1 1 1 1\n/3 10 1 1 1 1\n/4 10 1 1 1 1\n/5 10 1 1 1 1\n/6 10 1 1 1 1\n/7 9 1 1 1 1\n",
+            short(7, 9, 10),
+        ),
+        (
+            "/ 17\n/1 10 1 1 1 1\n/2 10 1 1 1 1\n/3 10 1 1 1 1\n/4 10 1 1 1 1\n/5 10 1 1 1 1\n/6 10 1 1 1 1\n/7 10 1 1 1 1\n",
+            17,
+            "/ 17\n/1 10 1 1 1 1\n/2 10 1 1 1 1\n/3 10 1 1 1 1\n/4 10 1 1 1 1\n/5 10 1 1 1 1\n/6 10 1 1 1 1\n/7 10 1 1 1 1\n",
+            None,
+        ),
+    ];
+    for (text, frames, written, short) in rows {
+        let answer = read_locked(rt.alloc(), text.as_bytes())?;
+        assert_eq!(rt; answer.0, frames, "at {text}");
+        assert_eq!(rt; answer.1.as_slice(), written.as_bytes(), "at {text}");
+        assert_eq!(rt; answer.2, short, "at {text}");
+    }
+    Ok(())
+}
+
+#[test]
+fn enters_bits_below_a_top_without_stores(rt: HostRuntime) -> Result<(), Fail> {
+    let text =
+        b"/ 17\n/1 10 288 288 288 288\n/2 10 288 288 288 288\n/3 10 288 288 288 288\n/4 10 288 288 288 288\n/5 10 288 288 288 288\n/6 10 288 288 288 288\n/7 10 288 288 288 287\n";
+    let schedule = Schedule::read(rt.alloc(), &LOCKED, text)?;
+    assert!(rt; 17 <= schedule.frames(&TOP));
+    assert!(rt; schedule.short(17).is_none());
+    assert_eq!(rt; schedule.begun(&FIRST, 17), 10);
+    for (leaf, bits) in [(0, 2_904), (3, 2_904), (26, 2_904), (27, 2_894)] {
+        assert!(rt; leaf < 28);
+        assert_eq!(rt; schedule.entered(leaf, 17), bits, "at {leaf}");
+    }
+    Ok(())
+}
+
+#[test]
+fn makes_a_top_without_stores(rt: HostRuntime) -> Result<(), Fail> {
+    // The bits of the first and of the second leaf of each node in the time of 1000 frames of the top.
+    let rows: [(Bias, [u64; 2]); 3] = [
+        (Bias::Fast, [164_408, 164_408]),
+        (Bias::Slow, [164_404, 164_404]),
+        (Bias::Mixed, [164_408, 164_397]),
+    ];
+    let last = Path {
+        depth: 1,
+        first: 7,
+        second: 0,
+    };
+    for (bias, totals) in rows {
+        let schedule = Schedule::from_ppm(rt.alloc(), &LOCKED, 1_000, bias)?;
+        assert_eq!(rt; schedule.frames(&TOP), 1_000);
+        for node in [FIRST, last] {
+            assert_eq!(rt; schedule.frames(&node), 571);
+            assert_eq!(rt; schedule.total(&node, 571, 0), totals[0]);
+            assert_eq!(rt; schedule.total(&node, 571, 1), totals[1]);
+        }
+    }
+    Ok(())
+}
+
+#[test]
+fn reads_back_a_made_top_without_stores(rt: HostRuntime) -> Result<(), Fail> {
+    let schedule = Schedule::from_ppm(rt.alloc(), &LOCKED, 12, Bias::Nominal)?;
+    let text = schedule.text(rt.alloc())?;
+    let expected =
+        "/ 12\n/1 1 287 287 287 287\n/1 6 288 288 288 288\n/2 1 287 287 287 287\n/2 6 288 288 288 288\n/3 1 287 287 287 287\n/3 6 288 288 288 288\n/4 1 287 287 287 287\n/4 6 288 288 288 288\n/5 1 287 287 287 287\n/5 6 288 288 288 288\n/6 1 287 287 287 287\n/6 6 288 288 288 288\n/7 1 287 287 287 287\n/7 6 288 288 288 288\n";
+    assert_eq!(rt; text.as_slice(), expected.as_bytes());
+    let again = Schedule::read(rt.alloc(), &LOCKED, &text)?;
+    assert_eq!(rt; again.text(rt.alloc())?.as_slice(), text.as_slice());
+    assert_eq!(rt; again.frames(&TOP), 12);
     Ok(())
 }

@@ -7,10 +7,10 @@ ghost use Rattle.pdh_levels.specs.Levels.{AreLevels, IsLevel, level_at, stores_a
 ghost use Rattle.pdh_line.specs.Paths.{steps_of, path_of};
 ghost use Rattle.pdh_clock.specs.Contents.{IsRowOf, frames_of, rows_at, by_nodes};
 ghost use Rattle.pdh_clock.specs.Row.{Row};
-ghost use Rattle.pdh_clock.specs.Stored.{IsTree, IsSmall, IsSmallRow, node_path, path_row, rows_in};
+ghost use Rattle.pdh_clock.specs.Stored.{IsTree, IsSmall, IsSmallRow, node_path, path_row, row_bytes, rows_in};
 ghost use Rattle.pdh_shape.specs.OwnNumbers.{most_bytes};
 
-use pdh_levels::{level_of, node_at, node_count, node_place};
+use pdh_levels::{level_of, node_at, node_count, node_place, store_count};
 use pdh_rows::Table;
 use pdh_shape::{Level, Path};
 use std::alloc::{AllocError, Global};
@@ -45,7 +45,7 @@ impl Tree {
         for place in 0..node_count(levels) {
             let path = node_at(levels, place);
             let level = level_of(levels, &path);
-            let table = Table::new(alloc, usize::from(level.tribs))?;
+            let table = Table::new(alloc, store_count(&level))?;
             nodes.push(NodeRows { path, table })?;
         }
         Ok(Tree {
@@ -98,7 +98,7 @@ impl Tree {
         requires row { IsRowOf self.old.levels.items (path_row (steps_of node.now) repeat counts.now) }
         requires small { IsSmall repeat counts.now }
         requires all_small { All IsSmallRow (rows_at (rows_in self.old) (steps_of node.now)) }
-        requires few { 11 * length (rows_at (rows_in self.old) (steps_of node.now)) ≤ most_bytes }
+        requires few { row_bytes self.old.levels.items (steps_of node.now) * length (rows_at (rows_in self.old) (steps_of node.now)) ≤ most_bytes }
         ensures tree { OnOk result (IsTree self.new) }
         ensures levels { OnOk result (self.new.levels.items ≡ self.old.levels.items) }
         ensures rows { OnOk result ((rows : List Row) → rows_in self.old ≡ by_nodes self.old.levels.items rows

@@ -6,7 +6,7 @@ use Rattle.pdh_shape.specs.declared.role.Marks.{Marks}
 use Rattle.pdh_shape.specs.Frame.{clean}
 use Rattle.pdh_ds.specs.Blocks.{block_role, block_mark}
 use Rattle.pdh_ds.specs.Loss.{window_wrong}
-use Rattle.pdh_ds.specs.Plans.{ds2, ds2_overhead, ds3, ds3_overhead}
+use Rattle.pdh_ds.specs.Plans.{ds2, ds2_overhead, ds3, ds3_overhead, ds3c_overhead}
 
 -- DS2 of T1.107, subframe by subframe: M, C1, F, C2, C3, F; M1 to M3 are 011, and the fourth is X
 pub ds2_overhead_slots : map ds2_overhead (0 ∷ 1 ∷ 2 ∷ 3 ∷ [])
@@ -28,6 +28,19 @@ pub ds3_overhead_slots : map ds3_overhead (0 ∷ 1 ∷ 2 ∷ 3 ∷ 4 ∷ 5 ∷ 6
     ∷ (Align false ∷ Align true ∷ Control 6 0 ∷ Align false ∷ Control 6 1 ∷ Align false ∷ Control 6 2 ∷ Align true ∷ [])
     ∷ []
 ds3_overhead_slots = refl
+
+-- DS3 with C-bit parity, subframe by subframe: X, P or M, then F, C1, F, C2, F, C3, F. C11 and C12 are 1, C13 is the far end alarm
+-- and control channel, C3 path parity, C4 the far end block error, and C5 the data link
+pub ds3c_overhead_slots : map ds3c_overhead (0 ∷ 1 ∷ 2 ∷ 3 ∷ 4 ∷ 5 ∷ 6 ∷ [])
+    ≡ (Service 0 ∷ Align true ∷ Service 2 ∷ Align false ∷ Service 2 ∷ Align false ∷ Service 3 ∷ Align true ∷ [])
+    ∷ (Service 0 ∷ Align true ∷ Service 2 ∷ Align false ∷ Service 2 ∷ Align false ∷ Service 2 ∷ Align true ∷ [])
+    ∷ (Service 1 ∷ Align true ∷ Service 4 ∷ Align false ∷ Service 4 ∷ Align false ∷ Service 4 ∷ Align true ∷ [])
+    ∷ (Service 1 ∷ Align true ∷ Service 5 ∷ Align false ∷ Service 5 ∷ Align false ∷ Service 5 ∷ Align true ∷ [])
+    ∷ (Align false ∷ Align true ∷ Service 6 ∷ Align false ∷ Service 7 ∷ Align false ∷ Service 8 ∷ Align true ∷ [])
+    ∷ (Align true ∷ Align true ∷ Service 2 ∷ Align false ∷ Service 2 ∷ Align false ∷ Service 2 ∷ Align true ∷ [])
+    ∷ (Align false ∷ Align true ∷ Service 2 ∷ Align false ∷ Service 2 ∷ Align false ∷ Service 2 ∷ Align true ∷ [])
+    ∷ []
+ds3c_overhead_slots = refl
 
 -- the first slots of DS2's subframes, and its framing slots
 pub ds2_marks : map ds2.mark (0 ∷ 294 ∷ 588 ∷ 882 ∷ 98 ∷ 245 ∷ 392 ∷ 539 ∷ 686 ∷ 833 ∷ 980 ∷ 1127 ∷ [])

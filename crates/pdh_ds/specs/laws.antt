@@ -1,3 +1,4 @@
 -- The proofs of the laws that ghost members give. They stand here, since a ghost member cites only `specs/`.
 pub mod Ds2Laws
 pub mod Ds3Laws
+pub mod Ds3cLaws

@@ -1,6 +1,6 @@
 use crate::blocks::{block_mark, block_role};
 use crate::loss::loses;
-use crate::{Ds2Plan, Ds3Plan, InBlocks};
+use crate::{Ds2Plan, Ds3Plan, Ds3cPlan, InBlocks};
 use pdh_shape::{Duty, Mark, Marks, Role, Service, Shape};
 use std::marker::PhantomData;
 
@@ -11,6 +11,10 @@ pub type Ds2 = BlockFrame<Ds2Plan>;
 /// The frame of the third-order multiplex of ANSI T1.107, in the M23 application: 4760 bits at
 /// 44736 kbit/s for seven tributaries of 6312 kbit/s.
 pub type Ds3 = BlockFrame<Ds3Plan>;
+
+/// The frame of the third-order multiplex of ANSI T1.107 with C-bit parity: 4760 bits at 44736 kbit/s for seven tributaries
+/// that are locked to it, of 671 bits in each frame.
+pub type Ds3C = BlockFrame<Ds3cPlan>;
 
 /// The frame of a plan.
 pub struct BlockFrame<P> {

@@ -10,8 +10,8 @@ mod plans;
 #[cfg(test)]
 mod tests;
 
-pub use block_frame::{BlockFrame, Ds2, Ds3};
+pub use block_frame::{BlockFrame, Ds2, Ds3, Ds3C};
 pub use block_plan::{BlockPlan, InBlocks};
 pub use loss::LossRule;
 pub use ones::parity;
-pub use plans::{Ds2Plan, Ds3Plan};
+pub use plans::{Ds2Plan, Ds3Plan, Ds3cPlan};

@@ -55,6 +55,19 @@ fn ds3(rt: HostRuntime) -> Result<(), Fail> {
 }
 
 #[test]
+fn ds3c(rt: HostRuntime) -> Result<(), Fail> {
+    assert_eq!(rt; roles::<Ds3C>(), [31, 25, 0, 7, 4697]);
+    assert_eq!(rt; Ds3C::role(510), Role::Service(3));
+    assert_eq!(rt; Ds3C::mark(2720), Mark::Multi);
+    assert!(rt; !Ds3C::inverted(1));
+    assert_eq!(rt; Ds3C::duty(4), Duty::PathParity);
+    assert!(rt; !Ds3C::service(4, &Service::idle(), false));
+    assert!(rt; Ds3C::service(8, &Service::idle(), false));
+    assert!(rt; loses_by::<Ds3C>(0x8101));
+    Ok(())
+}
+
+#[test]
 fn three_ones_are_odd(rt: HostRuntime) -> Result<(), Fail> {
     assert!(rt; parity(&[true, false, true, true]));
     Ok(())

@@ -1,5 +1,6 @@
 -- The delay, level by level.
-use Rattle.std.proofs.Common.{◌≡◌, ℕ, suc, ◌+◌, ◌-◌, ◌*◌, ◌/◌, ◌<◌, ◌≤◌, ◌^◌, zero, List, [], ◌∷◌, length, drop, take, get_or, All, Fits, w32, refl, ap, sym, ◌∙◌, subst, arith}
+use Rattle.std.proofs.Common.{◌≡◌, ℕ, suc, ◌+◌, ◌-◌, ◌*◌, ◌/◌, ◌<◌, ◌≤◌, ◌^◌, zero, List, [], ◌∷◌, length, drop, take, get_or, All, Fits, w32, refl, ap, sym, ◌∙◌, subst, arith, inl, inr}
+use Rattle.std.proofs.lemmas.Bool.{cases_Bool}
 use Rattle.std.proofs.Math.Nat.{mul-le-mul_left, mul-le-mul_right, div-mul-le_self}
 use Rattle.std.proofs.lemmas.List.Elements.{All-head, All-tail, All-drop}
 use Rattle.pdh_shape.specs.declared.place.Level.{Level}
@@ -64,7 +65,10 @@ few_held len' frames short n long most few =
 short_most : (level : Level) (frames : ℕ) → IsLevel level → IsLow level → short_by (level_numbers level) frames ≤ 32 + frames * 4760
 short_most level frames is low =
     let bits : frames * suc level.low ≤ frames * 4760 = mul-le-mul_left frames (omega (arith, is.longest)) in
-    rw is.stores (omega arith)
+    elim (cases_Bool level.locked) [
+      | inl locked ↦ rw locked (omega arith)
+      | inr elastic ↦ rw elastic (omega arith)
+    ]
 
 pub few_more : (levels : List Level) (frames short : ℕ) (d d' : Level) → 2 ≤ length levels → All IsLevel levels → All IsLow levels → (frames + 1) * 8 ^ length levels ≤ 1536
     → short ≡ short_by (level_numbers (get_or levels 0 d)) frames → AreFew levels short d'

@@ -6,7 +6,7 @@ use Rattle.pdh_shape.specs.declared.place.Path.{Path}
 use Rattle.pdh_line.specs.Paths.{steps_of, path_of, top}
 use Rattle.pdh_line.specs.Nodes.{width, leaf_node, leaf_trib}
 use Rattle.pdh_line.proofs.LeafNumbers.{leaf-tributary, leaf-below}
-use Rattle.pdh_levels.specs.Levels.{IsLevel, AreLevels, numbers_of}
+use Rattle.pdh_levels.specs.Levels.{IsLevel, IsElastic, AreLevels, numbers_of}
 use Rattle.pdh_levels.proofs.LevelLaws.{below_top}
 
 -- ---- one level
@@ -43,7 +43,7 @@ are_below levels more are = subst AreLevels (sym (below_top levels)) (rest level
   where
     rest : (levels : List Level) → 2 ≤ length levels → AreLevels levels → AreLevels (drop 1 levels)
     rest [] more are = absurd (omega arith)
-    rest (level ∷ below) more are = record { some = omega arith; few = (let few = are.few in omega arith); each = All-tail IsLevel level below are.each }
+    rest (level ∷ below) more are = record { some = omega arith; few = (let few = are.few in omega arith); each = All-tail IsLevel level below are.each; stores_below = All-drop IsElastic 1 below are.stores_below }
 
 pub each_below : (levels : List Level) → All IsLevel levels → All IsLevel (take (length levels - 1) (drop 1 levels))
 each_below levels each = subst (All IsLevel) (sym (below_top levels)) (All-drop IsLevel 1 levels each)

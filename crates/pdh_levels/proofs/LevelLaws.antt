@@ -4,11 +4,11 @@ use Rattle.std.specs.Option.{option_map_or}
 use Rattle.std.proofs.Math.Nat.{mul-le-mul_right, pow-le-pow_right}
 use Rattle.std.proofs.lemmas.Nat.{div-add-mod', mod_below}
 use Rattle.std.proofs.lemmas.List.{take_rest, take_all}
-use Rattle.std.proofs.lemmas.Bool.{cases_lt, le-leb, false≢true}
+use Rattle.std.proofs.lemmas.Bool.{cases_Bool, cases_lt, le-leb, false≢true}
 use Rattle.std.proofs.lemmas.List.Elements.{All-head, All-tail, All-get_or}
 use Rattle.pdh_shape.specs.declared.place.Level.{Level}
 use Rattle.pdh_shape.specs.declared.place.Path.{Path}
-use Rattle.pdh_levels.specs.Levels.{IsLevel, AreLevels, level_at, level_stores, stores_at, len_at, size_of, place_of, nodes_in}
+use Rattle.pdh_levels.specs.Levels.{IsLevel, AreLevels, IsElastic, level_at, level_stores, stores_at, len_at, size_of, place_of, nodes_in}
 use Rattle.pdh_line.specs.Paths.{steps_of}
 use Rattle.pdh_line.specs.Progress.{by_stores}
 use Rattle.pdh_line.specs.Progress.Stores.{Elastic, Locked}
@@ -60,10 +60,42 @@ level_by_place levels path k d some long =
     let at = level_in levels path has.level has.is in
     has.is ∙ ap Some (sym (at.at d) ∙ ap (λ n. get_or levels n d) long)
 
-pub stores_is : (levels : List Level) (path : List ℕ) (level : Level) → All IsLevel levels → level_at levels path ≡ Some level
+-- how many stores a node has
+pub stores_count : (levels : List Level) (path : List ℕ) (level : Level) → level_at levels path ≡ Some level → stores_at levels path ≡ level_stores level
+stores_count levels path level h = ap (λ o. option_map_or level_stores o 0) h
+
+pub level_stores_is : (level : Level) → IsElastic level → level_stores level ≡ level.tribs
+level_stores_is level elastic = ap (λ b. by_stores (cond b (Locked (λ j t. 0)) Elastic) level.tribs (λ reads. 0)) elastic
+
+pub no_stores_is : (level : Level) → level.locked ≡ true → level_stores level ≡ 0
+no_stores_is level locked = ap (λ b. by_stores (cond b (Locked (λ j t. 0)) Elastic) level.tribs (λ reads. 0)) locked
+
+-- no node has more stores than tributaries
+pub stores_few : (level : Level) → level_stores level ≤ level.tribs
+stores_few level = elim (cases_Bool level.locked) [
+  | inl locked ↦ omega (arith, no_stores_is level locked)
+  | inr elastic ↦ omega (arith, level_stores_is level elastic)
+]
+
+-- a node that has a store has one for each tributary
+pub has_stores : (level : Level) (trib : ℕ) → trib < level_stores level → IsElastic level
+has_stores level trib store = elim (cases_Bool level.locked) [
+  | inl locked ↦ absurd (omega (arith, no_stores_is level locked))
+  | inr elastic ↦ elastic
+]
+
+pub stores_is : (levels : List Level) (path : List ℕ) (level : Level) → IsElastic level → level_at levels path ≡ Some level
     → stores_at levels path ≡ level.tribs
-stores_is levels path level each h =
-    ap (λ o. option_map_or level_stores o 0) h ∙ ap (λ b. by_stores (cond b (Locked (λ j t. 0)) Elastic) level.tribs (λ reads. 0)) (level_is levels path level each h).stores
+stores_is levels path level elastic h = stores_count levels path level h ∙ level_stores_is level elastic
+
+-- each node below the top has stores
+pub below_has_stores : (levels : List Level) (step : ℕ) (path : List ℕ) (level : Level) → AreLevels levels → level_at levels (step ∷ path) ≡ Some level
+    → IsElastic level
+below_has_stores [] step path level are h = absurd (false≢true (some_of (level_at [] (step ∷ path)) level h))
+below_has_stores (first ∷ below) step path level are h =
+    let at = level_in (first ∷ below) (step ∷ path) level h in
+    let inside : length path < length below = (let all = at.inside in omega arith) in
+    subst IsElastic (at.at level) (All-get_or IsElastic below (length path) level inside are.stores_below)
 
 pub len_is : (levels : List Level) (path : List ℕ) (level : Level) → level_at levels path ≡ Some level → len_at levels path ≡ level.len
 len_is levels path level h = ap (λ o. option_map_or (λ (level : Level). level.len) o 0) h
@@ -345,13 +377,6 @@ place_of_two levels path n size few other other' some e same =
     let steps = steps_two path other other' in
     ap (λ k. 1 + k * size + path.second) e ∙ ap (λ k. 1 + (path.first - 1) * k + path.second) same
     ∙ sym (ap (place_of levels) steps ∙ place_two levels path.first path.second few (subst (λ steps. IsSome (level_at levels steps)) steps some))
-
--- all tributaries of a node have stores, and there are some
-pub tribs_of : (levels : List Level) (path : List ℕ) (n : ℕ) (level : Level) → All IsLevel levels → level_at levels path ≡ Some level → n ≡ level.tribs
-    → (n ≡ stores_at levels path) × (0 < n)
-tribs_of levels path n level each is tribs =
-    let fewest = (level_is levels path level each is).fewest in
-    (tribs ∙ sym (stores_is levels path level each is), omega arith)
 
 -- ---- the node at a place
 

@@ -1,5 +1,5 @@
 -- The levels of a chain of multiplexers, from the top, as the code has them.
-use Rattle.std.specs.Prelude.{◌≡◌, ℕ, suc, ◌+◌, ◌-◌, ◌*◌, ◌≤◌, ◌&&◌, false, nat_le, if◌then◌else◌, List, [], ◌∷◌, length, map, All, Option, Some, None}
+use Rattle.std.specs.Prelude.{◌≡◌, ℕ, suc, ◌+◌, ◌-◌, ◌*◌, ◌≤◌, ◌&&◌, ◌<◌, true, false, nat_le, if◌then◌else◌, List, [], ◌∷◌, length, map, drop, All, Option, Some, None}
 use Rattle.std.specs.Option.{option_map_or}
 use Rattle.pdh_shape.specs.declared.place.Level.{Level}
 use Rattle.pdh_line.specs.Progress.{FrameNumbers, stores_of}
@@ -18,20 +18,42 @@ numbers_of levels = map level_numbers levels
 abbrev pub nodes_in : List Level → List (List ℕ)
 nodes_in levels = nodes_of (numbers_of levels)
 
--- a frame has no fewer bits than the shortest one and no more than the longest one, and there are 4 to 7 tributaries. So a
--- row has 11 bytes or more, the sums of a text stay below 2^64, and a node makes few frames more than the one above it
+-- What is fixed of all levels; the code has the same numbers in `src/bounds.rt`. The bits of the shortest frame and of the
+-- longest one:
+abbrev pub shortest_frame : ℕ
+shortest_frame = 848
+
+abbrev pub longest_frame : ℕ
+longest_frame = 4760
+
+-- and the fewest and the most tributaries of a node
+abbrev pub fewest_tributaries : ℕ
+fewest_tributaries = 4
+
+abbrev pub most_tributaries : ℕ
+most_tributaries = 7
+
+-- A level keeps within these numbers. So a row with counts has 11 bytes or more, the sums of a text stay below 2^64, and a
+-- node makes few frames more than the one above it.
 pub record IsLevel (level : Level) : Type 0 where
-  pub shortest : 848 ≤ level.len
-  pub longest : level.len ≤ 4760
-  pub fewest : 4 ≤ level.tribs
-  pub most : level.tribs ≤ 7
-  pub stores : level.locked ≡ false
+  pub shortest : shortest_frame ≤ level.len
+  pub longest : level.len ≤ longest_frame
+  pub fewest : fewest_tributaries ≤ level.tribs
+  pub most : level.tribs ≤ most_tributaries
+  -- where no store stands between, a node makes fewer bits than the one above it
+  pub carried : level.locked ≡ true → level.low < level.len
+
+-- the nodes of a level have an elastic store for each tributary
+abbrev pub IsElastic : Level → Type 0
+IsElastic level = level.locked ≡ false
 
 -- the levels of a chain, from the top
 pub record AreLevels (levels : List Level) : Type 0 where
   pub some : 1 ≤ length levels
   pub few : length levels ≤ 3
   pub each : All IsLevel levels
+  -- only the top may be without stores
+  pub stores_below : All IsElastic (drop 1 levels)
 
 -- the level of the node at a path, where there is one: each step is the number of a tributary, from 1
 abbrev pub level_at : List Level → List ℕ → Option Level

@@ -21,7 +21,8 @@ fn short_by(level: &Level, frames: u32) -> u32
     requires few { frames ≤ 1535 }
     ensures { result ≡ bits_short (level_numbers level.now) frames }
 {
-    LEAD + ALLOWANCE + frames * (level.low + 1)
+    let stored = if level.locked { 0 } else { LEAD + ALLOWANCE };
+    stored + frames * (level.low + 1)
 }
 
 // By how many bits a leaf is short, below a node of the first of these levels that holds back so many frames.

@@ -280,7 +280,7 @@ reads_below-later s j t (suc u) h =
     ]
 
 -- no slot reads a tributary that the shape doesn't have
-reads_below-unknown : (s : FrameShape) (j t : ℕ) → HasTributaries s → s.tribs ≤ j → t ≤ s.len → reads_below s j false t ≡ 0
+pub reads_below-unknown : (s : FrameShape) (j t : ℕ) → HasTributaries s → s.tribs ≤ j → t ≤ s.len → reads_below s j false t ≡ 0
 reads_below-unknown s j zero has past inside = refl
 reads_below-unknown s j (suc t) has past inside =
     reads_below-suc s j false t ∙ ap (λ b. reads_below s j false t + cond b 1 0) (not_read (s.role t) refl) ∙ omega (arith, reads_below-unknown s j t has past (omega arith))

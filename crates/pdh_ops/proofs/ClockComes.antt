@@ -40,8 +40,7 @@ use Rattle.pdh_ops.proofs.ScheduleComes.{Begins, HasSchedule, schedule_refuses, 
 use Rattle.pdh_ops.proofs.OneOutput.{HasOutput, Writes, start_refused, append_refused, writing_done}
 use Rattle.pdh_chain.specs.declared.chain.Chain.{Chain}
 use Rattle.pdh_chain.specs.Chains.{levels_of}
-use Rattle.pdh_levels.proofs.LevelLaws.{stores_is}
-use Rattle.pdh_chain.proofs.ChainLaws.{are_levels}
+use Rattle.pdh_levels.proofs.LevelLaws.{stores_is, stores_count, no_stores_is}
 use Rattle.pdh_shape.specs.OwnNumbers.{most_frames}
 
 -- ---- the check
@@ -109,12 +108,19 @@ unfolding first_outside_of
 tributaries_inside clock path n stores each =
     ap (λ n. outside_of clock path (range_with_len 0 n)) stores ∙ inside_from clock path 0 n (λ i h h'. each i (omega arith))
 
--- a node of a chain has as many stores as its level has tributaries
+-- a node of a chain has as many stores as its level has tributaries, or none
 pub stores_of_node : (chain : Chain) (clock : Contents) (levels : List Level) (path : List ℕ) (level : Level) → clock.levels ≡ levels_of chain → levels ≡ levels_of chain → level_at levels path ≡ Some level
-    → stores_at clock.levels path ≡ level.tribs
-stores_of_node chain clock levels path level own same at =
+    → level.locked ≡ false → stores_at clock.levels path ≡ level.tribs
+stores_of_node chain clock levels path level own same at elastic =
     ap (λ ls. stores_at ls path) own
-    ∙ stores_is (levels_of chain) path level (are_levels chain).each (ap (λ ls. level_at ls path) (sym same) ∙ at)
+    ∙ stores_is (levels_of chain) path level elastic (ap (λ ls. level_at ls path) (sym same) ∙ at)
+
+pub no_stores_outside : (chain : Chain) (clock : Contents) (levels : List Level) (path : List ℕ) (level : Level) → clock.levels ≡ levels_of chain → levels ≡ levels_of chain → level_at levels path ≡ Some level
+    → level.locked ≡ true → first_outside_of clock path ≡ None
+no_stores_outside chain clock levels path level own same at locked =
+    let none : stores_at clock.levels path ≡ 0 =
+    ap (λ ls. stores_at ls path) own ∙ stores_count (levels_of chain) path level (ap (λ ls. level_at ls path) (sym same) ∙ at) ∙ no_stores_is level locked in
+    tributaries_inside clock path 0 none (λ i h. absurd (omega arith))
 
 -- the same of the nodes
 node_found : (chain : Chain) (clock : Contents) (nodes : List (List ℕ)) (k : ℕ) (out : OutOfTolerance) → k < length nodes → ((i : ℕ) → i < k → first_outside_of clock (get_or nodes i []) ≡ None)

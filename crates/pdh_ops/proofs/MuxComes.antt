@@ -36,15 +36,15 @@ use Rattle.pdh_shape.specs.OwnNumbers.{most_frames}
 
 -- ---- the inputs as they are told
 
-schedule_told : (chain : Chain) (state : ShelfState) (files : Files) → AreTold (Mux chain) state.told files → state.told schedule_name ≡ Known (files schedule_name)
-schedule_told chain state files told = told 0 (omega arith)
+schedule_told : (chain : Chain) (feac : Option ℕ) (state : ShelfState) (files : Files) → AreTold (Mux chain feac) state.told files → state.told schedule_name ≡ Known (files schedule_name)
+schedule_told chain feac state files told = told 0 (omega arith)
 
-leaf_told : (chain : Chain) (state : ShelfState) (files : Files) (k : ℕ) → k < leaves_of chain → AreTold (Mux chain) state.told files → state.told (leaf_name k) ≡ Known (files (leaf_name k))
-leaf_told chain state files k low told = told (suc k) (omega arith)
+leaf_told : (chain : Chain) (feac : Option ℕ) (state : ShelfState) (files : Files) (k : ℕ) → k < leaves_of chain → AreTold (Mux chain feac) state.told files → state.told (leaf_name k) ≡ Known (files (leaf_name k))
+leaf_told chain feac state files k low told = told (suc k) (omega arith)
 
 -- what holds of inputs as they were told holds of them as they are told now
-pub of_inputs_since : (chain : Chain) (P : Files → Type 0) (a b : ShelfState) → Looks a b → OfInputs (Mux chain) a P → OfInputs (Mux chain) b P
-of_inputs_since chain P a b looks holds files told = holds files (subst (λ (t : List ℕ → Told). AreTold (Mux chain) t files) looks.told told)
+pub of_inputs_since : (chain : Chain) (feac : Option ℕ) (P : Files → Type 0) (a b : ShelfState) → Looks a b → OfInputs (Mux chain feac) a P → OfInputs (Mux chain feac) b P
+of_inputs_since chain feac P a b looks holds files told = holds files (subst (λ (t : List ℕ → Told). AreTold (Mux chain feac) t files) looks.told told)
 
 -- ---- inputs that aren't held
 
@@ -60,8 +60,8 @@ length_is state name bytes files known told = go (files name) (known.told (files
     go None e = absurd (cc)
     go (Some line) e = cc
 
-held_files : (chain : Chain) (state : ShelfState) (files : Files) (n k : ℕ) → AreTold (Mux chain) state.told files → k < leaves_of chain → HasLength (leaf_name k) n state → is_none (files (leaf_name k)) ≡ false
-held_files chain state files n k told low known = is_held state (leaf_name k) n (files (leaf_name k)) known (leaf_told chain state files k low told)
+held_files : (chain : Chain) (feac : Option ℕ) (state : ShelfState) (files : Files) (n k : ℕ) → AreTold (Mux chain feac) state.told files → k < leaves_of chain → HasLength (leaf_name k) n state → is_none (files (leaf_name k)) ≡ false
+held_files chain feac state files n k told low known = is_held state (leaf_name k) n (files (leaf_name k)) known (leaf_told chain feac state files k low told)
 
 no_schedule : (chain : Chain) (files : Files) → files schedule_name ≡ None → all_held (mux_inputs chain) files ≡ Err (Missing Schedule)
 no_schedule chain files none = let e : is_none (files schedule_name) ≡ true = ap is_none none in rw e refl
@@ -83,38 +83,38 @@ every_leaf : (chain : Chain) (files : Files) → is_none (files schedule_name) �
 every_leaf chain files first each =
     held_by_leaves chain files None first (none_of_range (λ leaf. is_none (files (leaf_name leaf))) 0 (leaves_of chain) (λ i h h'. each i (omega arith)))
 
-comes_held : (chain : Chain) (files : Files) (stop : Stop) → all_held (mux_inputs chain) files ≡ Err stop → ◌≡◌ {A = Answer} (Err stop) (comes_to (Mux chain) files)
-comes_held chain files stop e = sym (ap (λ r. and_then r (λ _. and_then (rows_of chain (bytes_in files schedule_name)) (muxed chain files))) e)
+comes_held : (chain : Chain) (feac : Option ℕ) (files : Files) (stop : Stop) → all_held (mux_inputs chain) files ≡ Err stop → ◌≡◌ {A = Answer} (Err stop) (comes_to (Mux chain feac) files)
+comes_held chain feac files stop e = sym (ap (λ r. and_then r (λ _. and_then (rows_of chain (bytes_in files schedule_name)) (muxed chain files))) e)
 
-pub schedule_size_refuses : (chain : Chain) (a b : ShelfState) (stop : Stop) → IsSizeStop Schedule a b stop → Refuses (Mux chain) a b stop
-schedule_size_refuses chain a b stop cause =
-    size_refuses (Mux chain) Schedule 0 a b stop (omega arith) refl (λ files told i h. absurd (omega arith))
-    (λ missing files told. comes_held chain files (Missing Schedule) (no_schedule chain files (missing (files schedule_name) (schedule_told chain a files told)))) cause
+pub schedule_size_refuses : (chain : Chain) (feac : Option ℕ) (a b : ShelfState) (stop : Stop) → IsSizeStop Schedule a b stop → Refuses (Mux chain feac) a b stop
+schedule_size_refuses chain feac a b stop cause =
+    size_refuses (Mux chain feac) Schedule 0 a b stop (omega arith) refl (λ files told i h. absurd (omega arith))
+    (λ missing files told. comes_held chain feac files (Missing Schedule) (no_schedule chain files (missing (files schedule_name) (schedule_told chain feac a files told)))) cause
 
 -- the schedule and the leaves before one are held
-held_before : (chain : Chain) (a : ShelfState) (schedule k : ℕ) (leaf : ℕ → ℕ) → k ≤ leaves_of chain → HasLength schedule_name schedule a → ((i : ℕ) → i < k → HasLength (leaf_name i) (leaf i) a) → OfInputs (Mux chain) a (AreHeld (Mux chain) (suc k))
-held_before chain a schedule k leaf upto first before files told zero h = is_held a schedule_name schedule (files schedule_name) first (schedule_told chain a files told)
-held_before chain a schedule k leaf upto first before files told (suc i) h = held_files chain a files (leaf i) i told (omega arith) (before i (omega arith))
+held_before : (chain : Chain) (feac : Option ℕ) (a : ShelfState) (schedule k : ℕ) (leaf : ℕ → ℕ) → k ≤ leaves_of chain → HasLength schedule_name schedule a → ((i : ℕ) → i < k → HasLength (leaf_name i) (leaf i) a) → OfInputs (Mux chain feac) a (AreHeld (Mux chain feac) (suc k))
+held_before chain feac a schedule k leaf upto first before files told zero h = is_held a schedule_name schedule (files schedule_name) first (schedule_told chain feac a files told)
+held_before chain feac a schedule k leaf upto first before files told (suc i) h = held_files chain feac a files (leaf i) i told (omega arith) (before i (omega arith))
 
-pub leaf_size_refuses : (chain : Chain) (a b : ShelfState) (schedule k : ℕ) (leaf : ℕ → ℕ) (stop : Stop) → k < leaves_of chain → HasLength schedule_name schedule a → ((i : ℕ) → i < k → HasLength (leaf_name i) (leaf i) a) →
-    IsSizeStop (Leaf k) a b stop → Refuses (Mux chain) a b stop
-leaf_size_refuses chain a b schedule k leaf stop low first before cause =
-    size_refuses (Mux chain) (Leaf k) (suc k) a b stop (omega arith) refl (held_before chain a schedule k leaf (omega arith) first before)
+pub leaf_size_refuses : (chain : Chain) (feac : Option ℕ) (a b : ShelfState) (schedule k : ℕ) (leaf : ℕ → ℕ) (stop : Stop) → k < leaves_of chain → HasLength schedule_name schedule a → ((i : ℕ) → i < k → HasLength (leaf_name i) (leaf i) a) →
+    IsSizeStop (Leaf k) a b stop → Refuses (Mux chain feac) a b stop
+leaf_size_refuses chain feac a b schedule k leaf stop low first before cause =
+    size_refuses (Mux chain feac) (Leaf k) (suc k) a b stop (omega arith) refl (held_before chain feac a schedule k leaf (omega arith) first before)
     (λ missing files told.
-    comes_held chain files (Missing (Leaf k)) (no_leaf chain files k low (is_held a schedule_name schedule (files schedule_name) first (schedule_told chain a files told))
-    (λ i h. held_files chain a files (leaf i) i told (omega arith) (before i h)) (ap is_none (missing (files (leaf_name k)) (leaf_told chain a files k low told)))))
+    comes_held chain feac files (Missing (Leaf k)) (no_leaf chain files k low (is_held a schedule_name schedule (files schedule_name) first (schedule_told chain feac a files told))
+    (λ i h. held_files chain feac a files (leaf i) i told (omega arith) (before i h)) (ap is_none (missing (files (leaf_name k)) (leaf_told chain feac a files k low told)))))
     cause
 
-pub has_schedule : (chain : Chain) (sizes : InputSizes) (a : ShelfState) → AreSizes chain sizes a → HasSchedule (Mux chain) 0 a
-has_schedule chain sizes a are = record {
+pub has_schedule : (chain : Chain) (feac : Option ℕ) (sizes : InputSizes) (a : ShelfState) → AreSizes chain sizes a → HasSchedule (Mux chain feac) 0 a
+has_schedule chain feac sizes a are = record {
   known = omega arith;
   named = refl;
-  held = held_before chain a sizes.schedule (leaves_of chain) (slice_index sizes.leaves) (omega arith) are.schedule are.leaf;
+  held = held_before chain feac a sizes.schedule (leaves_of chain) (slice_index sizes.leaves) (omega arith) are.schedule are.leaf;
 }
 
-pub all_are_held : (chain : Chain) (sizes : InputSizes) (a : ShelfState) → AreSizes chain sizes a → AllHeld chain a
-all_are_held chain sizes a are files told = every_leaf chain files (is_held a schedule_name sizes.schedule (files schedule_name) are.schedule (schedule_told chain a files told))
-    (λ i h. held_files chain a files (slice_index sizes.leaves i) i told h (are.leaf i h))
+pub all_are_held : (chain : Chain) (feac : Option ℕ) (sizes : InputSizes) (a : ShelfState) → AreSizes chain sizes a → AllHeld chain a
+all_are_held chain feac sizes a are files told = every_leaf chain files (is_held a schedule_name sizes.schedule (files schedule_name) are.schedule (schedule_told chain feac a files told))
+    (λ i h. held_files chain feac a files (slice_index sizes.leaves i) i told h (are.leaf i h))
 
 -- ---- the schedule
 
@@ -124,28 +124,28 @@ text_held None bytes e = absurd (cc)
 text_held (Some text) bytes e = (text, refl)
 
 -- what `mux` comes to, by its schedule
-pub mux_begins : (chain : Chain) (a : ShelfState) (bytes : ℕ) → AllHeld chain a → HasLength schedule_name bytes a → Begins chain (Mux chain) (muxed chain) a
-mux_begins chain a bytes held known files told =
-    let t = text_held (files schedule_name) bytes (known.told (files schedule_name) (schedule_told chain a files told)) in (
+pub mux_begins : (chain : Chain) (feac : Option ℕ) (a : ShelfState) (bytes : ℕ) → AllHeld chain a → HasLength schedule_name bytes a → Begins chain (Mux chain feac) (muxed chain) a
+mux_begins chain feac a bytes held known files told =
+    let t = text_held (files schedule_name) bytes (known.told (files schedule_name) (schedule_told chain feac a files told)) in (
       t.0,
-      schedule_told chain a files told ∙ ap Known t.1,
+      schedule_told chain feac a files told ∙ ap Known t.1,
       ap (λ r. and_then r (λ _. and_then (rows_of chain (bytes_in files schedule_name)) (muxed chain files))) (held files told)
           ∙ ap (λ (h : Option (List ℕ)). and_then (rows_of chain (unwrap_or h [])) (muxed chain files)) t.1,
     )
 
-pub has_rows : (chain : Chain) (a : ShelfState) (bytes : ℕ) (rows : List Row) → HasLength schedule_name bytes a → RowsAre chain a (Ok rows) → HasRows chain a rows
-has_rows chain a bytes rows known are files told =
-    let t = text_held (files schedule_name) bytes (known.told (files schedule_name) (schedule_told chain a files told)) in
-    ap (λ (h : Option (List ℕ)). rows_of chain (unwrap_or h [])) t.1 ∙ are t.0 (schedule_told chain a files told ∙ ap Known t.1)
+pub has_rows : (chain : Chain) (feac : Option ℕ) (a : ShelfState) (bytes : ℕ) (rows : List Row) → HasLength schedule_name bytes a → RowsAre chain a (Ok rows) → HasRows chain a rows
+has_rows chain feac a bytes rows known are files told =
+    let t = text_held (files schedule_name) bytes (known.told (files schedule_name) (schedule_told chain feac a files told)) in
+    ap (λ (h : Option (List ℕ)). rows_of chain (unwrap_or h [])) t.1 ∙ are t.0 (schedule_told chain feac a files told ∙ ap Known t.1)
 
 -- ---- too many frames, or a leaf that is too short
 
-pub comes_muxed : (chain : Chain) (a : ShelfState) (rows : List Row) (files : Files) → AllHeld chain a → HasRows chain a rows → AreTold (Mux chain) a.told files → comes_to (Mux chain) files ≡ muxed chain files rows
-comes_muxed chain a rows files held are told =
+pub comes_muxed : (chain : Chain) (feac : Option ℕ) (a : ShelfState) (rows : List Row) (files : Files) → AllHeld chain a → HasRows chain a rows → AreTold (Mux chain feac) a.told files → comes_to (Mux chain feac) files ≡ muxed chain files rows
+comes_muxed chain feac a rows files held are told =
     ap (λ r. and_then r (λ _. and_then (rows_of chain (bytes_in files schedule_name)) (muxed chain files))) (held files told) ∙ ap (λ r. and_then r (muxed chain files)) (are files told)
 
-held_is : (chain : Chain) (sizes : InputSizes) (a : ShelfState) (files : Files) (k : ℕ) → k < leaves_of chain → AreSizes chain sizes a → AreTold (Mux chain) a.told files → bits_held files k ≡ 8 * slice_index sizes.leaves k
-held_is chain sizes a files k low are told = ap (λ n. 8 * n) (length_is a (leaf_name k) (slice_index sizes.leaves k) files (are.leaf k low) (leaf_told chain a files k low told))
+held_is : (chain : Chain) (feac : Option ℕ) (sizes : InputSizes) (a : ShelfState) (files : Files) (k : ℕ) → k < leaves_of chain → AreSizes chain sizes a → AreTold (Mux chain feac) a.told files → bits_held files k ≡ 8 * slice_index sizes.leaves k
+held_is chain feac sizes a files k low are told = ap (λ n. 8 * n) (length_is a (leaf_name k) (slice_index sizes.leaves k) files (are.leaf k low) (leaf_told chain feac a files k low told))
 
 -- leaf k is the first that is too short
 pub is_short_leaf : (chain : Chain) (files : Files) (rows : List Row) (k : ℕ) → k < leaves_of chain → ((i : ℕ) → i < k → nat_lt (bits_held files i) (bits_needed chain rows i) ≡ false)
@@ -165,17 +165,17 @@ unfolding short_leaf
 each_long chain files rows k none low =
     each_fails (λ leaf. nat_lt (bits_held files leaf) (bits_needed chain rows leaf)) 0 (leaves_of chain) k none (omega arith) (omega arith)
 
-pub long_enough : (chain : Chain) (sizes : InputSizes) (a : ShelfState) (rows : List Row) (files : Files) (k : ℕ) → k < leaves_of chain → AreSizes chain sizes a → AreTold (Mux chain) a.told files → IsLong chain rows sizes k → nat_lt (bits_held files k) (bits_needed chain rows k) ≡ false
-long_enough chain sizes a rows files k low are told long = let e = held_is chain sizes a files k low are told in grind (arith, nat_tests)
+pub long_enough : (chain : Chain) (feac : Option ℕ) (sizes : InputSizes) (a : ShelfState) (rows : List Row) (files : Files) (k : ℕ) → k < leaves_of chain → AreSizes chain sizes a → AreTold (Mux chain feac) a.told files → IsLong chain rows sizes k → nat_lt (bits_held files k) (bits_needed chain rows k) ≡ false
+long_enough chain feac sizes a rows files k low are told long = let e = held_is chain feac sizes a files k low are told in grind (arith, nat_tests)
 
-short_comes : (chain : Chain) (sizes : InputSizes) (a : ShelfState) (rows : List Row) (k have need : ℕ) (files : Files) → AreSizes chain sizes a → AreTold (Mux chain) a.told files → IsShort chain rows sizes k have need →
+short_comes : (chain : Chain) (feac : Option ℕ) (sizes : InputSizes) (a : ShelfState) (rows : List Row) (k have need : ℕ) (files : Files) → AreSizes chain sizes a → AreTold (Mux chain feac) a.told files → IsShort chain rows sizes k have need →
     muxed chain files rows ≡ Err (Short (Leaf k) have need)
-short_comes chain sizes a rows k have need files are told short =
+short_comes chain feac sizes a rows k have need files are told short =
     let few : nat_lt most_frames (frames_in rows) ≡ false = let f = short.few in grind (arith, nat_tests) in
-    let e = held_is chain sizes a files k short.leaf are told in
+    let e = held_is chain feac sizes a files k short.leaf are told in
     let have_is : bits_held files k ≡ have = e ∙ sym short.have_is in
     let here : nat_lt (bits_held files k) (bits_needed chain rows k) ≡ true = let f = short.short in let n = short.need_is in grind (arith, nat_tests) in
-    let first = is_short_leaf chain files rows k short.leaf (λ i h. long_enough chain sizes a rows files i (omega (arith, short.leaf)) are told (short.before i h)) here in
+    let first = is_short_leaf chain files rows k short.leaf (λ i h. long_enough chain feac sizes a rows files i (omega (arith, short.leaf)) are told (short.before i h)) here in
     rw (few, short.scheduled, first) (ap (λ n. Err (Short (Leaf k) n (bits_needed chain rows k))) have_is ∙ ap (λ n. Err (Short (Leaf k) have n)) (sym short.need_is))
 
 -- a node is the first that is too short
@@ -191,28 +191,28 @@ node_comes chain rows node have need files short =
 many_comes : (chain : Chain) (rows : List Row) (files : Files) → most_frames < frames_in rows → muxed chain files rows ≡ Err (ManyFrames (frames_in rows))
 many_comes chain rows files h = let many : nat_lt most_frames (frames_in rows) ≡ true = grind (arith, nat_tests) in rw many refl
 
-pub enough_refuses : (chain : Chain) (sizes : InputSizes) (rows : List Row) (a b : ShelfState) (stop : Stop) → AreSizes chain sizes a → HasRows chain a rows → IsEnoughStop chain rows sizes stop → Refuses (Mux chain) a b stop
-enough_refuses chain sizes rows a b (ManyFrames n) are has cause = λ files told.
-    ap (λ m. Err (ManyFrames m)) cause.0 ∙ sym (comes_muxed chain a rows files (all_are_held chain sizes a are) has told ∙ many_comes chain rows files (subst (λ m. most_frames < m) cause.0 cause.1))
-enough_refuses chain sizes rows a b (ShortNode node have need) are has cause = λ files told.
-    sym (comes_muxed chain a rows files (all_are_held chain sizes a are) has told ∙ node_comes chain rows node have need files cause)
-enough_refuses chain sizes rows a b (Short (Leaf k) have need) are has cause = λ files told.
-    sym (comes_muxed chain a rows files (all_are_held chain sizes a are) has told ∙ short_comes chain sizes a rows k have need files are told cause)
-enough_refuses chain sizes rows a b (Short Line have need) are has cause = absurd cause
-enough_refuses chain sizes rows a b (Short Schedule have need) are has cause = absurd cause
-enough_refuses chain sizes rows a b (Short (Output k) have need) are has cause = absurd cause
-enough_refuses chain sizes rows a b Memory are has cause = absurd cause
-enough_refuses chain sizes rows a b Usage are has cause = absurd cause
-enough_refuses chain sizes rows a b (Read f) are has cause = absurd cause
-enough_refuses chain sizes rows a b (Write f) are has cause = absurd cause
-enough_refuses chain sizes rows a b (Missing f) are has cause = absurd cause
-enough_refuses chain sizes rows a b LongSchedule are has cause = absurd cause
-enough_refuses chain sizes rows a b (BadRow l) are has cause = absurd cause
-enough_refuses chain sizes rows a b (UnknownNode l) are has cause = absurd cause
-enough_refuses chain sizes rows a b (CountOver l n m) are has cause = absurd cause
-enough_refuses chain sizes rows a b (Overflow p) are has cause = absurd cause
-enough_refuses chain sizes rows a b (Underflow p) are has cause = absurd cause
-enough_refuses chain sizes rows a b (NoAlignment n) are has cause = absurd cause
+pub enough_refuses : (chain : Chain) (feac : Option ℕ) (sizes : InputSizes) (rows : List Row) (a b : ShelfState) (stop : Stop) → AreSizes chain sizes a → HasRows chain a rows → IsEnoughStop chain rows sizes stop → Refuses (Mux chain feac) a b stop
+enough_refuses chain feac sizes rows a b (ManyFrames n) are has cause = λ files told.
+    ap (λ m. Err (ManyFrames m)) cause.0 ∙ sym (comes_muxed chain feac a rows files (all_are_held chain feac sizes a are) has told ∙ many_comes chain rows files (subst (λ m. most_frames < m) cause.0 cause.1))
+enough_refuses chain feac sizes rows a b (ShortNode node have need) are has cause = λ files told.
+    sym (comes_muxed chain feac a rows files (all_are_held chain feac sizes a are) has told ∙ node_comes chain rows node have need files cause)
+enough_refuses chain feac sizes rows a b (Short (Leaf k) have need) are has cause = λ files told.
+    sym (comes_muxed chain feac a rows files (all_are_held chain feac sizes a are) has told ∙ short_comes chain feac sizes a rows k have need files are told cause)
+enough_refuses chain feac sizes rows a b (Short Line have need) are has cause = absurd cause
+enough_refuses chain feac sizes rows a b (Short Schedule have need) are has cause = absurd cause
+enough_refuses chain feac sizes rows a b (Short (Output k) have need) are has cause = absurd cause
+enough_refuses chain feac sizes rows a b Memory are has cause = absurd cause
+enough_refuses chain feac sizes rows a b Usage are has cause = absurd cause
+enough_refuses chain feac sizes rows a b (Read f) are has cause = absurd cause
+enough_refuses chain feac sizes rows a b (Write f) are has cause = absurd cause
+enough_refuses chain feac sizes rows a b (Missing f) are has cause = absurd cause
+enough_refuses chain feac sizes rows a b LongSchedule are has cause = absurd cause
+enough_refuses chain feac sizes rows a b (BadRow l) are has cause = absurd cause
+enough_refuses chain feac sizes rows a b (UnknownNode l) are has cause = absurd cause
+enough_refuses chain feac sizes rows a b (CountOver l n m) are has cause = absurd cause
+enough_refuses chain feac sizes rows a b (Overflow p) are has cause = absurd cause
+enough_refuses chain feac sizes rows a b (Underflow p) are has cause = absurd cause
+enough_refuses chain feac sizes rows a b (NoAlignment n) are has cause = absurd cause
 
 -- they count nothing
 pub enough_counts : (chain : Chain) (rows : List Row) (sizes : InputSizes) (x y : Counts) (stop : Stop) → IsEnoughStop chain rows sizes stop → y ≡ x → y ≡ with_stop stop x
@@ -233,8 +233,8 @@ enough_counts chain rows sizes x y (Underflow p) cause same = same
 enough_counts chain rows sizes x y (NoAlignment n) cause same = same
 
 -- the bytes of a leaf's file that were read give its bits
-pub bits_are : (chain : Chain) (a : ShelfState) (k : ℕ) (bytes : List ℕ) (files : Files) → k < leaves_of chain → Holds (a.told (leaf_name k)) bytes → AreTold (Mux chain) a.told files → leaf_bits files k ≡ bits_of bytes
-bits_are chain a k bytes files low holds told = ap (λ (h : Option (List ℕ)). bits_of (unwrap_or h [])) (holds (files (leaf_name k)) (leaf_told chain a files k low told))
+pub bits_are : (chain : Chain) (feac : Option ℕ) (a : ShelfState) (k : ℕ) (bytes : List ℕ) (files : Files) → k < leaves_of chain → Holds (a.told (leaf_name k)) bytes → AreTold (Mux chain feac) a.told files → leaf_bits files k ≡ bits_of bytes
+bits_are chain feac a k bytes files low holds told = ap (λ (h : Option (List ℕ)). bits_of (unwrap_or h [])) (holds (files (leaf_name k)) (leaf_told chain feac a files k low told))
 
 -- sizes that were answered are known after the files were looked at again
 pub sizes_since : (chain : Chain) (sizes : InputSizes) (a b : ShelfState) → Looks a b → AreSizes chain sizes a → AreSizes chain sizes b

@@ -9,7 +9,6 @@ use Rattle.std.proofs.Math.Nat.{mul-le-mul_left, mul-le-mul_right, mul-suc, mul_
 use Rattle.pdh_bits.specs.Bits.{bits_of, bytes_of}
 use Rattle.pdh_bits.proofs.BitsLemmas.{bits_of-bytes_of, length-bits_of}
 use Rattle.pdh_edge.specs.Files.{ShelfState, SinkState}
-use Rattle.pdh_shape.specs.Frame.{idle}
 use Rattle.pdh_line.specs.Sending.{front}
 use Rattle.pdh_line.specs.Events.{Event}
 use Rattle.pdh_line.proofs.SentFrames.{length-front, take-front}
@@ -23,6 +22,7 @@ use Rattle.pdh_clock.specs.Begun.{Shortage}
 use Rattle.pdh_clock.specs.Judged.{schedule_of}
 use Rattle.pdh_clock.specs.declared.fault.ScheduleFault.{ScheduleFault}
 use Rattle.pdh_clock.proofs.Laws.{schedule_of_sound}
+use Rattle.pdh_chain.specs.Saying.{says_of}
 use Rattle.pdh_chain.specs.declared.chain.Chain.{Chain}
 use Rattle.pdh_chain.specs.Chains.{shapes_of, levels_of, leaves_of, frame_bytes_of}
 use Rattle.pdh_chain.proofs.ChainLaws.{are_frames, some_bits, whole_bytes}
@@ -90,8 +90,8 @@ pub record DidMux (chain : Chain) (files : Files) : Type 0 where
   pub rows : rows_of chain (bytes_in files schedule_name) ≡ Ok (rows_in chain files)
   pub done : IsDone chain files (rows_in chain files)
 
-pub mux_done : (chain : Chain) (files : Files) (done : Done) → ◌≡◌ {A = Answer} (Ok done) (comes_to (Mux chain) files) → DidMux chain files
-mux_done chain files done h = by_rows (rows_of chain (bytes_in files schedule_name)) refl (by_held (all_held (mux_inputs chain) files) h)
+pub mux_done : (chain : Chain) (feac : Option ℕ) (files : Files) (done : Done) → ◌≡◌ {A = Answer} (Ok done) (comes_to (Mux chain feac) files) → DidMux chain files
+mux_done chain feac files done h = by_rows (rows_of chain (bytes_in files schedule_name)) refl (by_held (all_held (mux_inputs chain) files) h)
   where
     by_held : (r : Result (Unit {0}) Stop) → ◌≡◌ {A = Answer} (Ok done) (and_then r (λ _. and_then (rows_of chain (bytes_in files schedule_name)) (muxed chain files))) → ◌≡◌ {A = Answer} (Ok done) (and_then (rows_of chain (bytes_in files schedule_name)) (muxed chain files))
     by_held (Ok u) h = h
@@ -105,32 +105,32 @@ mux_done chain files done h = by_rows (rows_of chain (bytes_in files schedule_na
 
 -- ---- the line
 
-line_bits : (chain : Chain) (files : Files) (rows : List Row) → event_of chain rows ≡ None → bits_of (line_bytes chain files rows) ≡ front (mux_line chain files rows) (line_len chain rows)
+line_bits : (chain : Chain) (feac : Option ℕ) (files : Files) (rows : List Row) → event_of chain rows ≡ None → bits_of (line_bytes chain feac files rows) ≡ front (mux_line chain feac files rows) (line_len chain rows)
 unfolding event_of line_bytes
-line_bits chain files rows none =
-    let line = mux_line chain files rows in
+line_bits chain feac files rows none =
+    let line = mux_line chain feac files rows in
     let all : frames_made chain rows * top_len (shapes_of chain) ≡ line_len chain rows = ap (λ n. n * top_len (shapes_of chain)) (all_made chain rows none) in
     let eights : line_len chain rows ≡ frames_in rows * (8 * frame_bytes_of chain) = ap (λ len. frames_in rows * len) (whole_bytes chain) in
     let whole : length (front line (line_len chain rows)) % 8 ≡ 0 = omega (arith, length-front line (line_len chain rows), eights, mul_left_comm (frames_in rows) 8 (frame_bytes_of chain)) in
     ap (λ n. bits_of (bytes_of (front line n))) all ∙ bits_of-bytes_of (front line (line_len chain rows)) whole
 
 -- the frames of which a receiver has so many bits are among those that were made
-pub frames_there : (chain : Chain) (files : Files) (rows : List Row) (line : List ℕ) (n : ℕ) → IsDone chain files rows → line ≡ line_bytes chain files rows → top_len (shapes_of chain) * n ≤ length (bits_of line) → n ≤ frames_in rows
-frames_there chain files rows line n done is few =
+pub frames_there : (chain : Chain) (feac : Option ℕ) (files : Files) (rows : List Row) (line : List ℕ) (n : ℕ) → IsDone chain files rows → line ≡ line_bytes chain feac files rows → top_len (shapes_of chain) * n ≤ length (bits_of line) → n ≤ frames_in rows
+frames_there chain feac files rows line n done is few =
     let len : ℕ = top_len (shapes_of chain) in
-    let made : bits_of line ≡ front (mux_line chain files rows) (line_len chain rows) = ap bits_of is ∙ line_bits chain files rows done.none in
-    let long : len * n ≤ frames_in rows * len = omega (arith, ap length made, length-front (mux_line chain files rows) (line_len chain rows)) in
+    let made : bits_of line ≡ front (mux_line chain feac files rows) (line_len chain rows) = ap bits_of is ∙ line_bits chain feac files rows done.none in
+    let long : len * n ≤ frames_in rows * len = omega (arith, ap length made, length-front (mux_line chain feac files rows) (line_len chain rows)) in
     elim (cases_lt (frames_in rows) n) [
       | inl more ↦ absurd (omega (arith, long, mul-le-mul_left len more, mul-suc len (frames_in rows), mul_comm (frames_in rows) len, some_bits chain))
       | inr fewer ↦ fewer
     ]
 
 -- and a receiver of them has the first bits of the line
-pub line_front : (chain : Chain) (files : Files) (rows : List Row) (line : List ℕ) (n : ℕ) → IsDone chain files rows → line ≡ line_bytes chain files rows → n ≤ frames_in rows
-    → take (n * top_len (shapes_of chain)) (bits_of line) ≡ front (mux_line chain files rows) (n * top_len (shapes_of chain))
-line_front chain files rows line n done is few =
-    ap (take (n * top_len (shapes_of chain))) (ap bits_of is ∙ line_bits chain files rows done.none)
-    ∙ take-front (mux_line chain files rows) (n * top_len (shapes_of chain)) (line_len chain rows) (mul-le-mul_right (top_len (shapes_of chain)) few)
+pub line_front : (chain : Chain) (feac : Option ℕ) (files : Files) (rows : List Row) (line : List ℕ) (n : ℕ) → IsDone chain files rows → line ≡ line_bytes chain feac files rows → n ≤ frames_in rows
+    → take (n * top_len (shapes_of chain)) (bits_of line) ≡ front (mux_line chain feac files rows) (n * top_len (shapes_of chain))
+line_front chain feac files rows line n done is few =
+    ap (take (n * top_len (shapes_of chain))) (ap bits_of is ∙ line_bits chain feac files rows done.none)
+    ∙ take-front (mux_line chain feac files rows) (n * top_len (shapes_of chain)) (line_len chain rows) (mul-le-mul_right (top_len (shapes_of chain)) few)
 
 -- a leaf's file has the bits that enter
 long_there : (chain : Chain) (files : Files) (rows : List Row) (leaf : ℕ) → IsDone chain files rows → leaf < leaves_of chain → bits_needed chain rows leaf ≤ length (leaf_bits files leaf)
@@ -148,30 +148,30 @@ rows_sound chain text rows h = schedule_of_sound (levels_of chain) text rows (ju
 prefix_of : (front bits : List Bool) (m : ℕ) → front ≡ take m bits → IsPrefix front bits
 prefix_of front bits m e = (drop m bits, sym (ap (λ f. f ++ drop m bits) e ∙ take-append-drop m bits))
 
-gives : (chain : Chain) (files : Files) (line : List ℕ) (leaf n : ℕ) → DidMux chain files → line ≡ line_bytes chain files (rows_in chain files) → leaf < leaves_of chain → top_len (shapes_of chain) * n ≤ length (bits_of line) →
+gives : (chain : Chain) (feac : Option ℕ) (files : Files) (line : List ℕ) (leaf n : ℕ) → DidMux chain files → line ≡ line_bytes chain feac files (rows_in chain files) → leaf < leaves_of chain → top_len (shapes_of chain) * n ≤ length (bits_of line) →
     IsPrefix (far (shapes_of chain) (take (n * top_len (shapes_of chain)) (bits_of line)) leaf) (leaf_bits files leaf)
 unfolding event_of
-gives chain files line leaf n did is low few =
+gives chain feac files line leaf n did is low few =
     let rows : List Row = rows_in chain files in
-    let there = frames_there chain files rows line n did.done is few in
+    let there = frames_there chain feac files rows line n did.done is few in
     let quiet = events_below-none_first (shapes_of chain) (counts rows) (frames_in rows) did.done.none in
     prefix_of _ (leaf_bits files leaf) _
-    (ap (λ bits. far (shapes_of chain) bits leaf) (line_front chain files rows line n did.done is there)
-    ∙ far-prefix (shapes_of chain) (counts rows) (λ leaf i. slice_index_or (leaf_bits files leaf) i false) (leaf_bits files) (λ n. idle) (frames_in rows) n leaf (are_frames chain) (λ k i. refl)
+    (ap (λ bits. far (shapes_of chain) bits leaf) (line_front chain feac files rows line n did.done is there)
+    ∙ far-prefix (shapes_of chain) (counts rows) (λ leaf i. slice_index_or (leaf_bits files leaf) i false) (leaf_bits files) (says_of feac) (frames_in rows) n leaf (are_frames chain) (λ k i. refl)
     (arrive_singly chain rows (line_len chain rows) (rows_sound chain (bytes_in files schedule_name) rows did.rows)) quiet (long_there chain files rows leaf did.done low) there (low))
 
 -- ---- the run
 
-answer_gives_back : (chain : Chain) (a b : ShelfState) (k l : SinkState) (status : ℕ) (answer : Answer) → Performs (Mux chain) a b answer → IsTold answer k l status → GivesBack (Some (Mux chain)) a b status
-answer_gives_back chain a b k l status (Err stop) performs tells files line leaf n told now status_is low few = absurd (omega (arith, tells.0, stop_status stop))
-answer_gives_back chain a b k l status (Ok done) performs tells files line leaf n told now status_is low few =
-    let same : Some line ≡ Some (line_bytes chain files (rows_in chain files)) = performs.outputs 0 (lit< tt) files told (Some line) now in
-    let is : line ≡ line_bytes chain files (rows_in chain files) = cc in
-    gives chain files line leaf n (mux_done chain files done (performs.cause files told)) is low few
+answer_gives_back : (chain : Chain) (feac : Option ℕ) (a b : ShelfState) (k l : SinkState) (status : ℕ) (answer : Answer) → Performs (Mux chain feac) a b answer → IsTold answer k l status → GivesBack (Some (Mux chain feac)) a b status
+answer_gives_back chain feac a b k l status (Err stop) performs tells files line leaf n told now status_is low few = absurd (omega (arith, tells.0, stop_status stop))
+answer_gives_back chain feac a b k l status (Ok done) performs tells files line leaf n told now status_is low few =
+    let same : Some line ≡ Some (line_bytes chain feac files (rows_in chain files)) = performs.outputs 0 (lit< tt) files told (Some line) now in
+    let is : line ≡ line_bytes chain feac files (rows_in chain files) = cc in
+    gives chain feac files line leaf n (mux_done chain feac files done (performs.cause files told)) is low few
 
 pub gives_back : (command : Option Command) (a b : ShelfState) (k l : SinkState) (status : ℕ) → Runs command a b k l status → GivesBack command a b status
 gives_back None a b k l status runs = tt
 gives_back (Some (Demux chain)) a b k l status runs = tt
 gives_back (Some (ClockCheck chain)) a b k l status runs = tt
 gives_back (Some (ClockMake chain frames bias)) a b k l status runs = tt
-gives_back (Some (Mux chain)) a b k l status runs = answer_gives_back chain a b k l status runs.answer runs.does runs.told
+gives_back (Some (Mux chain feac)) a b k l status runs = answer_gives_back chain feac a b k l status runs.answer runs.does runs.told

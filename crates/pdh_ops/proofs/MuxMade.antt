@@ -1,5 +1,5 @@
 -- What making the line of `mux` comes to.
-use Rattle.std.proofs.Common.{◌≡◌, ℕ, zero, suc, map, arith, ◌∷◌, ◌*◌, ◌/◌, ◌<◌, ◌≤◌, inl, inr, Bool, true, false, List, [], ◌++◌, Vec, length, cond, refl, ap, sym, ◌∙◌, subst, get_or}
+use Rattle.std.proofs.Common.{◌≡◌, ℕ, zero, suc, map, arith, ◌∷◌, ◌*◌, ◌/◌, ◌<◌, ◌≤◌, inl, inr, Bool, true, false, List, [], ◌++◌, Vec, length, cond, refl, ap, sym, ◌∙◌, subst, get_or, Option}
 use Rattle.std.specs.Prelude.{Option, Some, None, slice_index_or, slice_get, is_some}
 use Rattle.std.specs.declared.alloc.Global.{Global}
 use Rattle.std.proofs.lemmas.Bool.{cases_lt, false≢true}
@@ -12,6 +12,7 @@ use Rattle.pdh_line.specs.Least.{least_below}
 use Rattle.pdh_line.specs.Events.{Event, Kind}
 use Rattle.pdh_line.specs.Events.Kind.{Overflow as StoreOverflow, Underflow as StoreUnderflow}
 use Rattle.pdh_clock.specs.Row.{Row}
+use Rattle.pdh_chain.specs.Saying.{says_of}
 use Rattle.pdh_chain.specs.declared.chain.Chain.{Chain}
 use Rattle.pdh_line.proofs.LeastLaws.{least_below_none, least_below_past, least_below_before}
 use Rattle.pdh_line.proofs.SameLines.{frame-is}
@@ -49,12 +50,12 @@ pub record IsOpened (chain : Chain) (leaves : List (Vec Bool Global)) (inputs : 
   pub outputs_are : outputs ≡ outputs_of ([] ∷ [])
 
 -- the frames that were put are those of the leaves' bits
-put_line : (chain : Chain) (rows : List Row) (leaves : List (Vec Bool Global)) (inputs inputs_now : Inputs) (outputs outputs_now : Outputs) (line : List Bool) (frames : ℕ) (lists : ℕ → List Bool) → IsOpened chain leaves inputs outputs
-    → PutsFrames (shapes_of chain) (counts rows) frames inputs inputs_now outputs outputs_now → outputs_now.told 0 ≡ Some line → AreBits chain leaves lists → line ≡ frames_of_line (shapes_of chain) (counts rows) lists frames
-put_line chain rows leaves inputs inputs_now outputs outputs_now line frames lists is puts now bits =
+put_line : (chain : Chain) (feac : Option ℕ) (rows : List Row) (leaves : List (Vec Bool Global)) (inputs inputs_now : Inputs) (outputs outputs_now : Outputs) (line : List Bool) (frames : ℕ) (lists : ℕ → List Bool) → IsOpened chain leaves inputs outputs
+    → PutsFrames (shapes_of chain) (counts rows) (says_of feac) frames inputs inputs_now outputs outputs_now → outputs_now.told 0 ≡ Some line → AreBits chain leaves lists → line ≡ frames_of_line (shapes_of chain) (counts rows) (says_of feac) lists frames
+put_line chain feac rows leaves inputs inputs_now outputs outputs_now line frames lists is puts now bits =
     let before : outputs.told 0 ≡ Some [] = ap (λ (o : Outputs). o.told 0) is.outputs_are in
-    let put : Some line ≡ Some ([] ++ frames_of_line (shapes_of chain) (counts rows) lists frames) =
-    sym now ∙ puts.puts lists agrees 0 ∙ ap (after (frames_of_line (shapes_of chain) (counts rows) lists frames)) before in
+    let put : Some line ≡ Some ([] ++ frames_of_line (shapes_of chain) (counts rows) (says_of feac) lists frames) =
+    sym now ∙ puts.puts lists agrees 0 ∙ ap (after (frames_of_line (shapes_of chain) (counts rows) (says_of feac) lists frames)) before in
     cc
   where
     agrees : (k i : ℕ) → k < width (shapes_of chain) → i < length (puts.given k) → slice_index_or (puts.given k) i false ≡ slice_index_or (lists k) i false
@@ -109,14 +110,14 @@ frames_before chain rows made whole event first met quiet begun within =
 -- ---- what was made
 
 -- the whole line
-pub made_whole : (chain : Chain) (rows : List Row) (leaves : List (Vec Bool Global)) (inputs inputs_now : Inputs) (outputs outputs_now : Outputs) (line : List Bool) (bytes : Vec ℕ Global) (n : ℕ) → n ≡ frames_in rows → IsOpened chain leaves inputs outputs → outputs_now.told 0 ≡ Some line
-    → Muxes (shapes_of chain) (counts rows) (frame_count rows) n inputs inputs_now outputs outputs_now → bytes.items ≡ bytes_of line → IsMade chain rows leaves (record { bytes = bytes; end = None })
+pub made_whole : (chain : Chain) (feac : Option ℕ) (rows : List Row) (leaves : List (Vec Bool Global)) (inputs inputs_now : Inputs) (outputs outputs_now : Outputs) (line : List Bool) (bytes : Vec ℕ Global) (n : ℕ) → n ≡ frames_in rows → IsOpened chain leaves inputs outputs → outputs_now.told 0 ≡ Some line
+    → Muxes (shapes_of chain) (counts rows) (says_of feac) (frame_count rows) n inputs inputs_now outputs outputs_now → bytes.items ≡ bytes_of line → IsMade chain feac rows leaves (record { bytes = bytes; end = None })
 unfolding event_of
-made_whole chain rows leaves inputs inputs_now outputs outputs_now line bytes n frames is now muxes made =
+made_whole chain feac rows leaves inputs inputs_now outputs outputs_now line bytes n frames is now muxes made =
     let none : first_event (shapes_of chain) (counts rows) (frames_in rows) ≡ None = subst (λ n. first_event (shapes_of chain) (counts rows) n ≡ None) frames muxes.no_event in
     let all : frames_made chain rows ≡ n = all_made chain rows none ∙ sym frames in
     record {
-      bytes = λ lists bits. made ∙ ap bytes_of (put_line chain rows leaves inputs inputs_now outputs outputs_now line n lists is muxes.line now bits) ∙ ap (λ n. bytes_of (frames_of_line (shapes_of chain) (counts rows) lists n)) (sym all);
+      bytes = λ lists bits. made ∙ ap bytes_of (put_line chain feac rows leaves inputs inputs_now outputs outputs_now line n lists is muxes.line now bits) ∙ ap (λ n. bytes_of (frames_of_line (shapes_of chain) (counts rows) (says_of feac) lists n)) (sym all);
       end = rw none refl;
     }
 
@@ -126,24 +127,24 @@ kind_ends StoreOverflow place = refl
 kind_ends StoreUnderflow place = refl
 
 -- the line up to its first event
-pub made_until : (chain : Chain) (rows : List Row) (leaves : List (Vec Bool Global)) (inputs inputs_now : Inputs) (outputs outputs_now : Outputs) (line : List Bool) (bytes : Vec ℕ Global) (n : ℕ) (over : Bool) (place : Place) (stop : Stop) → n ≡ frames_in rows → IsOpened chain leaves inputs outputs → outputs_now.told 0 ≡ Some line
-    → StopsAtEvent (shapes_of chain) (counts rows) (frame_count rows) n over place inputs inputs_now outputs outputs_now → bytes.items ≡ bytes_of line
-    → stop ≡ cond over (Overflow place) (Underflow place) → IsMade chain rows leaves (record { bytes = bytes; end = Some stop })
+pub made_until : (chain : Chain) (feac : Option ℕ) (rows : List Row) (leaves : List (Vec Bool Global)) (inputs inputs_now : Inputs) (outputs outputs_now : Outputs) (line : List Bool) (bytes : Vec ℕ Global) (n : ℕ) (over : Bool) (place : Place) (stop : Stop) → n ≡ frames_in rows → IsOpened chain leaves inputs outputs → outputs_now.told 0 ≡ Some line
+    → StopsAtEvent (shapes_of chain) (counts rows) (says_of feac) (frame_count rows) n over place inputs inputs_now outputs outputs_now → bytes.items ≡ bytes_of line
+    → stop ≡ cond over (Overflow place) (Underflow place) → IsMade chain feac rows leaves (record { bytes = bytes; end = Some stop })
 unfolding event_of
-made_until chain rows leaves inputs inputs_now outputs outputs_now line bytes n over place stop frames is now stops made ends =
+made_until chain feac rows leaves inputs inputs_now outputs outputs_now line bytes n over place stop frames is now stops made ends =
     let some : first_event (shapes_of chain) (counts rows) (frames_in rows) ≡ Some stops.event = subst (λ n. first_event (shapes_of chain) (counts rows) n ≡ Some stops.event) frames stops.first in
     let whole : frames_made chain rows ≡ stops.whole = frames_before chain rows stops.made stops.whole stops.event some stops.met stops.quiet stops.begun stops.within in
     let kind : cond over (Overflow place) (Underflow place) ≡ cond (is_overflow stops.event.kind) (Overflow place) (Underflow place) = ap (λ o. cond o (Overflow place) (Underflow place)) stops.kind in
     let how : stop ≡ stop_of_kind stops.event.kind (place_of stops.event) = ends ∙ kind ∙ kind_ends stops.event.kind place ∙ ap (stop_of_kind stops.event.kind) stops.place_is in
     record {
-      bytes = λ lists bits. made ∙ ap bytes_of (put_line chain rows leaves inputs inputs_now outputs outputs_now line stops.whole lists is stops.line now bits) ∙ ap (λ n. bytes_of (frames_of_line (shapes_of chain) (counts rows) lists n)) (sym whole);
+      bytes = λ lists bits. made ∙ ap bytes_of (put_line chain feac rows leaves inputs inputs_now outputs outputs_now line stops.whole lists is stops.line now bits) ∙ ap (λ n. bytes_of (frames_of_line (shapes_of chain) (counts rows) (says_of feac) lists n)) (sym whole);
       end = rw some (ap Some how);
     }
 
 -- what was sent, and the bytes of what was put
-pub sent_made : (chain : Chain) (rows : List Row) (leaves : List (Vec Bool Global)) (inputs inputs_now : Inputs) (outputs outputs_now : Outputs) (line : List Bool) (bytes : Vec ℕ Global) (n : ℕ) (end : Option Stop) → n ≡ frames_in rows → IsOpened chain leaves inputs outputs
-    → outputs_now.told 0 ≡ Some line → IsSent chain rows n inputs inputs_now outputs outputs_now end → bytes.items ≡ bytes_of line → IsMade chain rows leaves (record { bytes = bytes; end = end })
-sent_made chain rows leaves inputs inputs_now outputs outputs_now line bytes n None frames is now sent made =
-    made_whole chain rows leaves inputs inputs_now outputs outputs_now line bytes n frames is now sent made
-sent_made chain rows leaves inputs inputs_now outputs outputs_now line bytes n (Some stop) frames is now sent made =
-    made_until chain rows leaves inputs inputs_now outputs outputs_now line bytes n sent.0 sent.1 stop frames is now sent.3 made sent.2
+pub sent_made : (chain : Chain) (feac : Option ℕ) (rows : List Row) (leaves : List (Vec Bool Global)) (inputs inputs_now : Inputs) (outputs outputs_now : Outputs) (line : List Bool) (bytes : Vec ℕ Global) (n : ℕ) (end : Option Stop) → n ≡ frames_in rows → IsOpened chain leaves inputs outputs
+    → outputs_now.told 0 ≡ Some line → IsSent chain feac rows n inputs inputs_now outputs outputs_now end → bytes.items ≡ bytes_of line → IsMade chain feac rows leaves (record { bytes = bytes; end = end })
+sent_made chain feac rows leaves inputs inputs_now outputs outputs_now line bytes n None frames is now sent made =
+    made_whole chain feac rows leaves inputs inputs_now outputs outputs_now line bytes n frames is now sent made
+sent_made chain feac rows leaves inputs inputs_now outputs outputs_now line bytes n (Some stop) frames is now sent made =
+    made_until chain feac rows leaves inputs inputs_now outputs outputs_now line bytes n sent.0 sent.1 stop frames is now sent.3 made sent.2

@@ -1,5 +1,5 @@
 -- What making the line of `mux` never meets: a node without frames, a list that is used up, a call that failed.
-use Rattle.std.proofs.Common.{◌≡◌, ℕ, zero, suc, ◌*◌, ◌<◌, ◌≤◌, inl, inr, List, [], ◌∷◌, Vec, Bool, length, refl, ap, sym, ◌∙◌, subst, arith}
+use Rattle.std.proofs.Common.{◌≡◌, ℕ, zero, suc, ◌*◌, ◌<◌, ◌≤◌, inl, inr, List, [], ◌∷◌, Vec, Bool, length, refl, ap, sym, ◌∙◌, subst, arith, Option}
 use Rattle.std.specs.Prelude.{IsTrue, map, nat_lt, slice_get, slice_index_or}
 use Rattle.std.specs.declared.alloc.Global.{Global}
 use Rattle.std.proofs.lemmas.Bool.{ltb-true}
@@ -16,6 +16,7 @@ use Rattle.pdh_nesting.proofs.Given.{given-entered}
 use Rattle.pdh_nesting.proofs.Scheduled.{scheduled-top, scheduled-below}
 use Rattle.pdh_clock.specs.Row.{Row}
 use Rattle.pdh_clock.specs.Contents.{counts, frame_count}
+use Rattle.pdh_chain.specs.Saying.{says_of}
 use Rattle.pdh_chain.specs.declared.chain.Chain.{Chain}
 use Rattle.pdh_chain.specs.Chains.{shapes_of, leaves_of}
 use Rattle.pdh_chain.specs.Muxes.{LacksFrames, LacksBelow, StopsForFrame, StopsAtEnd, PutsPrefix}
@@ -77,11 +78,11 @@ one_list zero h = refl
 one_list (suc k) h = absurd (let less : suc k < 1 = ltb-true _ _ h in omega arith)
 
 -- it has room for what is put
-pub in_room : (chain : Chain) (rows : List Row) (frames room k : ℕ) (inputs inputs_now : Inputs) (outputs outputs_now : Outputs) → outputs ≡ outputs_of ([] ∷ []) → outputs_now.holds ≡ outputs.holds → frames * top_len (shapes_of chain) < room
-    → PutsPrefix (shapes_of chain) (counts rows) frames inputs inputs_now outputs outputs_now → IsTrue (outputs_now.holds k) → (k ≡ 0) × (bits_held outputs_now k < room)
-in_room chain rows frames room k inputs inputs_now outputs outputs_now opened holds enough put held =
+pub in_room : (chain : Chain) (feac : Option ℕ) (rows : List Row) (frames room k : ℕ) (inputs inputs_now : Inputs) (outputs outputs_now : Outputs) → outputs ≡ outputs_of ([] ∷ []) → outputs_now.holds ≡ outputs.holds → frames * top_len (shapes_of chain) < room
+    → PutsPrefix (shapes_of chain) (counts rows) (says_of feac) frames inputs inputs_now outputs outputs_now → IsTrue (outputs_now.holds k) → (k ≡ 0) × (bits_held outputs_now k < room)
+in_room chain feac rows frames room k inputs inputs_now outputs outputs_now opened holds enough put held =
     let is : IsTrue (nat_lt k 1) = subst IsTrue (ap (λ h. h k) holds ∙ ap (λ (o : Outputs). o.holds k) opened) held in
     let first : k ≡ 0 = one_list k is in
     let empty : bits_held outputs 0 ≡ 0 = ap (λ (o : Outputs). bits_held o 0) opened in
-    let most = mux_short (shapes_of chain) (counts rows) frames inputs inputs_now outputs outputs_now put 0 in
+    let most = mux_short (shapes_of chain) (counts rows) (says_of feac) frames inputs inputs_now outputs outputs_now put 0 in
     (first, subst (λ k. bits_held outputs_now k < room) (sym first) (omega (arith, most, empty, enough)))

@@ -6,7 +6,6 @@ use Rattle.std.specs.Result.{result_unwrap_or}
 use Rattle.std.proofs.Math.Nat.{mul-le-mul_right}
 use Rattle.pdh_bits.specs.Bits.{bits_of}
 use Rattle.pdh_edge.specs.Files.{ShelfState, SinkState}
-use Rattle.pdh_shape.specs.Frame.{idle}
 use Rattle.pdh_line.specs.Events.{Event}
 use Rattle.pdh_nesting.specs.Chains.{width, top_len}
 use Rattle.pdh_nesting.specs.Sending.{entered_below, AllWithin}
@@ -20,9 +19,10 @@ use Rattle.pdh_clock.specs.Begun.{Shortage}
 use Rattle.pdh_clock.specs.Judged.{schedule_of}
 use Rattle.pdh_clock.specs.declared.fault.ScheduleFault.{ScheduleFault}
 use Rattle.pdh_clock.specs.declared.fault.ScheduleFault.TheVariants.{TooLong, BadRow as RowIsBad, UnknownNode as NodeIsUnknown, CountOver as CountIsOver, Memory as NoMemory}
+use Rattle.pdh_chain.specs.Saying.{says_of}
 use Rattle.pdh_chain.specs.declared.chain.Chain.{Chain}
 use Rattle.pdh_chain.specs.Chains.{shapes_of, levels_of, leaves_of, delay_of}
-use Rattle.pdh_chain.proofs.ChainLaws.{are_frames, read_evenly, all_stores}
+use Rattle.pdh_chain.proofs.ChainLaws.{are_frames, read_evenly}
 use Rattle.pdh_ops.specs.Names.{name_of, schedule_name}
 use Rattle.pdh_ops.specs.Answer.{Answer, and_then, status_of}
 use Rattle.pdh_ops.specs.Schedules.{Files, bytes_in, rows_of, rows_or_stop, rows_in, frames_in, stop_of_fault}
@@ -73,9 +73,9 @@ muxed_none chain files rows none = go (nat_lt most_frames (frames_in rows)) (sho
     go false None None (Some event) none = absurd (let wrong : Some event ≡ None = none refl in cc)
     go false None None None none = refl
 
-comes_none : (chain : Chain) (files : Files) → (short_node chain (rows_in chain files) ≡ None → event_of chain (rows_in chain files) ≡ None) → names_event (comes_to (Mux chain) files) ≡ false
+comes_none : (chain : Chain) (feac : Option ℕ) (files : Files) → (short_node chain (rows_in chain files) ≡ None → event_of chain (rows_in chain files) ≡ None) → names_event (comes_to (Mux chain feac) files) ≡ false
 unfolding rows_of
-comes_none chain files none = by_held (find (λ file. is_none (files (name_of file))) (mux_inputs chain))
+comes_none chain feac files none = by_held (find (λ file. is_none (files (name_of file))) (mux_inputs chain))
   where
     by_fault : (fault : ScheduleFault) → names_event (Err (stop_of_fault fault)) ≡ false
     by_fault (TooLong len) = refl
@@ -94,63 +94,63 @@ comes_none chain files none = by_held (find (λ file. is_none (files (name_of fi
     by_held None = by_rows (schedule_of (levels_of chain) (bytes_in files schedule_name)) none
 
 -- status 8 comes of an event alone
-no_eight : (chain : Chain) (a b : ShelfState) (stop : Stop) (files : Files) → status_of stop ≡ 8 → IsCause (Mux chain) a b stop → AreTold (Mux chain) a.told files → names_event (comes_to (Mux chain) files) ≡ false → ⊥
-no_eight chain a b (Overflow place) files eight cause told none = let wrong : names_event (Err (Overflow place)) ≡ false = ap names_event (cause files told) ∙ none in cc
-no_eight chain a b (Underflow place) files eight cause told none = let wrong : names_event (Err (Underflow place)) ≡ false = ap names_event (cause files told) ∙ none in cc
-no_eight chain a b Memory files eight cause told none = absurd (omega arith)
-no_eight chain a b Usage files eight cause told none = absurd (omega arith)
-no_eight chain a b (Read f) files eight cause told none = absurd (omega arith)
-no_eight chain a b (Write f) files eight cause told none = absurd (omega arith)
-no_eight chain a b (Missing f) files eight cause told none = absurd (omega arith)
-no_eight chain a b LongSchedule files eight cause told none = absurd (omega arith)
-no_eight chain a b (BadRow l) files eight cause told none = absurd (omega arith)
-no_eight chain a b (UnknownNode l) files eight cause told none = absurd (omega arith)
-no_eight chain a b (CountOver l n m) files eight cause told none = absurd (omega arith)
-no_eight chain a b (ShortNode p h n) files eight cause told none = absurd (omega arith)
-no_eight chain a b (Short f h n) files eight cause told none = absurd (omega arith)
-no_eight chain a b (ManyFrames n) files eight cause told none = absurd (omega arith)
-no_eight chain a b (NoAlignment n) files eight cause told none = absurd (omega arith)
+no_eight : (chain : Chain) (feac : Option ℕ) (a b : ShelfState) (stop : Stop) (files : Files) → status_of stop ≡ 8 → IsCause (Mux chain feac) a b stop → AreTold (Mux chain feac) a.told files → names_event (comes_to (Mux chain feac) files) ≡ false → ⊥
+no_eight chain feac a b (Overflow place) files eight cause told none = let wrong : names_event (Err (Overflow place)) ≡ false = ap names_event (cause files told) ∙ none in cc
+no_eight chain feac a b (Underflow place) files eight cause told none = let wrong : names_event (Err (Underflow place)) ≡ false = ap names_event (cause files told) ∙ none in cc
+no_eight chain feac a b Memory files eight cause told none = absurd (omega arith)
+no_eight chain feac a b Usage files eight cause told none = absurd (omega arith)
+no_eight chain feac a b (Read f) files eight cause told none = absurd (omega arith)
+no_eight chain feac a b (Write f) files eight cause told none = absurd (omega arith)
+no_eight chain feac a b (Missing f) files eight cause told none = absurd (omega arith)
+no_eight chain feac a b LongSchedule files eight cause told none = absurd (omega arith)
+no_eight chain feac a b (BadRow l) files eight cause told none = absurd (omega arith)
+no_eight chain feac a b (UnknownNode l) files eight cause told none = absurd (omega arith)
+no_eight chain feac a b (CountOver l n m) files eight cause told none = absurd (omega arith)
+no_eight chain feac a b (ShortNode p h n) files eight cause told none = absurd (omega arith)
+no_eight chain feac a b (Short f h n) files eight cause told none = absurd (omega arith)
+no_eight chain feac a b (ManyFrames n) files eight cause told none = absurd (omega arith)
+no_eight chain feac a b (NoAlignment n) files eight cause told none = absurd (omega arith)
 
-answer_no_event : (chain : Chain) (a b : ShelfState) (k l : SinkState) (status : ℕ) (answer : Answer) → Performs (Mux chain) a b answer → IsTold answer k l status → HasNoEvent (Some (Mux chain)) a status
-answer_no_event chain a b k l status (Ok done) performs tells files told within eight = elim tells [ inl sent ↦ absurd (omega (arith, sent.0, eight)) | inr failed ↦ absurd (omega (arith, failed.0, eight)) ]
-answer_no_event chain a b k l status (Err stop) performs tells files told within eight =
-    no_eight chain a b stop files (sym tells.0 ∙ eight) performs.cause told (comes_none chain files (λ none. within_none chain files none within))
+answer_no_event : (chain : Chain) (feac : Option ℕ) (a b : ShelfState) (k l : SinkState) (status : ℕ) (answer : Answer) → Performs (Mux chain feac) a b answer → IsTold answer k l status → HasNoEvent (Some (Mux chain feac)) a status
+answer_no_event chain feac a b k l status (Ok done) performs tells files told within eight = elim tells [ inl sent ↦ absurd (omega (arith, sent.0, eight)) | inr failed ↦ absurd (omega (arith, failed.0, eight)) ]
+answer_no_event chain feac a b k l status (Err stop) performs tells files told within eight =
+    no_eight chain feac a b stop files (sym tells.0 ∙ eight) performs.cause told (comes_none chain feac files (λ none. within_none chain files none within))
 
 pub has_no_event : (command : Option Command) (a b : ShelfState) (k l : SinkState) (status : ℕ) → Runs command a b k l status → HasNoEvent command a status
 has_no_event None a b k l status runs = tt
 has_no_event (Some (Demux chain)) a b k l status runs = tt
 has_no_event (Some (ClockCheck chain)) a b k l status runs = tt
 has_no_event (Some (ClockMake chain frames bias)) a b k l status runs = tt
-has_no_event (Some (Mux chain)) a b k l status runs = answer_no_event chain a b k l status runs.answer runs.does runs.told
+has_no_event (Some (Mux chain feac)) a b k l status runs = answer_no_event chain feac a b k l status runs.answer runs.does runs.told
 
 -- ---- the delay
 
 -- a receiver of the first n frames has of each leaf as many bits as come back, and these are all that entered but the delay
-behind : (chain : Chain) (files : Files) (line : List ℕ) (leaf n : ℕ) → DidMux chain files → line ≡ line_bytes chain files (rows_in chain files) → leaf < leaves_of chain → top_len (shapes_of chain) * n ≤ length (bits_of line) → AreWithin chain files
+behind : (chain : Chain) (feac : Option ℕ) (files : Files) (line : List ℕ) (leaf n : ℕ) → DidMux chain files → line ≡ line_bytes chain feac files (rows_in chain files) → leaf < leaves_of chain → top_len (shapes_of chain) * n ≤ length (bits_of line) → AreWithin chain files
     → entered_below (shapes_of chain) (counts (rows_in chain files)) [] (n * top_len (shapes_of chain)) leaf
     ≤ length (far (shapes_of chain) (take (n * top_len (shapes_of chain)) (bits_of line)) leaf) + delay_of chain
-behind chain files line leaf n did is low few within =
+behind chain feac files line leaf n did is low few within =
     let rows : List Row = rows_in chain files in
     let x : ℕ = n * top_len (shapes_of chain) in
     let known : leaf < width (shapes_of chain) = low in
-    let there = frames_there chain files rows line n did.done is few in
+    let there = frames_there chain feac files rows line n did.done is few in
     let got : length (far (shapes_of chain) (take x (bits_of line)) leaf) ≡ back_below (shapes_of chain) (counts rows) [] x leaf =
-    ap (λ bits. length (far (shapes_of chain) bits leaf)) (line_front chain files rows line n did.done is there)
-    ∙ far-length (shapes_of chain) (counts rows) (λ leaf i. slice_index_or (leaf_bits files leaf) i false) (λ n. idle) [] 0 x leaf (are_frames chain) known in
-    let scheduled = scheduled-fewer (shapes_of chain) (counts rows) (frame_count rows) [] x (line_len chain rows) (are_frames chain) (all_stores chain) (mul-le-mul_right (top_len (shapes_of chain)) there) (all_scheduled chain rows did.done.scheduled) in
+    ap (λ bits. length (far (shapes_of chain) bits leaf)) (line_front chain feac files rows line n did.done is there)
+    ∙ far-length (shapes_of chain) (counts rows) (λ leaf i. slice_index_or (leaf_bits files leaf) i false) (says_of feac) [] 0 x leaf (are_frames chain) known in
+    let scheduled = scheduled-fewer (shapes_of chain) (counts rows) (frame_count rows) [] x (line_len chain rows) (are_frames chain) (mul-le-mul_right (top_len (shapes_of chain)) there) (all_scheduled chain rows did.done.scheduled) in
     let short = delayed (shapes_of chain) (counts rows) n leaf (are_frames chain) (scheduled-within (shapes_of chain) (counts rows) (frame_count rows) [] x scheduled within) known in
     subst (λ k. entered_below (shapes_of chain) (counts rows) [] x leaf ≤ k + delay_of chain) (sym got) short
 
-answer_delayed : (chain : Chain) (a b : ShelfState) (k l : SinkState) (status : ℕ) (answer : Answer) → Performs (Mux chain) a b answer → IsTold answer k l status → IsDelayed (Some (Mux chain)) a b status
-answer_delayed chain a b k l status (Err stop) performs tells files line leaf n told within now status_is low few = absurd (omega (arith, tells.0, stop_status stop))
-answer_delayed chain a b k l status (Ok done) performs tells files line leaf n told within now status_is low few =
-    let same : Some line ≡ Some (line_bytes chain files (rows_in chain files)) = performs.outputs 0 (lit< tt) files told (Some line) now in
-    let is : line ≡ line_bytes chain files (rows_in chain files) = cc in
-    behind chain files line leaf n (mux_done chain files done (performs.cause files told)) is low few within
+answer_delayed : (chain : Chain) (feac : Option ℕ) (a b : ShelfState) (k l : SinkState) (status : ℕ) (answer : Answer) → Performs (Mux chain feac) a b answer → IsTold answer k l status → IsDelayed (Some (Mux chain feac)) a b status
+answer_delayed chain feac a b k l status (Err stop) performs tells files line leaf n told within now status_is low few = absurd (omega (arith, tells.0, stop_status stop))
+answer_delayed chain feac a b k l status (Ok done) performs tells files line leaf n told within now status_is low few =
+    let same : Some line ≡ Some (line_bytes chain feac files (rows_in chain files)) = performs.outputs 0 (lit< tt) files told (Some line) now in
+    let is : line ≡ line_bytes chain feac files (rows_in chain files) = cc in
+    behind chain feac files line leaf n (mux_done chain feac files done (performs.cause files told)) is low few within
 
 pub is_delayed : (command : Option Command) (a b : ShelfState) (k l : SinkState) (status : ℕ) → Runs command a b k l status → IsDelayed command a b status
 is_delayed None a b k l status runs = tt
 is_delayed (Some (Demux chain)) a b k l status runs = tt
 is_delayed (Some (ClockCheck chain)) a b k l status runs = tt
 is_delayed (Some (ClockMake chain frames bias)) a b k l status runs = tt
-is_delayed (Some (Mux chain)) a b k l status runs = answer_delayed chain a b k l status runs.answer runs.does runs.told
+is_delayed (Some (Mux chain feac)) a b k l status runs = answer_delayed chain feac a b k l status runs.answer runs.does runs.told

@@ -1,33 +1,34 @@
 -- Schedules of a chain's levels, as the definitions of its line see them: the frames that nodes begin, what leaves enter, and
 -- counts that fit.
-use Rattle.std.proofs.Common.{◌≡◌, ℕ, zero, suc, ◌+◌, ◌-◌, ◌*◌, ◌/◌, ◌%◌, ◌<◌, ◌≤◌, ◌^◌, eqb, List, [], ◌∷◌, ◌++◌, None, All, is_some, length, get_or, ap, sym, ◌∙◌, subst, inl, inr, arith, append-nil, append_assoc, suc-mul}
+use Rattle.std.proofs.Common.{◌≡◌, ℕ, zero, suc, ◌+◌, ◌-◌, ◌*◌, ◌/◌, ◌%◌, ◌<◌, ◌≤◌, ◌^◌, eqb, false, List, [], ◌∷◌, ◌++◌, None, All, length, get_or, ap, sym, ◌∙◌, subst, inl, inr, arith, append-nil, append_assoc, suc-mul}
 use Rattle.std.specs.Option.{option_map_or}
 use Rattle.std.proofs.lemmas.Bool.{cases_Bool}
-use Rattle.std.proofs.lemmas.List.{get_or_default}
-use Rattle.std.proofs.Math.Nat.{div-mul-le_self, mul-le-mul}
+use Rattle.std.proofs.lemmas.List.Sums.{count_by-le-length}
+use Rattle.std.proofs.lemmas.List.FromFn.{length-range_with_len}
+use Rattle.std.proofs.Math.Nat.{div-mul-le_self, mul-le-mul, mul-le-mul_left}
 use Rattle.pdh_shape.specs.OwnNumbers.{lead, most_frames, most_slots}
-use Rattle.pdh_shape.specs.Frame.{FrameShape}
+use Rattle.pdh_shape.specs.Frame.{FrameShape, slots}
+use Rattle.pdh_shape.specs.Tributary.{HasTributaries, reads_from}
 use Rattle.pdh_shape.specs.declared.place.Level.{Level}
-use Rattle.pdh_line.specs.Progress.{FrameNumbers, arrived}
+use Rattle.pdh_line.specs.Progress.{FrameNumbers, arrived, entered_by}
 use Rattle.pdh_line.specs.Nodes.{nodes_of, child, Counts, begun_at, entered_at, top_len as top_len_of}
-use Rattle.pdh_line.specs.Sending.{shape_numbers, begun, given, entered}
-use Rattle.pdh_line.proofs.SendingLaws.{arrived-zero, arrived-suc, given-stores, entered-stores}
+use Rattle.pdh_line.specs.Sending.{HasStores, shape_numbers, begun, given, entered}
+use Rattle.pdh_line.proofs.SendingLaws.{arrived-zero, arrived-suc, entered-stores, entered-locked}
 use Rattle.pdh_line.proofs.LeafNumbers.{leaf-tributary, leaf-below}
-use Rattle.pdh_levels.specs.Levels.{level_numbers, numbers_of as numbers_in, nodes_in, level_at, len_at}
+use Rattle.pdh_levels.specs.Levels.{numbers_of as numbers_in, level_at, len_at}
 use Rattle.pdh_levels.proofs.LevelLaws.{step_is}
-use Rattle.pdh_nesting.specs.Chains.{numbers_of, width, top_len, AreFrames, AllStores}
+use Rattle.pdh_nesting.specs.Chains.{numbers_of, width, top_len, AreFrames}
 use Rattle.pdh_nesting.specs.Sending.{entered_below, AllScheduled, ArriveSingly}
-use Rattle.pdh_nesting.proofs.Nodes.{taken-entered}
+use Rattle.pdh_nesting.proofs.Nodes.{given-entered_by}
 use Rattle.pdh_clock.specs.Row.{Row}
 use Rattle.pdh_clock.specs.Contents.{Contents, IsRowOf, counts, frame_count}
-use Rattle.pdh_clock.specs.Begun.{frames_begun, shortage, bits_entered}
+use Rattle.pdh_clock.specs.Begun.{shortage, bits_entered}
 use Rattle.pdh_clock.proofs.Laws.{counts_most}
-use Rattle.pdh_clock.proofs.Begins.{none_short}
-use Rattle.pdh_chain.specs.Trees.{AreLevelsOf}
 use Rattle.pdh_chain.specs.Chains.{shapes_of, levels_of, leaves_of}
 use Rattle.pdh_chain.specs.declared.chain.Chain.{Chain}
 use Rattle.pdh_chain.proofs.Clear.{all_scheduled as all_scheduled_of}
-use Rattle.pdh_chain.proofs.ChainLaws.{are_frames, all_stores, are_levels_of, few_shapes}
+use Rattle.pdh_chain.proofs.ChainLaws.{are_frames, are_levels_of, few_shapes}
+use Rattle.pdh_chain.proofs.LevelNumbers.{EachLevelOf, each_level, same_entered}
 use Rattle.pdh_chain.proofs.SenderStops.{begun-grows, given-more}
 use Rattle.pdh_ops.specs.Schedules.{contents_of, frames_in}
 use Rattle.pdh_ops.specs.Mux.{line_len, short_node, bits_needed}
@@ -39,36 +40,34 @@ pub all_scheduled : (chain : Chain) (rows : List Row) → short_node chain rows 
 all_scheduled chain rows none = all_scheduled_of (shapes_of chain) (contents_of chain rows) (frames_in rows) (are_levels_of chain) none
 
 -- a node that made fewer bits begins no more frames
-begun_at-grows : (shapes : List FrameShape) (counts : Counts) (path : List ℕ) (x y : ℕ) (steps : List ℕ) → AreFrames shapes → AllStores shapes → x ≤ y
+begun_at-grows : (shapes : List FrameShape) (counts : Counts) (path : List ℕ) (x y : ℕ) (steps : List ℕ) → AreFrames shapes → x ≤ y
     → begun_at (numbers_of shapes) counts path x steps ≤ begun_at (numbers_of shapes) counts path y steps
-begun_at-grows [] counts path x y steps are stores h = omega arith
-begun_at-grows (s ∷ below) counts path x y [] are stores h = begun-grows s x y are.0 h
-begun_at-grows (s ∷ below) counts path x y (step ∷ steps) are stores h =
-    begun_at-grows below counts (path ++ step ∷ []) (given s (step - 1) (counts path (step - 1)) x) (given s (step - 1) (counts path (step - 1)) y) steps are.2 stores.1
-    (given-more s (step - 1) (counts path (step - 1)) x y are.0 stores.0 h)
+begun_at-grows [] counts path x y steps are h = omega arith
+begun_at-grows (s ∷ below) counts path x y [] are h = begun-grows s x y are.0 h
+begun_at-grows (s ∷ below) counts path x y (step ∷ steps) are h =
+    begun_at-grows below counts (path ++ step ∷ []) (given s (step - 1) (counts path (step - 1)) x) (given s (step - 1) (counts path (step - 1)) y) steps are.2
+    (given-more s (step - 1) (counts path (step - 1)) x y are.0 are.1 h)
 
-pub scheduled-fewer : (shapes : List FrameShape) (counts : Counts) (frames : List ℕ → ℕ) (path : List ℕ) (x y : ℕ) → AreFrames shapes → AllStores shapes → x ≤ y
+pub scheduled-fewer : (shapes : List FrameShape) (counts : Counts) (frames : List ℕ → ℕ) (path : List ℕ) (x y : ℕ) → AreFrames shapes → x ≤ y
     → AllScheduled shapes counts frames path y → AllScheduled shapes counts frames path x
-scheduled-fewer shapes counts frames path x y are stores h enough k d inside =
+scheduled-fewer shapes counts frames path x y are h enough k d inside =
     let steps : List ℕ = get_or (nodes_of (numbers_of shapes)) k d in
-    omega (arith, begun_at-grows shapes counts path x y steps are stores h, enough k d inside)
+    omega (arith, begun_at-grows shapes counts path x y steps are h, enough k d inside)
 
 -- ---- counts that fit
 
 -- where no count is above the bits of its frame, at most one bit arrives in a slot
-singly : (shapes : List FrameShape) (levels : List Level) (counts : Counts) (path : List ℕ) (x : ℕ) → AreLevelsOf shapes levels
+singly : (shapes : List FrameShape) (levels : List Level) (counts : Counts) (path : List ℕ) (x : ℕ) → EachLevelOf shapes levels
     → ((steps : List ℕ) (j n : ℕ) → counts (path ++ steps) j n ≤ len_at levels steps) → ArriveSingly shapes counts path x
 unfolding ArriveSingly
 singly [] levels counts path x are fit = tt
-singly (s ∷ below) [] counts path x are fit = cc
+singly (s ∷ below) [] counts path x are fit = absurd are
 singly (s ∷ below) (level ∷ levels) counts path x are fit =
-    let own : shape_numbers s ≡ level_numbers level = cc in
-    let others : AreLevelsOf below levels = cc in
-    let len : level.len ≡ s.len = sym (ap (λ (n : FrameNumbers). n.len) own) in
-    let tribs : level.tribs ≡ s.tribs = sym (ap (λ (n : FrameNumbers). n.tribs) own) in
+    let len : level.len ≡ s.len = are.0.len in
+    let tribs : level.tribs ≡ s.tribs = are.0.tribs in
     λ j known. (
       (λ stores n h. subst (λ len. counts path j n ≤ len) len (subst (λ p. counts p j n ≤ level.len) (append-nil path) (fit [] j n))),
-      singly below levels counts (child path j) (given s j (counts path j) x) others
+      singly below levels counts (child path j) (given s j (counts path j) x) are.1
           (λ steps i n.
           let at : level_at (level ∷ levels) (suc j ∷ steps) ≡ level_at levels steps = step_is level levels j steps (subst (λ n. j < n) (sym tribs) known) in
           let lens : len_at (level ∷ levels) (suc j ∷ steps) ≡ len_at levels steps = ap (λ o. option_map_or (λ l. l.len) o 0) at in
@@ -76,7 +75,7 @@ singly (s ∷ below) (level ∷ levels) counts path x are fit =
     )
 
 pub arrive_singly : (chain : Chain) (rows : List Row) (x : ℕ) → All (IsRowOf (levels_of chain)) rows → ArriveSingly (shapes_of chain) (counts rows) [] x
-arrive_singly chain rows x sound = singly (shapes_of chain) (levels_of chain) (counts rows) [] x (are_levels_of chain) (λ steps j n. counts_most (levels_of chain) rows steps j n sound)
+arrive_singly chain rows x sound = singly (shapes_of chain) (levels_of chain) (counts rows) [] x (each_level (shapes_of chain) (levels_of chain) (are_levels_of chain)) (λ steps j n. counts_most (levels_of chain) rows steps j n sound)
 
 -- ---- how many bits a leaf enters
 
@@ -96,32 +95,41 @@ begun-bits s x = elim (cases_Bool (eqb (x % s.len) 0)) [
   | inr odd ↦ rw odd (omega (arith, suc-mul (x / s.len) s.len, div-mul-le_self x s.len))
 ]
 
--- a node takes at most a frame and the lead more than its line has bits
+-- a node takes at most a frame and the lead more than its line has bits: with stores,
 node-fits : (s : FrameShape) (counts : ℕ → ℕ) (x : ℕ) → ((n : ℕ) → n < begun s x → counts n ≤ s.len) → entered counts (begun s x) ≤ x + (s.len + lead)
 node-fits s counts x fit = omega (arith, entered-fits counts s.len (begun s x) fit, begun-bits s x)
+
+-- and without
+low-fits : (s : FrameShape) (j : ℕ) → HasTributaries s → j < s.tribs → s.low ≤ s.len
+low-fits s j has known = omega (arith, has.low j known, count_by-le-length (λ slot. reads_from j false (s.role slot)) (slots s), length-range_with_len 0 s.len)
+
+takes-fits : (s : FrameShape) (j : ℕ) (counts : ℕ → ℕ) (x : ℕ) → HasTributaries s → j < s.tribs → (HasStores s → (n : ℕ) → n < begun s x → counts n ≤ s.len) → entered_by (shape_numbers s) counts (begun s x) ≤ x + (s.len + lead)
+takes-fits s j counts x has known fit = elim (cases_Bool (eqb s.copies 0)) [
+  | inl locked ↦ omega (arith, entered-locked s counts (begun s x) locked, mul-le-mul_left (begun s x) (low-fits s j has known), begun-bits s x)
+  | inr stores ↦ omega (arith, entered-stores s counts (begun s x) stores, node-fits s counts x (fit stores))
+]
 
 -- so a leaf enters at most a frame and the lead of each level more than the top's line has bits
 abbrev excess : List FrameShape → ℕ
 excess [] = 0
 excess (s ∷ below) = s.len + lead + excess below
 
-entered-most : (shapes : List FrameShape) (counts : Counts) (path : List ℕ) (x k : ℕ) → AreFrames shapes → AllStores shapes → ArriveSingly shapes counts path x → k < width shapes
+entered-most : (shapes : List FrameShape) (counts : Counts) (path : List ℕ) (x k : ℕ) → AreFrames shapes → ArriveSingly shapes counts path x → k < width shapes
     → entered_below shapes counts path x k ≤ x + excess shapes
 unfolding entered_at ArriveSingly
-entered-most [] counts path x k are stores fit h = omega arith
-entered-most (s ∷ []) counts path x k are stores fit h =
+entered-most [] counts path x k are fit h = omega arith
+entered-most (s ∷ []) counts path x k are fit h =
     let known : k < s.tribs = omega arith in
-    omega (arith, entered-stores s (counts path k) (begun s x) stores.0, node-fits s (counts path k) x ((fit k known).0 stores.0))
-entered-most (s ∷ t ∷ below) counts path x k are stores fit h =
+    omega (arith, takes-fits s k (counts path k) x are.1 known (fit k known).0)
+entered-most (s ∷ t ∷ below) counts path x k are fit h =
     let w : ℕ = width (t ∷ below) in
     let j : ℕ = k / w in
     let known : j < s.tribs = leaf-tributary s.tribs w k h in
     omega (
       arith,
-      entered-most (t ∷ below) counts (child path j) (given s j (counts path j) x) (k % w) are.2 stores.1 (fit j known).1 (leaf-below s.tribs w k h),
-      given-stores s j (counts path j) x stores.0,
-      taken-entered s (counts path j) x are.0,
-      node-fits s (counts path j) x ((fit j known).0 stores.0),
+      entered-most (t ∷ below) counts (child path j) (given s j (counts path j) x) (k % w) are.2 (fit j known).1 (leaf-below s.tribs w k h),
+      given-entered_by s j (counts path j) x are.0 are.1,
+      takes-fits s j (counts path j) x are.1 known (fit j known).0,
     )
 
 excess-few : (shapes : List FrameShape) → AreFrames shapes → excess shapes ≤ length shapes * (most_slots + lead)
@@ -144,7 +152,7 @@ pub needed-small : (chain : Chain) (rows : List Row) (k : ℕ) → All (IsRowOf 
 needed-small chain rows k sound few h =
     omega (
       arith,
-      entered-most (shapes_of chain) (counts rows) [] (line_len chain rows) k (are_frames chain) (all_stores chain) (arrive_singly chain rows (line_len chain rows) sound) h,
+      entered-most (shapes_of chain) (counts rows) [] (line_len chain rows) k (are_frames chain) (arrive_singly chain rows (line_len chain rows) sound) h,
       few_bits chain (frames_in rows) few,
     )
 
@@ -153,7 +161,7 @@ pub needed-is : (chain : Chain) (schedule : Contents) (frames k : ℕ) → sched
 needed-is chain schedule frames k levels all =
     let enters : List FrameNumbers → ℕ → ℕ = λ numbers n. entered_at numbers (counts schedule.rows) [] (n * top_len_of numbers) k in
     ap (λ n. enters (numbers_in schedule.levels) n) all ∙ ap (λ ls. enters (numbers_in ls) (frames_in schedule.rows)) levels
-    ∙ sym (ap (λ numbers. enters numbers (frames_in schedule.rows)) (are_levels_of chain))
+    ∙ sym (same_entered (shapes_of chain) (levels_of chain) (are_levels_of chain) (counts schedule.rows) (frames_in schedule.rows) k)
 
 pub needed_here : (chain : Chain) (schedule : Contents) (frames k leaf n : ℕ) → schedule.levels ≡ levels_of chain → All (IsRowOf (levels_of chain)) schedule.rows → frames ≡ frames_in schedule.rows → frames ≤ most_frames
     → leaf ≡ k → k < leaves_of chain → n ≡ bits_entered schedule frames leaf → (n ≡ bits_needed chain schedule.rows k) × (n < 2 ^ 32)

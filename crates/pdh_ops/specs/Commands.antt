@@ -30,28 +30,28 @@ mux_input (suc leaf) = leaf_name leaf
 -- what a command reads
 abbrev pub inputs : Command → Names
 inputs (Demux chain) = record { count = 1; name = λ _. line_name }
-inputs (Mux chain) = record { count = suc (leaves_of chain); name = mux_input }
+inputs (Mux chain feac) = record { count = suc (leaves_of chain); name = mux_input }
 inputs (ClockCheck chain) = record { count = 1; name = λ _. schedule_name }
 inputs (ClockMake chain frames bias) = record { count = 0; name = λ _. schedule_name }
 
 -- what it writes, in the order in which it starts them
 abbrev pub outputs : Command → Names
 outputs (Demux chain) = record { count = leaves_of chain; name = output_name }
-outputs (Mux chain) = record { count = 1; name = λ _. line_name }
+outputs (Mux chain feac) = record { count = 1; name = λ _. line_name }
 outputs (ClockCheck chain) = record { count = 0; name = λ _. schedule_name }
 outputs (ClockMake chain frames bias) = record { count = 1; name = λ _. schedule_name }
 
 -- what its outputs hold in the end
 abbrev pub output_bytes : Command → Files → ℕ → List ℕ
 output_bytes (Demux chain) files leaf = output_of chain (bytes_in files line_name) leaf
-output_bytes (Mux chain) files _ = line_bytes chain files (rows_in chain files)
+output_bytes (Mux chain feac) files _ = line_bytes chain feac files (rows_in chain files)
 output_bytes (ClockCheck chain) files _ = []
 output_bytes (ClockMake chain frames bias) files _ = made_text chain frames bias
 
 -- its work, or the first refusal in the order of its steps, where no memory is wanting and no device fails
 abbrev pub comes_to : Command → Files → Answer
 comes_to (Demux chain) files = and_then (line_of chain (files line_name)) (demuxed chain)
-comes_to (Mux chain) files = and_then (all_held (mux_inputs chain) files) (λ _. and_then (rows_of chain (bytes_in files schedule_name)) (muxed chain files))
+comes_to (Mux chain feac) files = and_then (all_held (mux_inputs chain) files) (λ _. and_then (rows_of chain (bytes_in files schedule_name)) (muxed chain files))
 comes_to (ClockCheck chain) files = and_then (all_held check_inputs files) (λ _. and_then (rows_of chain (bytes_in files schedule_name)) (λ rows. Ok (checked chain rows)))
 comes_to (ClockMake chain frames bias) files = clock_made chain frames bias
 

@@ -17,8 +17,8 @@ use Rattle.pdh_words.specs.declared.commands.Command.TheVariants.{Mux}
 -- After status 0 of `mux`, of whose line a receiver has the first n frames: what it received of each leaf is a prefix of
 -- the bits of that leaf's file.
 abbrev pub GivesBack : Option Command → ShelfState → ShelfState → ℕ → Type 0
-GivesBack (Some (Mux chain)) old new status =
-    (files : Files) (line : List ℕ) (leaf n : ℕ) → AreTold (Mux chain) old.told files → new.told line_name ≡ Known (Some line) → status ≡ 0
+GivesBack (Some (Mux chain feac)) old new status =
+    (files : Files) (line : List ℕ) (leaf n : ℕ) → AreTold (Mux chain feac) old.told files → new.told line_name ≡ Known (Some line) → status ≡ 0
     → leaf < leaves_of chain → top_len (shapes_of chain) * n ≤ length (bits_of line)
     → IsPrefix (far (shapes_of chain) (take (n * top_len (shapes_of chain)) (bits_of line)) leaf) (leaf_bits files leaf)
 GivesBack _ old new status = ⊤

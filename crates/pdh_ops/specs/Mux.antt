@@ -3,7 +3,6 @@ use Rattle.std.specs.Prelude.{ℕ, ◌*◌, ◌/◌, Bool, false, nat_lt, List, 
 use Rattle.std.specs.List.{range_with_len, slice_index_or}
 use Rattle.std.specs.Option.{option_map_or}
 use Rattle.pdh_bits.specs.Bits.{bits_of, bytes_of}
-use Rattle.pdh_shape.specs.Frame.{idle}
 use Rattle.pdh_shape.specs.declared.place.Place.{Place}
 use Rattle.pdh_line.specs.Least.{least_below}
 use Rattle.pdh_line.specs.Sending.{front}
@@ -17,6 +16,7 @@ use Rattle.pdh_clock.specs.Contents.{counts}
 use Rattle.pdh_clock.specs.Begun.{Shortage, shortage}
 use Rattle.pdh_chain.specs.Chains.{shapes_of, leaves_of}
 use Rattle.pdh_line.specs.Paths.{path_of}
+use Rattle.pdh_chain.specs.Saying.{says_of}
 use Rattle.pdh_chain.specs.Muxes.{place_of}
 use Rattle.pdh_chain.specs.declared.chain.Chain.{Chain}
 use Rattle.pdh_ops.specs.Names.{leaf_name, name_of}
@@ -101,10 +101,11 @@ has_event chain rows bit = is_some (slice_get (events_in (shapes_of chain) (coun
 unfoldable pub frames_made : Chain → List Row → ℕ
 frames_made chain rows = least_below (line_len chain rows) (has_event chain rows) / top_len (shapes_of chain)
 
--- the line of the leaves' bits, with idle service bits
-abbrev pub mux_line : Chain → Files → List Row → ℕ → Bool
-mux_line chain files rows = chain_line (shapes_of chain) (counts rows) (λ leaf i. slice_index_or (leaf_bits files leaf) i false) (λ n. idle) [] 0
+-- the line of the leaves' bits; its top's frames are idle, but for a code that is sent over the far end alarm and control
+-- channel, where they have one
+abbrev pub mux_line : Chain → Option ℕ → Files → List Row → ℕ → Bool
+mux_line chain feac files rows = chain_line (shapes_of chain) (counts rows) (λ leaf i. slice_index_or (leaf_bits files leaf) i false) (says_of feac) [] 0
 
 -- what the line's file holds
-unfoldable pub line_bytes : Chain → Files → List Row → List ℕ
-line_bytes chain files rows = bytes_of (front (mux_line chain files rows) (frames_made chain rows * top_len (shapes_of chain)))
+unfoldable pub line_bytes : Chain → Option ℕ → Files → List Row → List ℕ
+line_bytes chain feac files rows = bytes_of (front (mux_line chain feac files rows) (frames_made chain rows * top_len (shapes_of chain)))

@@ -10,6 +10,7 @@ use Rattle.pdh_shape.specs.declared.place.Place.{Place}
 use Rattle.pdh_chain.specs.Chains.{shapes_of, leaves_of}
 use Rattle.pdh_chain.specs.declared.chain.Chain.{Chain}
 use Rattle.pdh_line.specs.Events.{Event}
+use Rattle.pdh_chain.specs.Saying.{says_of}
 use Rattle.pdh_chain.specs.Muxes.{frames_of_line, Muxes, StopsAtEvent}
 use Rattle.pdh_clock.specs.Row.{Row}
 use Rattle.pdh_clock.specs.Contents.{counts, frame_count}
@@ -31,13 +32,13 @@ pub record AreSizes (chain : Chain) (sizes : InputSizes) (state : ShelfState) : 
   pub schedule : HasLength schedule_name sizes.schedule state
   pub leaf : (k : ℕ) → k < leaves_of chain → HasLength (leaf_name k) (slice_index sizes.leaves k) state
 
--- all inputs are held
+-- all inputs are held; they are the same whatever code is sent
 abbrev pub AllHeld : Chain → ShelfState → Type 0
-AllHeld chain state = OfInputs (Mux chain) state (λ files. all_held (mux_inputs chain) files ≡ Ok tt)
+AllHeld chain state = OfInputs (Mux chain None) state (λ files. all_held (mux_inputs chain) files ≡ Ok tt)
 
 -- the schedule has these rows
 abbrev pub HasRows : Chain → ShelfState → List Row → Type 0
-HasRows chain state rows = OfInputs (Mux chain) state (λ files. rows_of chain (bytes_in files schedule_name) ≡ Ok rows)
+HasRows chain state rows = OfInputs (Mux chain None) state (λ files. rows_of chain (bytes_in files schedule_name) ≡ Ok rows)
 
 -- leaf k has as many bits as must enter, at least
 abbrev pub IsLong : Chain → List Row → InputSizes → ℕ → Type 0
@@ -76,7 +77,7 @@ IsEnoughStop chain rows sizes _ = ⊥
 pub record AreLeaves (chain : Chain) (sizes : InputSizes) (state : ShelfState) (leaves : List (Vec Bool Global)) : Type 0 where
   pub count : length leaves ≡ leaves_of chain
   pub len : (k : ℕ) (d : Vec Bool Global) → k < leaves_of chain → length (slice_index_or leaves k d).items ≡ 8 * slice_index sizes.leaves k
-  pub bits : (k : ℕ) (d : Vec Bool Global) → k < leaves_of chain → OfInputs (Mux chain) state (λ files. (slice_index_or leaves k d).items ≡ leaf_bits files k)
+  pub bits : (k : ℕ) (d : Vec Bool Global) → k < leaves_of chain → OfInputs (Mux chain None) state (λ files. (slice_index_or leaves k d).items ≡ leaf_bits files k)
 
 -- A port can send so many frames of the line: they are those of the schedule, each node has those that it begins, and each
 -- leaf's list has as many bits as must enter.
@@ -87,10 +88,10 @@ pub record CanSend (chain : Chain) (rows : List Row) (frames : ℕ) (inputs : In
   pub long : (k : ℕ) → k < leaves_of chain → bits_needed chain rows k ≤ inputs.left k
 
 -- so many frames of the line were put; or the first event ends the command so, and the whole frames before it were put
-abbrev pub IsSent : Chain → List Row → ℕ → Inputs → Inputs → Outputs → Outputs → Option Stop → Type 0
-IsSent chain rows frames inputs inputs_now outputs outputs_now None = Muxes (shapes_of chain) (counts rows) (frame_count rows) frames inputs inputs_now outputs outputs_now
-IsSent chain rows frames inputs inputs_now outputs outputs_now (Some stop) =
-    (over : Bool) × (place : Place) × (stop ≡ (if over then Overflow place else Underflow place)) × StopsAtEvent (shapes_of chain) (counts rows) (frame_count rows) frames over place inputs inputs_now outputs outputs_now
+abbrev pub IsSent : Chain → Option ℕ → List Row → ℕ → Inputs → Inputs → Outputs → Outputs → Option Stop → Type 0
+IsSent chain feac rows frames inputs inputs_now outputs outputs_now None = Muxes (shapes_of chain) (counts rows) (says_of feac) (frame_count rows) frames inputs inputs_now outputs outputs_now
+IsSent chain feac rows frames inputs inputs_now outputs outputs_now (Some stop) =
+    (over : Bool) × (place : Place) × (stop ≡ (if over then Overflow place else Underflow place)) × StopsAtEvent (shapes_of chain) (counts rows) (says_of feac) (frame_count rows) frames over place inputs inputs_now outputs outputs_now
 
 -- how an event ends the command, if there is one
 abbrev pub IsEnd : Option Event → Option Stop → Type 0
@@ -102,6 +103,6 @@ abbrev pub AreBits : Chain → List (Vec Bool Global) → (ℕ → List Bool) �
 AreBits chain leaves lists = (k : ℕ) (d : Vec Bool Global) → k < leaves_of chain → lists k ≡ (slice_index_or leaves k d).items
 
 -- the line's bytes up to the first event, and how that ends the command
-pub record IsMade (chain : Chain) (rows : List Row) (leaves : List (Vec Bool Global)) (made : Made) : Type 0 where
-  pub bytes : (lists : ℕ → List Bool) → AreBits chain leaves lists → made.bytes.items ≡ bytes_of (frames_of_line (shapes_of chain) (counts rows) lists (frames_made chain rows))
+pub record IsMade (chain : Chain) (feac : Option ℕ) (rows : List Row) (leaves : List (Vec Bool Global)) (made : Made) : Type 0 where
+  pub bytes : (lists : ℕ → List Bool) → AreBits chain leaves lists → made.bytes.items ≡ bytes_of (frames_of_line (shapes_of chain) (counts rows) (says_of feac) lists (frames_made chain rows))
   pub end : IsEnd (event_of chain rows) made.end

@@ -19,14 +19,18 @@ use pdh_levels::{level_of, node_at, node_count};
 use pdh_shape::{MOST_FRAMES, Path};
 use std::alloc::Global;
 
-// The first tributary of a node that isn't within the tolerance.
+// The first tributary of a node that has a store and isn't within the tolerance.
 fn outside_of(chain: Chain, clock: &Schedule, node: Path) -> Option<OutOfTolerance>
     requires levels { clock.now.levels ≡ levels_of chain }
     requires known { IsSome (level_at (levels_of chain) (steps_of node)) }
     requires plain { node ≡ path_of (steps_of node) }
     ensures { result ≡ first_outside_of clock.now (steps_of node) }
 {
-    for index in 0..level_of(chain.levels(), &node).tribs {
+    let level = level_of(chain.levels(), &node);
+    if level.locked {
+        return None;
+    }
+    for index in 0..level.tribs {
         if let Err(run) = clock.within(&node, index) {
             let trib = index + 1;
             return Some(OutOfTolerance { node, trib, run });

@@ -1,4 +1,4 @@
-ghost use Rattle.std.specs.Prelude.{if◌then◌else◌, ◌≡◌, ℕ, ◌*◌, Bool, [], ◌∷◌, map, Vec, ◌^◌, ◌<◌, ◌≤◌, length, slice_index_or, IsTrue, IfOk, OnOk, OnErr, IfErr, All, None};
+ghost use Rattle.std.specs.Prelude.{if◌then◌else◌, ◌≡◌, ℕ, ◌*◌, Bool, [], ◌∷◌, map, Vec, ◌^◌, ◌<◌, ◌≤◌, length, slice_index_or, IsTrue, IfOk, OnOk, OnErr, IfErr, IfSome, All, Option, None};
 ghost use Rattle.std.specs.declared.alloc.Global.{Global};
 ghost use Rattle.pdh_edge.specs.Files.{Looks};
 ghost use Rattle.pdh_edge.specs.MemLists.{inputs_of, outputs_of, items_of, room_of};
@@ -47,7 +47,7 @@ fn read_sizes<S: Shelf>(chain: Chain, shelf: &mut S) -> Result<InputSizes, Stop>
     ensures looks { Looks (S.state shelf.old) (S.state shelf.new) }
     ensures ok { IfOk result (λ sizes. AreSizes chain sizes (S.state shelf.new)) }
     ensures held { OnOk result (AllHeld chain (S.state shelf.new)) }
-    ensures err { IfErr result (Refuses (Mux chain) (S.state shelf.old) (S.state shelf.new)) }
+    ensures err { IfErr result (λ stop. (feac : Option ℕ) → Refuses (Mux chain feac) (S.state shelf.old) (S.state shelf.new) stop) }
     ensures counted { IsCounted (S.state shelf.old) (S.state shelf.new) result }
 {
     let schedule = size(shelf, File::Schedule)?;
@@ -91,10 +91,10 @@ fn read_leaves<S: Shelf>(
     sizes: &InputSizes,
 ) -> Result<Vec<Vec<bool>>, Stop>
     requires sizes { AreSizes chain sizes.now (S.state shelf.old) }
-    requires due { GoesOn (Mux chain) (S.state shelf.old) }
+    requires due { GoesOn (Mux chain None) (S.state shelf.old) }
     ensures looks { Looks (S.state shelf.old) (S.state shelf.new) }
     ensures ok { IfOk result (λ leaves. AreLeaves chain sizes.now (S.state shelf.new) leaves.items) }
-    ensures err { IfErr result (Refuses (Mux chain) (S.state shelf.old) (S.state shelf.new)) }
+    ensures err { IfErr result (λ stop. (feac : Option ℕ) → Refuses (Mux chain feac) (S.state shelf.old) (S.state shelf.new) stop) }
     ensures counted { IsCounted (S.state shelf.old) (S.state shelf.new) result }
 {
     let mut leaves = Vec::new(alloc);
@@ -141,19 +141,21 @@ fn send(
     chain: Chain,
     clock: &Schedule,
     frames: u64,
+    feac: Option<u8>,
     port: &mut MemPort,
 ) -> Result<Option<Stop>, AllocError>
     requires levels { clock.now.levels ≡ levels_of chain }
+    requires code { IfSome feac (λ code. code < 64) }
     requires enough { CanSend chain clock.now.rows frames (⟦<MemPort as Feed>⟧.inputs port.old) }
     requires outputs { ⟦<MemPort as Drain>⟧.outputs port.old ≡ outputs_of ([] ∷ []) }
     requires fresh { ⟦<MemPort as Port>⟧.fresh port.old }
     requires faults { ⟦<MemPort as Drain>⟧.drain_faults port.old ≡ 0 }
     requires room { frames * top_len (shapes_of chain) < room_of port.old 0 }
-    ensures ok { IfOk result (λ end. IsSent chain clock.now.rows frames (⟦<MemPort as Feed>⟧.inputs port.old) (⟦<MemPort as Feed>⟧.inputs port.new) (⟦<MemPort as Drain>⟧.outputs port.old) (⟦<MemPort as Drain>⟧.outputs port.new) end) }
+    ensures ok { IfOk result (λ end. IsSent chain feac clock.now.rows frames (⟦<MemPort as Feed>⟧.inputs port.old) (⟦<MemPort as Feed>⟧.inputs port.new) (⟦<MemPort as Drain>⟧.outputs port.old) (⟦<MemPort as Drain>⟧.outputs port.new) end) }
     ensures err { OnErr result (⟦<MemPort as Port>⟧.fresh port.new) }
     ensures line { IsTrue ((⟦<MemPort as Drain>⟧.outputs port.new).holds 0) }
 {
-    match pdh_chain::mux(alloc, chain, clock, frames, port) {
+    match pdh_chain::mux(alloc, chain, clock, frames, feac, port) {
         Ok(()) => Ok(None),
         Err(MuxStop::Event { over, place }) => Ok(Some(stop_of(over, place))),
         Err(MuxStop::Memory) => Err(AllocError),
@@ -171,33 +173,42 @@ fn make(
     chain: Chain,
     clock: &Schedule,
     frames: u64,
+    feac: Option<u8>,
     leaves: Vec<Vec<bool>>,
 ) -> Result<Made, AllocError>
     requires levels { clock.now.levels ≡ levels_of chain }
     requires frames { frames ≡ frames_in clock.now.rows }
+    requires code { IfSome feac (λ code. code < 64) }
     requires few { frames ≤ most_frames }
     requires scheduled { short_node chain clock.now.rows ≡ None }
     requires count { length leaves.items ≡ leaves_of chain }
     requires long { (k : ℕ) (d : Vec Bool Global) → k < leaves_of chain → bits_needed chain clock.now.rows k ≤ length (slice_index_or leaves.items k d).items }
-    ensures { IfOk result (IsMade chain clock.now.rows leaves.items) }
+    ensures { IfOk result (IsMade chain feac clock.now.rows leaves.items) }
 {
     let bits = 8 * frames as usize * frame_bytes(chain) as usize;
     let mut port = port_for(alloc, leaves, bits)?;
-    let end = send(alloc, chain, clock, frames, &mut port)?;
+    let end = send(alloc, chain, clock, frames, feac, &mut port)?;
     let bytes = bytes_of(alloc, port.output(0))?;
     Ok(Made { bytes, end })
 }
 
 /// Reads the schedule and the leaves, makes the line, writes its whole frames up to the first event,
-/// and answers the number of frames.
-pub fn mux<S: Shelf>(alloc: Global, chain: Chain, shelf: &mut S) -> Result<Done, Stop>
-    ensures { Performs (Mux chain) (S.state shelf.old) (S.state shelf.new) result }
+/// and answers the number of frames. The line sends a code over the far end alarm and control channel
+/// of its top, where one is asked for.
+pub fn mux<S: Shelf>(
+    alloc: Global,
+    chain: Chain,
+    feac: Option<u8>,
+    shelf: &mut S,
+) -> Result<Done, Stop>
+    requires code { IfSome feac (λ code. code < 64) }
+    ensures { Performs (Mux chain feac) (S.state shelf.old) (S.state shelf.new) result }
 {
     let sizes = read_sizes(chain, shelf)?;
     let clock = read_schedule(alloc, chain, shelf, sizes.schedule)?;
     let frames = frames(chain, &clock, &sizes)?;
     let leaves = read_leaves(alloc, chain, shelf, &sizes)?;
-    let made = make(alloc, chain, &clock, frames, leaves)?;
+    let made = make(alloc, chain, &clock, frames, feac, leaves)?;
     start(shelf, File::Line)?;
     append(shelf, File::Line, &made.bytes)?;
     match made.end {

@@ -1,6 +1,6 @@
 ghost use Rattle.std.specs.Prelude.{◌≡◌, map};
 ghost use Rattle.std.specs.String.{string_bytes};
-ghost use Rattle.pdh_words.specs.Commands.{command_of};
+ghost use Rattle.pdh_words.specs.Commands.{command_of, HasCode};
 ghost use Rattle.pdh_ops.specs.Run.{Performs, Does, Runs, Completes};
 ghost use Rattle.pdh_ops.specs.GivesBack.{GivesBack};
 ghost use Rattle.pdh_ops.specs.Tolerated.{HasNoEvent, IsDelayed};
@@ -23,11 +23,12 @@ pub struct Ran<S, K> {
 }
 
 fn perform<S: Shelf>(alloc: Global, command: Command, shelf: &mut S) -> Result<Done, Stop>
+    requires code { HasCode command }
     ensures { Performs command (S.state shelf.old) (S.state shelf.new) result }
 {
     match command {
         Command::Demux { chain } => demux(alloc, chain, shelf),
-        Command::Mux { chain } => mux(alloc, chain, shelf),
+        Command::Mux { chain, feac } => mux(alloc, chain, feac, shelf),
         Command::ClockCheck { chain } => check(alloc, chain, shelf),
         Command::ClockMake {
             chain,

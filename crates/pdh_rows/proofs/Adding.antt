@@ -77,7 +77,6 @@ IsTable_added old new repeat counts h a =
     let len : length new.repeats.items ≡ length old.repeats.items + 1 = ap length a.repeats
     ∙ length-append old.repeats.items (repeat ∷ []) in
     record {
-      some_trib = omega (arith, a.tribs, h.some_trib);
       counts_len = ap length a.counts_is ∙ length-append old.counts.items counts
           ∙ more_rows (length old.repeats.items) (length new.repeats.items) old.tribs new.tribs (length old.counts.items)
           (length counts) len a.tribs h.counts_len a.len;

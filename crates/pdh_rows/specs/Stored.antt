@@ -31,7 +31,6 @@ sum_with sums repeat counts trib =
 
 -- each row has its counts, and it and the end of the rows know the frames and the bits of each tributary before it
 pub record IsTable (table : Table) : Type 0 where
-  pub some_trib : 0 < table.tribs
   pub counts_len : length table.counts.items ≡ length table.repeats.items * table.tribs
   pub firsts_len : length table.firsts.items ≡ length table.repeats.items + 1
   pub before_len : length table.before.items ≡ (length table.repeats.items + 1) * table.tribs

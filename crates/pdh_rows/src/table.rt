@@ -72,7 +72,6 @@ fn row_with(firsts: &[u64], frame: u64) -> usize
 impl Table {
     /// A table with no row.
     pub fn new(alloc: Global, tribs: usize) -> Result<Table, AllocError>
-        requires { 0 < tribs }
         ensures table { IfOk result (λ table. IsTable table) }
         ensures tribs { IfOk result (λ table. table.tribs ≡ tribs) }
         ensures rows { IfOk result (λ table. rows_of table ≡ []) }

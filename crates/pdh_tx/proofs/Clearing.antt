@@ -35,7 +35,7 @@ none_flat f a (suc n) j h l m = elim (cases_lt a j) [
   | inr here ↦ let e : a ≡ j = omega arith in ap (λ k. first_some (f k)) (sym e) ∙ none_left (f a) (flat_map f (range_with_len (a + 1) n)) h
 ]
 
-none_map : {X : Type 0} (f : ℕ → Option X) (a n j : ℕ) → first_some (map f (range_with_len a n)) ≡ None → a ≤ j → j < a + n → f j ≡ None
+pub none_map : {X : Type 0} (f : ℕ → Option X) (a n j : ℕ) → first_some (map f (range_with_len a n)) ≡ None → a ≤ j → j < a + n → f j ≡ None
 none_map f a zero j h l m = absurd (omega arith)
 none_map {X = X} f a (suc n) j h l m = elim (cases_lt a j) [
   | inl later ↦ none_map f (a + 1) n j (rest (f a) h) (omega arith) (omega arith)

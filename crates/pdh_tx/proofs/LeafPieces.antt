@@ -5,6 +5,7 @@ use Rattle.std.proofs.lemmas.Bool.{cases_lt, le-leb}
 use Rattle.std.proofs.lemmas.List.{length-take-le, take-append-le}
 use Rattle.std.proofs.Math.Seq.{take-append-add}
 use Rattle.pdh_edge.specs.Ports.{Inputs, Takes, before, for_leaf, nothing}
+use Rattle.pdh_shape.specs.declared.role.Service.{Service}
 use Rattle.pdh_tx.specs.declared.tx.TxStop.TheVariants.{Ended}
 use Rattle.pdh_tx.specs.Meaning.{Plan, Supply}
 use Rattle.pdh_tx.specs.Leaf.{leaf_meaning}
@@ -12,8 +13,8 @@ use Rattle.pdh_tx.specs.Making.{IsClear, MakesAll}
 use Rattle.pdh_tx.proofs.Moving.{takes_none, takes_join}
 use Rattle.pdh_tx.proofs.NodePieces.{part_of}
 
-pub leaf_makes : (leaf : ℕ) (placed : ℕ → Type 0) (old new : Supply → ℕ → Type 0) (plan : Plan) (x to : ℕ) (bits : List Bool) (a b : Inputs) → placed to → ((supply : Supply) → new supply to) → x + length bits ≡ to → Takes (for_leaf leaf bits) a b
-    → MakesAll (leaf_meaning leaf) placed old new plan x to bits a b
+pub leaf_makes : {now : Service} (leaf : ℕ) (placed : ℕ → Type 0) (old new : Supply → ℕ → Type 0) (plan : Plan) (x to : ℕ) (bits : List Bool) (a b : Inputs) → placed to → ((supply : Supply) → new supply to) → x + length bits ≡ to → Takes (for_leaf leaf bits) a b
+    → MakesAll (leaf_meaning leaf) now placed old new plan x to bits a b
 leaf_makes leaf placed old new plan x to bits a b here stands count takes = record {
   given = for_leaf leaf bits;
   gives = record {

@@ -1,26 +1,27 @@
 pub mod Firsts
-mod Moving
-mod Lists
+pub mod Moving
+pub mod Lists
 mod LeafSteps
-mod TributarySteps
-mod Gaining
-mod Advancing
+pub mod TributarySteps
+pub mod Gaining
+pub mod Advancing
 mod Arriving
 mod FrameStarts
 mod Reading
-mod BitSteps
-mod Parity
-mod NodeSteps
+pub mod BitSteps
+pub mod Parity
+pub mod Saying
+pub mod NodeSteps
 mod Fills
-mod Opening
+pub mod Opening
 mod Worked
 mod Feeding
-mod Passing
-mod PassingAll
+pub mod Passing
+pub mod PassingAll
 mod OnePasses
-mod Clearing
-mod PieceSteps
+pub mod Clearing
+pub mod PieceSteps
 mod Begun
-mod NodePieces
-mod MakingAll
+pub mod NodePieces
+pub mod MakingAll
 mod LeafPieces

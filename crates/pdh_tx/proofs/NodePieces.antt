@@ -1,13 +1,12 @@
 -- A piece of a multiplexer's line.
-use Rattle.std.proofs.Common.{◌≡◌, inl, inr, ℕ, suc, ◌+◌, ◌*◌, ◌<◌, ◌≤◌, ◌^◌, Bool, false, List, length, map, cond, eqb, refl, sym, ap, ◌∙◌, subst, arith, eq-eqb, get_or}
+use Rattle.std.proofs.Common.{◌≡◌, ℕ, suc, ◌+◌, ◌*◌, ◌<◌, ◌≤◌, ◌^◌, Bool, false, List, length, map, cond, eqb, refl, sym, ap, ◌∙◌, subst, arith, get_or}
 use Rattle.std.specs.List.{range_with_len}
-use Rattle.std.proofs.lemmas.Bool.{ne_eqb, cases_lt}
 use Rattle.std.proofs.lemmas.List.{ext_get_or}
 use Rattle.std.proofs.lemmas.List.FromFn.{get_or-map-range_with_len, length-map-range_with_len}
 use Rattle.pdh_edge.specs.Ports.{Inputs}
 use Rattle.pdh_shape.specs.declared.place.Path.{Path}
 use Rattle.pdh_shape.specs.declared.role.Service.{Service}
-use Rattle.pdh_shape.specs.Frame.{FrameShape, IsFrame, idle}
+use Rattle.pdh_shape.specs.Frame.{FrameShape, IsFrame}
 use Rattle.pdh_shape.specs.Tributary.{HasTributaries}
 use Rattle.pdh_line.specs.Sending.{Source, came_before, taken, line_bit, odd_before}
 use Rattle.pdh_line.proofs.SentFrames.{line_bit-at}
@@ -23,6 +22,7 @@ use Rattle.pdh_tx.specs.Follows.{Follows}
 use Rattle.pdh_tx.specs.laws.Stepping.{came_follows, read_follows}
 use Rattle.pdh_tx.specs.Passing.{HoldsLine, StepsClear, MakesPiece}
 use Rattle.pdh_tx.proofs.Moving.{inside}
+use Rattle.pdh_tx.proofs.Saying.{says_in}
 use Rattle.pdh_tx.proofs.NodeSteps.{taken_now, taken_then, obstacle_is}
 
 -- bits that are a line's are a part of it
@@ -93,20 +93,14 @@ module _ {W : Type 0} (placed : W → Plan → ℕ → ℕ → Type 0) (held : W
         bounded = λ h. subst (λ v. suc v < 2 ^ 64) (sym (follows.within h).0) made.bounded;
       }
 
-  says_now : (supply : Supply) (old : Position) (was_said next_say say : Service) → say ≡ cond (eqb old.slot 0) next_say was_said → next_say ≡ idle → ((n : ℕ) → supply.says n ≡ idle) → (0 < old.slot → supply.says old.frame ≡ was_said) → supply.says old.frame ≡ say
-  says_now supply old was_said next_say say is next idles kept = elim (cases_lt 0 old.slot) [
-    | inl some ↦ kept some ∙ sym (is ∙ ap (λ b. cond b next_say was_said) (ne_eqb old.slot 0 (λ z. absurd (omega (arith, z, some)))))
-    | inr none ↦ let zero : old.slot ≡ 0 = omega (arith, none) in idles old.frame ∙ sym next ∙ sym (is ∙ ap (λ b. cond b next_say was_said) (eq-eqb old.slot 0 zero))
-  ]
-
   pub node_piece : (u w : List W) (old new : Position) (x len last : ℕ) (was_said next_say say : Service) (bits : List Bool) (is_odd : Bool) (a b : Inputs) → HasTributaries s → map meaning w ≡ map meaning u → length w ≡ s.tribs
-      → say ≡ cond (eqb old.slot 0) next_say was_said → next_say ≡ idle → length bits ≡ len → suc last ≡ old.slot + len → last < s.len
+      → say ≡ cond (eqb old.slot 0) next_say was_said → length bits ≡ len → 0 < len → suc last ≡ old.slot + len → last < s.len
       → NodeAt placed share s path u old plan x → MakesPiece placed held share (map meaning u) s path plan u w old.frame old.slot (old.slot + len) say old.last_odd bits a b
       → Follows s old.frame last new.frame new.slot
       → ((source : Source) → HoldsLine s source old.frame old.slot bits → old.is_odd ≡ odd_within s source old.frame old.slot → is_odd ≡ odd_within s source old.frame (old.slot + len))
       → ((source : Source) → old.last_odd ≡ odd_before s source old.frame → is_odd ≡ odd_within s source old.frame (suc last) → HasParity s source new)
-      → MakesAll (node_meaning s path (map meaning u)) (NodeAt placed share s path w new plan) (NodeFor held meaning s path u old was_said) (NodeFor held meaning s path w new say) plan x (x + len) bits a b
-  node_piece u w old new x len last was_said next_say say bits is_odd a b has same count says_is next long end within was made follows parity keeps =
+      → MakesAll (node_meaning s path (map meaning u)) next_say (NodeAt placed share s path w new plan) (NodeFor held meaning s path u old was_said) (NodeFor held meaning s path w new say) plan x (x + len) bits a b
+  node_piece u w old new x len last was_said next_say say bits is_odd a b has same count says_is long some end within was made follows parity keeps =
       let ms : List Meaning = map meaning u in
       let now = now_is old.frame old.slot x was.place was.inside in
       let then = then_is old.frame old.slot x len last was.place end within in
@@ -124,7 +118,7 @@ module _ {W : Type 0} (placed : W → Plan → ℕ → ℕ → Type 0) (held : W
             let holds = stood.stands in
             let source : Source = source_of path ms supply in
             let P : Plan → Type 0 = λ p. EachHeld held u (below supply) (taken_to s path p old.frame old.slot) (read_to s path p old.frame old.slot) in
-            let said = says_now supply old was_said next_say say says_is next stood.idles holds.said in
+            let said = says_in s old.frame old.slot x was.place was.inside supply was_said next_say say says_is holds.said (stood.said x (omega arith) (omega (arith, some))) in
             let both = made.onward supply stood.plan_is (subst P stood.plan_is holds.each) said holds.parity.last
             (λ k leaf i h. stood.agrees k leaf i h ∙ ap (λ v. supply.lists k (given_by ms plan v k + i)) now) in (
               part_of (line_bit s source) bits x false (λ v h.

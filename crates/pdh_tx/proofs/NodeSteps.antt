@@ -1,8 +1,7 @@
 -- One line bit of a multiplexer with stores, from its steps.
 use mathlib.Core.Path.{fun_ext}
-use Rattle.std.proofs.Common.{◌≡◌, ◌⊎◌, inl, inr, ℕ, zero, suc, ◌+◌, ◌*◌, ◌/◌, ◌%◌, ◌<◌, ◌≤◌, ◌^◌, Bool, List, [], ◌∷◌, length, map, cond, eqb, sym, ap, ◌∙◌, subst, arith, Some, None, slice_get, eq-eqb}
+use Rattle.std.proofs.Common.{◌≡◌, ℕ, zero, suc, ◌+◌, ◌*◌, ◌%◌, ◌<◌, ◌^◌, Bool, List, [], ◌∷◌, length, map, cond, eqb, sym, ap, ◌∙◌, subst, arith, Some, slice_get}
 use Rattle.std.specs.Prelude.{All, flat_map}
-use Rattle.std.proofs.lemmas.Bool.{ne_eqb, cases_lt}
 use Rattle.pdh_edge.specs.Ports.{Inputs}
 use Rattle.pdh_shape.specs.declared.place.Path.{Path}
 use Rattle.pdh_shape.specs.declared.role.Service.{Service}
@@ -21,6 +20,7 @@ use Rattle.pdh_tx.specs.NodeState.{NodeAt, NodeFor, HasParity, KeepsParity}
 use Rattle.pdh_tx.specs.laws.Stepping.{frame_is, slot_is, taken_is, following, came_follows, read_follows}
 use Rattle.pdh_tx.specs.Follows.{Follows}
 use Rattle.pdh_tx.proofs.Moving.{inside}
+use Rattle.pdh_tx.proofs.Saying.{says_in}
 
 -- ---- what holds of all nodes of a tree
 
@@ -126,7 +126,7 @@ module _ {W : Type 0} (placed : W → Plan → ℕ → ℕ → Type 0) (held : W
         place = next;
         onward = λ supply is holds says agrees.
             let P : Plan → Type 0 = λ p. EachHeld held u (below supply) (taken_to s path p old.frame old.slot) (read_to s path p old.frame old.slot) in
-            let said : supply.says old.frame ≡ say = speaks supply (cases_lt 0 old.slot) (slot_is s old.frame old.slot x was.place was.inside) (frame_is s old.frame old.slot x was.place was.inside) holds.said says ∙ sym says_is in
+            let said = says_in s old.frame old.slot x was.place was.inside supply was_said next_say say says_is holds.said says in
             let both = made.onward supply is (subst P is holds.each) said holds.parity.last
             (λ k leaf i h. agrees k leaf i h ∙ ap (λ v. supply.lists k (given_by ms plan v k + i)) now) in
             let line : line_bit s (source_of path ms supply) x ≡ slot_bit s (source_of path ms supply) old.frame old.slot (s.role old.slot) =
@@ -145,11 +145,3 @@ module _ {W : Type 0} (placed : W → Plan → ℕ → ℕ → Type 0) (held : W
               },
             );
       }
-    where
-      speaks : (supply : Supply) → (0 < old.slot) ⊎ (old.slot ≤ 0) → x % s.len ≡ old.slot → x / s.len ≡ old.frame → (0 < old.slot → supply.says old.frame ≡ was_said)
-          → ((n : ℕ) → cond (eqb (x % s.len) 0) (Some (x / s.len)) None ≡ Some n → supply.says n ≡ next_say) → supply.says old.frame ≡ cond (eqb old.slot 0) next_say was_said
-      speaks supply (inl some) slot frame' kept begins = kept some ∙ sym (ap (λ b. cond b next_say was_said) (ne_eqb old.slot 0 (λ z. absurd (omega (arith, z, some)))))
-      speaks supply (inr none) slot frame' kept begins =
-          let zero : old.slot ≡ 0 = omega (arith, none) in
-          begins old.frame (ap (λ v. cond (eqb v 0) (Some (x / s.len)) None) slot ∙ ap (λ b. cond b (Some (x / s.len)) None) (eq-eqb old.slot 0 zero) ∙ ap Some frame')
-          ∙ sym (ap (λ b. cond b next_say was_said) (eq-eqb old.slot 0 zero))

@@ -53,7 +53,7 @@ part_drop line xs a k h p =
 module _ {C : Type 0} (stands_at : C → Plan → ℕ → Type 0) (stands_for : C → Supply → ℕ → Type 0) (meaning : C → Meaning) (says : C → Service) (is_stopped : C → Bool) (old new : C) (plan : Plan) (store bits : List Bool) (made read gone : ℕ) where
   pub pass_placed : (a b : Inputs) (to : ℕ) → says new ≡ says old → is_stopped new ≡ false → gone ≤ length (store ++ bits)
       → Placed stands_at says is_stopped old store plan made read
-      → MakesAll (meaning old) (stands_at new plan) (stands_for old) (stands_for new) plan made to bits a b
+      → MakesAll (meaning old) (says old) (stands_at new plan) (stands_for old) (stands_for new) plan made to bits a b
       → Placed stands_at says is_stopped new (drop gone (store ++ bits)) plan to (read + gone)
   pass_placed a b to same runs enough was makes = record {
     runs = runs;
@@ -67,7 +67,7 @@ module _ {C : Type 0} (stands_at : C → Plan → ℕ → Type 0) (stands_for : 
       → reads_below s j more first + gone ≡ reads_below s j more (first + length slots)
       → ((v i : ℕ) → v < length slots → reads_from j more (s.role (first + v)) ≡ true → reads_below s j more first + i ≡ reads_below s j more (first + v) → i < gone)
       → Placed stands_at says is_stopped old store plan made read
-      → MakesAll (meaning old) (stands_at new plan) (stands_for old) (stands_for new) plan made to bits a b
+      → MakesAll (meaning old) (says old) (stands_at new plan) (stands_for old) (stands_for new) plan made to bits a b
       → Writes s j more first (λ i. get_or (store ++ bits) i false) 0 slots
       → Gains (meaning old) plan (Held stands_for meaning old store) (HeldAndWritten stands_for meaning s j more first new (drop gone (store ++ bits)) slots gone) made to read a b
   pass_gains a b to s j more first slots same enough all within placed makes writes = record {
@@ -77,7 +77,7 @@ module _ {C : Type 0} (stands_at : C → Plan → ℕ → Type 0) (stands_for : 
     exact = makes.gives.exact;
     onward = λ supply plan_is was agrees.
         let line : ℕ → Bool = (meaning new).line supply in
-        let next = makes.onward supply (record { plan_is = plan_is; idles = was.quiet; stands = was.made_for; agrees = agrees }) in
+        let next = makes.onward supply (record { plan_is = plan_is; said = λ y l h n e. was.quiet n ∙ sym placed.idles; stands = was.made_for; agrees = agrees }) in
         let P : Meaning → Type 0 = λ m. IsPart (m.line supply) store read in
         let Q : Meaning → Type 0 = λ m. IsPart (m.line supply) bits made in
         let whole : IsPart line (store ++ bits) read = part_then line store bits read made placed.count (subst P (sym same) was.holds) (subst Q (sym same) next.0) in (

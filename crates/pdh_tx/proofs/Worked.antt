@@ -6,9 +6,8 @@ use Rattle.std.proofs.lemmas.Bool.Decides.{nat_tests}
 use Rattle.pdh_shape.specs.declared.place.Level.{Level}
 use Rattle.pdh_shape.specs.declared.place.Path.{Path}
 use Rattle.pdh_shape.specs.Sets.{e2}
-use Rattle.pdh_levels.specs.Levels.{level_numbers}
 use Rattle.pdh_line.specs.Sending.{shape_numbers}
-use Rattle.pdh_tx.specs.Meaning.{IsNodeOf}
+use Rattle.pdh_tx.specs.Meaning.{HasNumbers, IsNodeOf}
 use Rattle.pdh_tx.specs.Leaf.{four_leaves}
 use Rattle.pdh_tx.specs.Node.{any_leaf, node_frame, node_meaning}
 
@@ -20,7 +19,7 @@ pub below_four : (k : ℕ) → any_leaf four_leaves k ≡ true → k < 4
 below_four k leaf = grind (arith, nat_tests)
 
 -- it is the one node of the chain of one level with its numbers
-pub one_node : (levels : List Level) (level : Level) → levels ≡ level ∷ [] → level_numbers level ≡ shape_numbers e2 → All (IsNodeOf levels) (node_meaning e2 top four_leaves).nodes
+pub one_node : (levels : List Level) (level : Level) → levels ≡ level ∷ [] → HasNumbers level (shape_numbers e2) → All (IsNodeOf levels) (node_meaning e2 top four_leaves).nodes
 one_node levels level is numbers = subst (λ ls. All (IsNodeOf ls) (node_frame e2 top ∷ [])) (sym is) (λ k d h. elim (cases_lt k 1) [
   | inl first ↦
       let zero : k ≡ 0 = omega (arith, first) in

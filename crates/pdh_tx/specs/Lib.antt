@@ -4,6 +4,7 @@ pub mod Leaf
 pub mod Held
 pub mod Tributary
 pub mod Node
+pub mod Locked
 pub mod NodeState
 pub mod Making
 pub mod Passing

@@ -1,16 +1,17 @@
 -- Many bits of a line at once.
 use Rattle.std.specs.Prelude.{◌≡◌, ℕ, ◌+◌, ◌<◌, ◌≤◌, Bool, true, false, List, [], length, None}
 use Rattle.pdh_edge.specs.Ports.{Inputs, Takes}
-use Rattle.pdh_shape.specs.Frame.{idle}
-use Rattle.pdh_tx.specs.Meaning.{Plan, Supply, Meaning, Fits, Agrees}
+use Rattle.pdh_shape.specs.declared.role.Service.{Service}
+use Rattle.pdh_tx.specs.Meaning.{Plan, Supply, Meaning, Fits, Agrees, Says}
 use Rattle.pdh_tx.specs.Held.{IsPart}
 
--- a supply that the sender stood for after so many bits: its service bits are idle, and its lists have these bits next
-pub record Stood (m : Meaning) (stands_for : Supply → ℕ → Type 0) (plan : Plan) (from : ℕ) (given : ℕ → List Bool) (supply : Supply) : Type 0 where
+-- a supply that the sender stood for after so many bits: the frames that begin before bit `to` say `now`, and its lists have
+-- these bits next
+pub record Stood (m : Meaning) (now : Service) (stands_for : Supply → ℕ → Type 0) (plan : Plan) (from to : ℕ) (given : ℕ → List Bool) (supply : Supply) : Type 0 where
   -- it has this schedule
   pub plan_is : supply.plan ≡ plan
-  -- every frame says that it is idle
-  pub idles : (n : ℕ) → supply.says n ≡ idle
+  -- each frame that a bit between the two places begins says this
+  pub said : (y : ℕ) → from ≤ y → y < to → Says m supply now y
   -- the sender stood for it
   pub stands : stands_for supply from
   -- the bits of its lists from there on
@@ -32,9 +33,9 @@ pub record IsClear (m : Meaning) (plan : Plan) (from to : ℕ) (inputs : Inputs)
   pub fits : Fits m plan from inputs size
   pub clear : (y : ℕ) → from ≤ y → y < to → m.obstacle plan size y ≡ None
 
--- Bits of the line were made, between two places. `placed` tells how many bits the new state has made, and `old` and `new`
--- which supplies the states stand for.
-pub record MakesAll (m : Meaning) (placed : ℕ → Type 0) (old new : Supply → ℕ → Type 0) (plan : Plan) (from to : ℕ) (bits : List Bool) (before after : Inputs) : Type 0 where
+-- Bits of the line were made, between two places. `now` is what the frames say that they begin; `placed` tells how many bits
+-- the new state has made, and `old` and `new` which supplies the states stand for.
+pub record MakesAll (m : Meaning) (now : Service) (placed : ℕ → Type 0) (old new : Supply → ℕ → Type 0) (plan : Plan) (from to : ℕ) (bits : List Bool) (before after : Inputs) : Type 0 where
   -- the bits that the leaves gave
   pub given : ℕ → List Bool
   pub gives : Gives m plan from to given before after
@@ -43,4 +44,4 @@ pub record MakesAll (m : Meaning) (placed : ℕ → Type 0) (old new : Supply �
   -- the sender has made as many
   pub place : placed to
   -- they are the line's for every supply that the old state stood for, and the new state stands for it
-  pub onward : (supply : Supply) → Stood m old plan from given supply → IsPart (m.line supply) bits from × new supply to
+  pub onward : (supply : Supply) → Stood m now old plan from to given supply → IsPart (m.line supply) bits from × new supply to

@@ -8,9 +8,9 @@ use Rattle.pdh_shape.specs.declared.role.Service.{Service}
 use Rattle.pdh_shape.specs.declared.place.Path.{Path}
 use Rattle.pdh_shape.specs.declared.place.Level.{Level}
 use Rattle.pdh_shape.specs.Frame.{idle}
-use Rattle.pdh_levels.specs.Levels.{level_at, level_numbers}
+use Rattle.pdh_levels.specs.Levels.{level_at}
 use Rattle.pdh_line.specs.Paths.{steps_of}
-use Rattle.pdh_line.specs.Progress.{FrameNumbers}
+use Rattle.pdh_line.specs.Progress.{FrameNumbers, Stores, by_stores}
 use Rattle.pdh_clock.specs.Contents.{Contents, frame_count, counts}
 use Rattle.pdh_tx.specs.declared.tx.TxStop.{TxStop}
 use Rattle.pdh_tx.specs.declared.tx.TxStop.TheVariants.{Failed, Ended}
@@ -39,11 +39,23 @@ pub record NodeFrame : Type 0 where
   pub path : Path
   pub numbers : FrameNumbers
 
--- it is a node of a chain with these levels, and its level has the same numbers
+-- a node with these stores has none
+abbrev pub is_locked : Stores → Bool
+is_locked stores = by_stores stores false (λ reads. true)
+
+-- A level has these numbers. It doesn't tell which tributary a slot reads, so of a node without stores it tells that there
+-- are none.
+pub record HasNumbers (level : Level) (numbers : FrameNumbers) : Type 0 where
+  pub len : level.len ≡ numbers.len
+  pub tribs : level.tribs ≡ numbers.tribs
+  pub low : level.low ≡ numbers.low
+  pub locked : level.locked ≡ is_locked numbers.stores
+
+-- it is a node of a chain with these levels, and its level has its numbers
 pub record IsNodeOf (levels : List Level) (node : NodeFrame) : Type 0 where
   pub level : Level
   pub at : level_at levels (steps_of node.path) ≡ Some level
-  pub numbers : level_numbers level ≡ node.numbers
+  pub numbers : HasNumbers level node.numbers
 
 -- ---- a multiplexer
 

@@ -102,15 +102,21 @@ node_obstacle s path ms plan size x =
 abbrev pub node_frame : FrameShape → Path → NodeFrame
 node_frame s path = record { path = path; numbers = shape_numbers s }
 
-abbrev pub node_meaning : FrameShape → Path → List Meaning → Meaning
-node_meaning s path ms = record {
+-- a node at a path that has these children, where `came` tells how many bits of tributary j it has taken by the time when x
+-- bits of its line are made, and `first` what stands first in the way of bit x
+abbrev pub meaning_with : FrameShape → Path → List Meaning → (Plan → ℕ → ℕ → ℕ) → (Plan → (ℕ → ℕ) → ℕ → Option TxStop) → Meaning
+meaning_with s path ms came first = record {
   nodes = node_frame s path ∷ flat_map (λ m. m.nodes) ms;
   leaves = any_leaf ms;
   line = λ supply x. line_bit s (source_of path ms supply) x;
-  given = λ plan x k. given_by ms plan (λ j. taken s (plan.counts path j) x) k;
+  given = λ plan x k. given_by ms plan (λ j. came plan j x) k;
   begins = λ x. (if x % s.len == 0 then Some (x / s.len) else None);
-  obstacle = node_obstacle s path ms;
+  obstacle = first;
 }
+
+-- with a store for each child
+abbrev pub node_meaning : FrameShape → Path → List Meaning → Meaning
+node_meaning s path ms = meaning_with s path ms (λ plan j x. taken s (plan.counts path j) x) (node_obstacle s path ms)
 
 -- ---- the state of a node's tributaries
 

@@ -18,4 +18,5 @@ mod tx;
 
 pub use leaf::Leaf;
 pub use node::Node;
+pub use position::{Position, after, moved, said};
 pub use tx::{Tx, TxStop};

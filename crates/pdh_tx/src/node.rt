@@ -1,6 +1,5 @@
-ghost use Rattle.std.specs.Prelude.{◌≡◌, ◌<◌, ◌≤◌, ◌+◌, ◌%◌, ◌/◌, ◌==◌, ℕ, if◌then◌else◌, All, length, map, OnOk, OnErr, IfOk, IfErr, List};
+ghost use Rattle.std.specs.Prelude.{◌≡◌, ◌<◌, ◌≤◌, ◌+◌, ◌%◌, ◌/◌, ℕ, All, length, map, OnOk, OnErr, IfOk, IfErr, List};
 ghost use Rattle.pdh_edge.specs.Ports.{HasCause};
-ghost use Rattle.pdh_shape.specs.Frame.{idle};
 ghost use Rattle.pdh_line.specs.Sending.{taken, read_before};
 ghost use Rattle.pdh_tx.specs.Meaning.{Plan, Supply, plan_of, Meaning, Makes, Stops, IsFresh};
 ghost use Rattle.pdh_tx.specs.Held.{Halts};
@@ -11,7 +10,7 @@ ghost use Rattle.pdh_tx.specs.Tributaries.{meaning_of, AreFed, IsAt, IsFor};
 ghost use Rattle.pdh_tx.specs.laws.NodeLaws.{node_grows};
 
 use crate::pieces::Piece;
-use crate::position::{Position, after, moved};
+use crate::position::{Position, after, moved, said};
 use crate::tributaries::Tributaries;
 use crate::{Tx, TxStop};
 use pdh_clock::Schedule;
@@ -20,16 +19,6 @@ use pdh_shape::{Path, Service, Shape};
 use pdh_slots::SlotTables;
 use std::alloc::{AllocError, Global};
 use std::rc::Rc;
-
-// What a frame says: that of the next frame where a slot begins one.
-fn said(slot: u32, say: Service, next_say: Service) -> Service
-    ensures { result ≡ (if slot == 0 then next_say else say) }
-{
-    if slot == 0 {
-        return next_say;
-    }
-    say
-}
 
 /// A multiplexer with an elastic store for each of its children.
 pub struct Node<S: Shape, C: Tx> {
@@ -160,13 +149,12 @@ impl<S: Shape, C: Tx> Node<S, C> {
         into: &mut [bool],
     ) -> Result<(), Failed>
         requires fed { AreFed self.old.tributaries self.old.path clock.now (F.inputs feed.old) }
-        requires idles { self.old.next_say ≡ idle }
         requires some { 0 < length into.old }
         requires inside { self.old.at.slot + length into.old ≤ S.LEN }
         requires clear { let tx = ⟦<Node<S, C> as Tx>⟧ in let plan = plan_of clock.now in (x : ℕ) × (tx.stands_at self.old plan x)
             × (IsClear (tx.meaning self.old) plan x (x + length into.old) (F.inputs feed.old)) }
         ensures made { let tx = ⟦<Node<S, C> as Tx>⟧ in let plan = plan_of clock.now in OnOk result ((x : ℕ) → tx.stands_at self.old plan x
-            → MakesAll (tx.meaning self.old) (tx.stands_at self.new plan) (tx.stands_for self.old) (tx.stands_for self.new) plan x (x + length into.old)
+            → MakesAll (tx.meaning self.old) self.old.next_say (tx.stands_at self.new plan) (tx.stands_for self.old) (tx.stands_for self.new) plan x (x + length into.old)
             into.new (F.inputs feed.old) (F.inputs feed.new)) }
         ensures halts { let tx = ⟦<Node<S, C> as Tx>⟧ in let plan = plan_of clock.now in OnErr result ((x : ℕ) → tx.stands_at self.old plan x
             → Halts (tx.meaning self.old) plan x (x + length into.old) TxStop.Failed (F.inputs feed.old) (F.inputs feed.new)) }

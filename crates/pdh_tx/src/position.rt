@@ -1,11 +1,11 @@
-ghost use Rattle.std.specs.Prelude.{◌≡◌, ◌<◌, ◌^◌, suc};
+ghost use Rattle.std.specs.Prelude.{◌≡◌, ◌<◌, ◌^◌, ◌==◌, suc, if◌then◌else◌};
 ghost use Rattle.pdh_line.specs.Sending.{Source, odd_before};
 ghost use Rattle.pdh_slots.specs.Slots.{is_payload as is_payload_role};
 ghost use Rattle.pdh_tx.specs.Node.{odd_within};
 ghost use Rattle.pdh_tx.specs.Follows.{Follows};
 ghost use Rattle.pdh_tx.specs.NodeState.{HasParity, KeepsParity};
 
-use pdh_shape::{Role, Shape};
+use pdh_shape::{Role, Service, Shape};
 
 /// The slot before which a node stands, and the parities of its information and justifiable slots.
 #[derive(Clone, Copy, Debug, PartialEq, Eq)]
@@ -25,6 +25,16 @@ fn is_payload(role: Role) -> bool
     ensures { result ≡ is_payload_role role }
 {
     matches!(role, Role::Info(_) | Role::Just(_))
+}
+
+/// What a frame says in a slot: what the next frame is to say, where the slot begins one.
+pub fn said(slot: u32, say: Service, next_say: Service) -> Service
+    ensures { result ≡ (if slot == 0 then next_say else say) }
+{
+    if slot == 0 {
+        return next_say;
+    }
+    say
 }
 
 /// The position after the bit of a slot.

@@ -1,6 +1,5 @@
 ghost use Rattle.std.specs.Prelude.{◌≡◌, ◌≤◌, ◌+◌, ℕ, suc, Bool, true, false, All, length, IfOk, OnOk, IfErr, OnErr};
 ghost use Rattle.pdh_edge.specs.Ports.{HasCause};
-ghost use Rattle.pdh_shape.specs.Frame.{idle};
 ghost use Rattle.pdh_shape.specs.declared.role.Service.{Service};
 ghost use Rattle.pdh_tx.specs.Meaning.{Supply, Plan, plan_of, Meaning, IsNodeOf, HoldsAll, Makes, Stops};
 ghost use Rattle.pdh_tx.specs.Held.{Halts};
@@ -29,8 +28,9 @@ pub enum TxStop {
 /// whether the frame is scheduled; in slot 0 of frame 0 the tributaries in order take their leads; in
 /// slot 0 the frame's decisions are made; each tributary in order takes the bit that arrives in the
 /// slot, if there is one; and the slot's bit is made, with a read of a store where it carries a
-/// tributary's bit. Where a tributary is a multiplexer, taking its next bit makes that bit with all
-/// its steps.
+/// tributary's bit. A multiplexer without stores has no leads, decisions and arrivals: a slot that
+/// reads a tributary takes its next bit at once. Where a tributary is a multiplexer, taking its next
+/// bit makes that bit with all its steps.
 pub trait Tx: Drop {
     /// The state has made so many bits by this schedule.
     ghost stands_at: { Self → Plan → ℕ → Type 0 };
@@ -77,6 +77,7 @@ pub trait Tx: Drop {
 
     /// Makes the next bits of the line, as many as `into` has, in whose way nothing stands; it fails
     /// only where the feed's count of faults rose, and the leaves gave no more than these bits take.
+    /// Each frame that they begin says the same.
     fn make_clear<F: Feed>(
         &mut self,
         clock: &Schedule,
@@ -86,12 +87,11 @@ pub trait Tx: Drop {
         requires running { is_stopped self.old ≡ false }
         requires lists { HoldsAll (meaning self.old).leaves (F.inputs feed.old) }
         requires nodes { All (IsNodeOf clock.now.levels) (meaning self.old).nodes }
-        requires idles { says self.old ≡ idle }
         requires clear { (x : ℕ) × (stands_at self.old (plan_of clock.now) x)
             × (IsClear (meaning self.old) (plan_of clock.now) x (x + length into.old)
             (F.inputs feed.old)) }
         ensures made { OnOk result ((x : ℕ) → stands_at self.old (plan_of clock.now) x
-            → MakesAll (meaning self.old) (stands_at self.new (plan_of clock.now))
+            → MakesAll (meaning self.old) (says self.old) (stands_at self.new (plan_of clock.now))
             (stands_for self.old) (stands_for self.new) (plan_of clock.now) x
             (x + length into.old) into.new (F.inputs feed.old) (F.inputs feed.new)) }
         ensures halts { OnErr result ((x : ℕ) → stands_at self.old (plan_of clock.now) x

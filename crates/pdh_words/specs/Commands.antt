@@ -1,10 +1,11 @@
 -- The command that the words of a command line are.
-use Rattle.std.specs.Prelude.{ℕ, ◌&&◌, List, [], ◌∷◌, codes, Option, Some, None, find, if◌then◌else◌}
+use Rattle.std.specs.Prelude.{ℕ, ◌<◌, ⊤, nat_le, ◌&&◌, List, [], ◌∷◌, codes, Option, Some, None, find, if◌then◌else◌}
 use Rattle.std.specs.Str.{bytes_eq}
 use Rattle.pdh_clock.specs.Text.{◌>>=◌, number_of}
 use Rattle.pdh_clock.specs.declared.bias.Bias.{Bias}
 use Rattle.pdh_clock.specs.declared.bias.Bias.TheVariants.{Nominal, Fast, Slow, Mixed}
 use Rattle.pdh_chain.specs.declared.chain.Chain.{Chain}
+use Rattle.pdh_chain.specs.declared.chain.Chain.TheVariants.{C13}
 use Rattle.pdh_chain.specs.Chains.{chains, name_of}
 use Rattle.pdh_words.specs.declared.commands.Command.{Command}
 use Rattle.pdh_words.specs.declared.commands.Command.TheVariants.{Demux, Mux, ClockCheck, ClockMake}
@@ -25,7 +26,13 @@ bias_of word =
 abbrev pub conversion_of : List ℕ → Chain → Option Command
 conversion_of word chain =
     (if bytes_eq word (codes "demux") then Some (Demux chain)
-    else (if bytes_eq word (codes "mux") then Some (Mux chain) else None))
+    else (if bytes_eq word (codes "mux") then Some (Mux chain None) else None))
+
+-- `mux` of a line with C-bit parity that sends this code, a number of at most 63, over the far end alarm and control channel
+abbrev pub sending_of : List ℕ → Option Command
+sending_of code_word = do
+  code ← number_of code_word
+  if nat_le code 63 then Some (Mux C13 (Some code)) else None
 
 -- `clock make` of a chain, of so many frames with such offsets
 abbrev pub making_of : List ℕ → List ℕ → List ℕ → Option Command
@@ -35,8 +42,8 @@ making_of chain_word frames_word bias_word = do
   bias ← bias_of bias_word
   Some (ClockMake chain frames bias)
 
--- the command of these words, if they are a row of the table: `mux CHAIN`, `demux CHAIN`, `clock check CHAIN`, and
--- `clock make CHAIN FRAMES BIAS`
+-- the command of these words, if they are a row of the table: `mux CHAIN`, `demux CHAIN`, `clock check CHAIN`,
+-- `mux c13 feac CODE`, and `clock make CHAIN FRAMES BIAS`
 abbrev pub command_of : List (List ℕ) → Option Command
 command_of (a ∷ chain_word ∷ []) = do
   chain ← chain_of chain_word
@@ -44,6 +51,13 @@ command_of (a ∷ chain_word ∷ []) = do
 command_of (a ∷ b ∷ chain_word ∷ []) = do
   chain ← chain_of chain_word
   if bytes_eq a (codes "clock") && bytes_eq b (codes "check") then Some (ClockCheck chain) else None
+command_of (a ∷ chain_word ∷ b ∷ code ∷ []) =
+    if bytes_eq a (codes "mux") && (bytes_eq chain_word (codes "c13") && bytes_eq b (codes "feac")) then sending_of code else None
 command_of (a ∷ b ∷ chain_word ∷ frames ∷ bias ∷ []) =
     if bytes_eq a (codes "clock") && bytes_eq b (codes "make") then making_of chain_word frames bias else None
 command_of _ = None
+
+-- a code that is sent has six bits
+abbrev pub HasCode : Command → Type 0
+HasCode (Mux chain (Some code)) = code < 64
+HasCode _ = ⊤

@@ -9,10 +9,12 @@ pub enum Command {
         /// The chain of the line.
         chain: Chain,
     },
-    /// `mux CHAIN`: makes a line from its leaves.
+    /// `mux CHAIN` or `mux c13 feac CODE`: makes a line from its leaves.
     Mux {
         /// The chain of the line.
         chain: Chain,
+        /// The code below 64 that it sends over the far end alarm and control channel.
+        feac: Option<u8>,
     },
     /// `clock check CHAIN`: tells whether a schedule is within the tolerance.
     ClockCheck {

@@ -1,6 +1,6 @@
-ghost use Rattle.std.specs.Prelude.{◌≡◌, map};
+ghost use Rattle.std.specs.Prelude.{◌≡◌, map, IfSome};
 ghost use Rattle.std.specs.String.{string_bytes};
-ghost use Rattle.pdh_words.specs.Commands.{chain_of, bias_of, conversion_of, making_of, command_of};
+ghost use Rattle.pdh_words.specs.Commands.{chain_of, bias_of, conversion_of, sending_of, making_of, command_of, HasCode};
 
 use crate::commands::Command;
 use pdh_chain::{Chain, all_chains};
@@ -35,9 +35,23 @@ fn conversion(word: &str, chain: Chain) -> Option<Command>
 {
     match word {
         "demux" => Some(Command::Demux { chain }),
-        "mux" => Some(Command::Mux { chain }),
+        "mux" => Some(Command::Mux { chain, feac: None }),
         _ => None,
     }
+}
+
+// The making of a line with C-bit parity that sends a code.
+fn sending(code_word: &str) -> Option<Command>
+    ensures { result ≡ sending_of code_word.now }
+{
+    let code = number(code_word.as_bytes())?;
+    if code > 63 {
+        return None;
+    }
+    Some(Command::Mux {
+        chain: Chain::C13,
+        feac: Some(code as u8),
+    })
 }
 
 // The making of a schedule, by its chain, its number of frames and its offsets.
@@ -55,10 +69,11 @@ fn making(chain_word: &str, frames: &str, bias_word: &str) -> Option<Command>
 }
 
 /// The command of the words, without the program's own name, if they are a row of the table: `mux CHAIN`, `demux CHAIN`,
-/// `clock check CHAIN`, or `clock make CHAIN FRAMES BIAS` with a number and `nominal`, `fast`, `slow` or `mixed`. CHAIN is
-/// the name of a chain.
+/// `mux c13 feac CODE` with a number of at most 63, `clock check CHAIN`, or `clock make CHAIN FRAMES BIAS` with a number and
+/// `nominal`, `fast`, `slow` or `mixed`. CHAIN is the name of a chain.
 pub fn command(words: &[String]) -> Option<Command>
-    ensures { result ≡ command_of (map string_bytes words.now) }
+    ensures is { result ≡ command_of (map string_bytes words.now) }
+    ensures code { IfSome result HasCode }
 {
     match words {
         [first, chain_word] => conversion(first.as_str(), chain(chain_word.as_str())?),
@@ -67,6 +82,10 @@ pub fn command(words: &[String]) -> Option<Command>
             (first.as_str() == "clock" && second.as_str() == "check").then_some(
                 Command::ClockCheck { chain },
             )
+        }
+        [first, second, third, code]
+            if first.as_str() == "mux" && second.as_str() == "c13" && third.as_str() == "feac" => {
+            sending(code.as_str())
         }
         [first, second, chain, frames, bias]
             if first.as_str() == "clock" && second.as_str() == "make" => {

@@ -1,4 +1,4 @@
-use Rattle.std.proofs.Common.{refl, arith}
+use Rattle.std.proofs.Common.{◌≡◌, ◌+◌, ◌∙◌, refl, sym, arith}
 use Rattle.std.proofs.lemmas.Result.{err_from_is_err_and}
 use Rattle.pdh_tx.specs.Meaning.{plan_of}
 use Rattle.pdh_chain.proofs.Frames.{makes_start, makes_more, stops_making}
@@ -7,13 +7,13 @@ use Rattle.pdh_chain.proofs.sending.make_frame.Goals as goal
 pub loop-made-init : goal.loop-made-init
 loop-made-init g c = record {
   running = c.requires.running;
-  idles = c.requires.idles;
+  same_says = refl;
   same = refl;
   fed = g.met.F.Feed.fed_same c.args.feed.now;
   len = c.clear.ensures.len;
   room = c.clear.ensures.capacity;
-  makes = λ x here.
-      makes_start (g.T.Tx.meaning c.args.sender.now) (g.T.Tx.stands_at c.args.sender.now (plan_of c.args.clock.now)) (g.T.Tx.stands_for c.args.sender.now) (plan_of c.args.clock.now) x _ _ (g.F.Feed.inputs c.args.feed.now) (omega arith)
+  makes = λ x says here told.
+      makes_start (g.T.Tx.meaning c.args.sender.now) says (g.T.Tx.stands_at c.args.sender.now (plan_of c.args.clock.now)) (g.T.Tx.stands_for c.args.sender.now) (plan_of c.args.clock.now) x _ _ (g.F.Feed.inputs c.args.feed.now) (omega arith)
       c.clear.ensures.items here;
 }
 
@@ -22,8 +22,8 @@ returns-in_err-bit-clause-stops g c =
     let p = err_from_is_err_and c.from_residual.result c.from_residual.ensures.1 in
     rw (p.1, p.2)
     (λ x here.
-    let makes = c.loop-made.invariant.makes x here in
-    stops_making (g.T.Tx.meaning c.args.sender.now) (g.T.Tx.meaning c.loop-made.sender) _ _ _ (plan_of c.args.clock.now) x _ _ c.loop-made.frame.items _ (g.F.Feed.inputs c.args.feed.now) (g.F.Feed.inputs c.loop-made.feed)
+    let makes = c.loop-made.invariant.makes x (λ n. g.T.Tx.says c.args.sender.now) here (λ y n l h begins. refl) in
+    stops_making (g.T.Tx.meaning c.args.sender.now) (g.T.Tx.meaning c.loop-made.sender) (λ n. g.T.Tx.says c.args.sender.now) _ _ _ (plan_of c.args.clock.now) x _ _ c.loop-made.frame.items _ (g.F.Feed.inputs c.args.feed.now) (g.F.Feed.inputs c.loop-made.feed)
     (g.F.Feed.inputs c.next.new.feed) _ _ _ makes c.loop-made.invariant.same (g.met.F.Feed.fed_counts c.args.feed.now c.loop-made.feed c.loop-made.invariant.fed) (omega arith) (c.in_err-bit.ensures.stops _ makes.place))
 
 pub loop-made-preserved : goal.loop-made-preserved
@@ -31,13 +31,25 @@ loop-made-preserved g c =
     let inv = c.loop-made.invariant in
     record {
       running = c.in_ok-bit.ensures.running;
-      idles = cc;
+      same_says = cc;
       same = cc;
       fed = g.met.F.Feed.fed_join c.args.feed.now c.loop-made.feed c.next.new.feed inv.fed c.next.ensures.fed;
       len = omega arith;
       room = cc;
-      makes = λ x here.
-          let makes = inv.makes x here in
-          makes_more (g.T.Tx.meaning c.args.sender.now) (g.T.Tx.meaning c.loop-made.sender) (g.T.Tx.says c.loop-made.sender) _ _ _ _ _ (plan_of c.args.clock.now) x _ _ c.loop-made.frame.items _ _ (g.F.Feed.inputs c.args.feed.now)
-          (g.F.Feed.inputs c.loop-made.feed) (g.F.Feed.inputs c.next.new.feed) inv.same inv.idles (omega arith) c.push_reserved.ensures.items makes (c.in_ok-bit.ensures.made _ makes.place);
+      makes = λ x says here told.
+          let makes = inv.makes x says here told in
+          makes_more (g.T.Tx.meaning c.args.sender.now) (g.T.Tx.meaning c.loop-made.sender) says (g.T.Tx.says c.loop-made.sender) _ _ _ _ _ (plan_of c.args.clock.now) x _ _ c.loop-made.frame.items _ _ (g.F.Feed.inputs c.args.feed.now)
+          (g.F.Feed.inputs c.loop-made.feed) (g.F.Feed.inputs c.next.new.feed) inv.same (λ n begins. told (x + c.loop-made._made) n (omega arith) (omega (arith, c.loop-made-test.true)) begins ∙ sym inv.same_says) (omega arith) c.push_reserved.ensures.items makes (c.in_ok-bit.ensures.made _ makes.place);
     }
+
+pub next-requires-clause-stands : goal.next-requires-clause-stands
+next-requires-clause-stands g c = (
+  c.requires.stands.0 + c.loop-made._made,
+  (c.loop-made.invariant.makes c.requires.stands.0 (λ n. g.T.Tx.says c.args.sender.now) c.requires.stands.1 (λ y n l h begins. refl)).place,
+)
+
+pub returns-clause-made : goal.returns-clause-made
+returns-clause-made g c x says here told =
+    let all : c.loop-made._made ≡ c.args.len = omega (arith, c.loop-made-test.false, c.loop-made.auto._made-end) in
+    let made = c.loop-made.invariant.makes x says here told in
+    rw (sym all) made

@@ -1,40 +1,54 @@
-use Rattle.std.proofs.Common.{◌≡◌, ◌≤◌, ◌+◌, ◌*◌, refl, ap, ◌∙◌, arith}
-use Rattle.pdh_tx.specs.Meaning.{plan_of}
-use Rattle.pdh_chain.proofs.Frames.{sending_none, sending_more, sending_sends, sending_stops, sending_fails, frame_end}
+use Rattle.std.proofs.Common.{◌≡◌, ◌≤◌, ◌+◌, ◌*◌, refl, sym, ap, subst, ◌∙◌, arith}
+use Rattle.pdh_tx.specs.Meaning.{Meaning, plan_of}
+use Rattle.pdh_chain.specs.Saying.{says_of}
+use Rattle.pdh_chain.specs.Muxing.{SayInFrames, HasFrames}
+use Rattle.pdh_chain.proofs.Frames.{Sending, sending_none, sending_set, sending_more, sending_sends, sending_stops, sending_fails, says_in_frame, frame_end}
 use Rattle.pdh_chain.proofs.sending.send_frames.Goals as goal
 
 pub loop-whole-init : goal.loop-whole-init
 loop-whole-init g c = record {
   running = c.requires.running;
-  idles = c.requires.idles;
+  said = c.channel_of-channel.ensures;
   same = refl;
   room = refl;
   kept = g.met.P.Port.kept_same c.args.port.now;
   lists = refl;
   lines = refl;
-  sending = sending_none (g.T.Tx.meaning c.args.sender.now) (g.T.Tx.stands_at c.args.sender.now (plan_of c.args.clock.now)) (g.T.Tx.stands_for c.args.sender.now) (plan_of c.args.clock.now) _ _ _ (omega arith) c.requires.stands;
+  sending = sending_none (g.T.Tx.meaning c.args.sender.now) (says_of c.args.feac) (g.T.Tx.stands_at c.args.sender.now (plan_of c.args.clock.now)) (g.T.Tx.stands_for c.args.sender.now) (plan_of c.args.clock.now) _ _ _ (omega arith) c.requires.stands;
 }
 
 pub returns-in-Err-clause-stops : goal.returns-in-Err-clause-stops
 returns-in-Err-clause-stops g c =
+    let plan = plan_of c.args.clock.now in
     let inv = c.loop-whole.invariant in
-    sending_stops (g.T.Tx.meaning c.args.sender.now) (g.T.Tx.meaning c.loop-whole.sender) _ _ _ (plan_of c.args.clock.now) c.args.len c.args.frames c.loop-whole._whole _ _ _ _ _ _ _ _ _ _ inv.same
-    (g.met.P.Port.fed_keeps_outputs c.loop-whole.port c.make_frame.new.feed c.make_frame.ensures.fed).0 c.loop-whole-test.true (g.met.P.Port.kept_counts c.args.port.now c.loop-whole.port inv.kept).0 inv.sending
-    (c.in-Err.ensures.stops _ inv.sending.makes.place)
+    let m = g.T.Tx.meaning c.args.sender.now in
+    let same : g.T.Tx.meaning c.set.new.self ≡ g.T.Tx.meaning c.args.sender.now = c.set.ensures.meaning ∙ inv.same in
+    let sending : Sending m (says_of c.args.feac) (g.T.Tx.stands_at c.set.new.self plan) (g.T.Tx.stands_for c.args.sender.now) (g.T.Tx.stands_for c.set.new.self) plan (c.loop-whole._whole * c.args.len) (g.P.Feed.inputs c.args.port.now) (g.P.Feed.inputs c.loop-whole.port) (g.P.Drain.outputs c.args.port.now) (g.P.Drain.outputs c.loop-whole.port) =
+    sending_set m (says_of c.args.feac) _ _ _ _ _ plan _ _ _ _ _ (λ n. c.set.ensures.placed plan n) (λ supply n. c.set.ensures.held supply n) inv.sending in
+    sending_stops m (g.T.Tx.meaning c.set.new.self) (says_of c.args.feac) _ _ _ plan c.args.len c.args.frames c.loop-whole._whole _ _ _ _ _ _ _ _ _ _ same
+    (g.met.P.Port.fed_keeps_outputs c.loop-whole.port c.make_frame.new.feed c.make_frame.ensures.fed).0 c.loop-whole-test.true (g.met.P.Port.kept_counts c.args.port.now c.loop-whole.port inv.kept).0 sending
+    (c.in-Err.ensures.stops _ sending.makes.place)
 
 pub returns-in-Err-put_all-clause-fails : goal.returns-in-Err-put_all-clause-fails
 returns-in-Err-put_all-clause-fails g c =
     let plan = plan_of c.args.clock.now in
     let inv = c.loop-whole.invariant in
+    let m = g.T.Tx.meaning c.args.sender.now in
+    let same : g.T.Tx.meaning c.set.new.self ≡ g.T.Tx.meaning c.args.sender.now = c.set.ensures.meaning ∙ inv.same in
+    let sending : Sending m (says_of c.args.feac) (g.T.Tx.stands_at c.set.new.self plan) (g.T.Tx.stands_for c.args.sender.now) (g.T.Tx.stands_for c.set.new.self) plan (c.loop-whole._whole * c.args.len) (g.P.Feed.inputs c.args.port.now) (g.P.Feed.inputs c.loop-whole.port) (g.P.Drain.outputs c.args.port.now) (g.P.Drain.outputs c.loop-whole.port) =
+    sending_set m (says_of c.args.feac) _ _ _ _ _ plan _ _ _ _ _ (λ n. c.set.ensures.placed plan n) (λ supply n. c.set.ensures.held supply n) inv.sending in
+    let told : SayInFrames (g.T.Tx.meaning c.set.new.self) (says_of c.args.feac) (g.T.Tx.says c.set.new.self) (c.loop-whole._whole * c.args.len) (c.loop-whole._whole * c.args.len + c.args.len) =
+    says_in_frame (g.T.Tx.meaning c.set.new.self) (says_of c.args.feac) (g.T.Tx.says c.set.new.self) c.args.len c.loop-whole._whole c.args.len (subst (λ (m : Meaning). HasFrames m c.args.len) (sym same) c.requires.frames) refl
+    (sym (c.set.ensures.says ∙ c.next_service.ensures.says c.args.feac c.loop-whole._whole inv.said)) in
     let fed = g.met.P.Port.fed_keeps_outputs c.loop-whole.port c.make_frame.new.feed c.make_frame.ensures.fed in
     let counts = g.met.P.Port.kept_counts c.args.port.now c.loop-whole.port inv.kept in
     let later : g.P.Drain.drain_faults c.args.port.now ≤ g.P.Drain.drain_faults c.make_frame.new.feed = omega (arith, fed.1, counts.1) in
-    sending_fails (g.T.Tx.meaning c.args.sender.now) (g.T.Tx.meaning c.loop-whole.sender) (g.T.Tx.stands_at c.loop-whole.sender plan) (g.T.Tx.stands_at c.make_frame.new.sender plan) (g.T.Tx.stands_for c.args.sender.now)
-    (g.T.Tx.stands_for c.loop-whole.sender) (g.T.Tx.stands_for c.make_frame.new.sender) plan c.args.len c.args.frames c.loop-whole._whole c.make_frame.new.frame.items c.deref.result.now (g.P.Feed.inputs c.args.port.now)
+    sending_fails m (g.T.Tx.meaning c.set.new.self) (says_of c.args.feac) (g.T.Tx.stands_at c.set.new.self plan) (g.T.Tx.stands_at c.make_frame.new.sender plan) (g.T.Tx.stands_for c.args.sender.now)
+    (g.T.Tx.stands_for c.set.new.self) (g.T.Tx.stands_for c.make_frame.new.sender) plan c.args.len c.args.frames c.loop-whole._whole c.make_frame.new.frame.items c.deref.result.now (g.P.Feed.inputs c.args.port.now)
     (g.P.Feed.inputs c.loop-whole.port) (g.P.Feed.inputs c.make_frame.new.feed) (g.P.Feed.inputs c.put_all.new.self) (g.P.Drain.outputs c.args.port.now) (g.P.Drain.outputs c.loop-whole.port) (g.P.Drain.outputs c.make_frame.new.feed)
-    (g.P.Drain.outputs c.put_all.new.self) (g.P.Drain.drain_faults c.args.port.now) (g.P.Drain.drain_faults c.make_frame.new.feed) (g.P.Drain.drain_faults c.put_all.new.self) inv.same c.deref.ensures.value
-    (g.met.P.Port.drained_keeps_inputs c.make_frame.new.feed c.put_all.new.self c.put_all.ensures.drained).0 fed.0 c.loop-whole-test.true later inv.sending
-    (c.in_default.ensures.made (c.loop-whole._whole * c.args.len) inv.sending.makes.place) c.in-Err-put_all.ensures.err c.in-Err-put_all.ensures.cause.failed
+    (g.P.Drain.outputs c.put_all.new.self) (g.P.Drain.drain_faults c.args.port.now) (g.P.Drain.drain_faults c.make_frame.new.feed) (g.P.Drain.drain_faults c.put_all.new.self) same c.deref.ensures.value
+    (g.met.P.Port.drained_keeps_inputs c.make_frame.new.feed c.put_all.new.self c.put_all.ensures.drained).0 fed.0 c.loop-whole-test.true later sending
+    (c.in_default.ensures.made (c.loop-whole._whole * c.args.len) (says_of c.args.feac) sending.makes.place told) c.in-Err-put_all.ensures.err c.in-Err-put_all.ensures.cause.failed
 
 pub returns-in-Err-put_all-clause-kept : goal.returns-in-Err-put_all-clause-kept
 returns-in-Err-put_all-clause-kept g c =
@@ -45,25 +59,32 @@ pub loop-whole-preserved : goal.loop-whole-preserved
 loop-whole-preserved g c =
     let plan = plan_of c.args.clock.now in
     let inv = c.loop-whole.invariant in
+    let m = g.T.Tx.meaning c.args.sender.now in
+    let same : g.T.Tx.meaning c.set.new.self ≡ g.T.Tx.meaning c.args.sender.now = c.set.ensures.meaning ∙ inv.same in
+    let sending : Sending m (says_of c.args.feac) (g.T.Tx.stands_at c.set.new.self plan) (g.T.Tx.stands_for c.args.sender.now) (g.T.Tx.stands_for c.set.new.self) plan (c.loop-whole._whole * c.args.len) (g.P.Feed.inputs c.args.port.now) (g.P.Feed.inputs c.loop-whole.port) (g.P.Drain.outputs c.args.port.now) (g.P.Drain.outputs c.loop-whole.port) =
+    sending_set m (says_of c.args.feac) _ _ _ _ _ plan _ _ _ _ _ (λ n. c.set.ensures.placed plan n) (λ supply n. c.set.ensures.held supply n) inv.sending in
+    let told : SayInFrames (g.T.Tx.meaning c.set.new.self) (says_of c.args.feac) (g.T.Tx.says c.set.new.self) (c.loop-whole._whole * c.args.len) (c.loop-whole._whole * c.args.len + c.args.len) =
+    says_in_frame (g.T.Tx.meaning c.set.new.self) (says_of c.args.feac) (g.T.Tx.says c.set.new.self) c.args.len c.loop-whole._whole c.args.len (subst (λ (m : Meaning). HasFrames m c.args.len) (sym same) c.requires.frames) refl
+    (sym (c.set.ensures.says ∙ c.next_service.ensures.says c.args.feac c.loop-whole._whole inv.said)) in
     let fed = g.met.P.Port.fed_keeps_outputs c.loop-whole.port c.make_frame.new.feed c.make_frame.ensures.fed in
     let drained = g.met.P.Port.drained_keeps_inputs c.make_frame.new.feed c.put_all.new.self c.put_all.ensures.drained in
     let kept = g.met.P.Port.kept_join c.args.port.now c.loop-whole.port c.make_frame.new.feed inv.kept (g.met.P.Port.fed_is_kept c.loop-whole.port c.make_frame.new.feed c.make_frame.ensures.fed) in
     record {
       running = c.in_default.ensures.running;
-      idles = c.make_frame.ensures.idles;
-      same = c.make_frame.ensures.same ∙ inv.same;
+      said = c.next_service.ensures.said c.args.feac c.loop-whole._whole inv.said;
+      same = c.make_frame.ensures.same ∙ same;
       room = c.make_frame.ensures.room ∙ inv.room;
       kept = g.met.P.Port.kept_join c.args.port.now c.make_frame.new.feed c.put_all.new.self kept (g.met.P.Port.drained_is_kept c.make_frame.new.feed c.put_all.new.self c.put_all.ensures.drained);
       lists = ap (λ i. i.holds) drained.0 ∙ g.met.P.Feed.fed_holds c.loop-whole.port c.make_frame.new.feed c.make_frame.ensures.fed ∙ inv.lists;
       lines = g.met.P.Drain.drained_holds c.make_frame.new.feed c.put_all.new.self c.put_all.ensures.drained ∙ ap (λ o. o.holds) fed.0 ∙ inv.lines;
-      sending = sending_more (g.T.Tx.meaning c.args.sender.now) (g.T.Tx.meaning c.loop-whole.sender) (g.T.Tx.stands_at c.loop-whole.sender plan) (g.T.Tx.stands_at c.make_frame.new.sender plan) (g.T.Tx.stands_for c.args.sender.now)
-          (g.T.Tx.stands_for c.loop-whole.sender) (g.T.Tx.stands_for c.make_frame.new.sender) plan (c.loop-whole._whole * c.args.len) (c.loop-whole._whole * c.args.len + c.args.len) ((c.loop-whole._whole + 1) * c.args.len) c.make_frame.new.frame.items
+      sending = sending_more m (g.T.Tx.meaning c.set.new.self) (says_of c.args.feac) (g.T.Tx.stands_at c.set.new.self plan) (g.T.Tx.stands_at c.make_frame.new.sender plan) (g.T.Tx.stands_for c.args.sender.now)
+          (g.T.Tx.stands_for c.set.new.self) (g.T.Tx.stands_for c.make_frame.new.sender) plan (c.loop-whole._whole * c.args.len) (c.loop-whole._whole * c.args.len + c.args.len) ((c.loop-whole._whole + 1) * c.args.len) c.make_frame.new.frame.items
           c.deref.result.now (g.P.Feed.inputs c.args.port.now) (g.P.Feed.inputs c.loop-whole.port) (g.P.Feed.inputs c.make_frame.new.feed) (g.P.Feed.inputs c.put_all.new.self) (g.P.Drain.outputs c.args.port.now)
-          (g.P.Drain.outputs c.loop-whole.port) (g.P.Drain.outputs c.make_frame.new.feed) (g.P.Drain.outputs c.put_all.new.self) inv.same c.deref.ensures.value drained.0 fed.0 (frame_end c.loop-whole._whole c.args.len) inv.sending
-          (c.in_default.ensures.made (c.loop-whole._whole * c.args.len) inv.sending.makes.place) c.in_default-put_all.ensures.ok;
+          (g.P.Drain.outputs c.loop-whole.port) (g.P.Drain.outputs c.make_frame.new.feed) (g.P.Drain.outputs c.put_all.new.self) same c.deref.ensures.value drained.0 fed.0 (frame_end c.loop-whole._whole c.args.len) sending
+          (c.in_default.ensures.made (c.loop-whole._whole * c.args.len) (says_of c.args.feac) sending.makes.place told) c.in_default-put_all.ensures.ok;
     }
 
 pub returns-clause-sent : goal.returns-clause-sent
 returns-clause-sent g c =
     let all : c.loop-whole._whole ≡ c.args.frames = omega arith in
-    sending_sends (g.T.Tx.meaning c.args.sender.now) _ _ _ (plan_of c.args.clock.now) _ _ _ _ _ _ (ap (λ n. n * c.args.len) all) c.loop-whole.invariant.sending
+    sending_sends (g.T.Tx.meaning c.args.sender.now) (says_of c.args.feac) _ _ _ (plan_of c.args.clock.now) _ _ _ _ _ _ (ap (λ n. n * c.args.len) all) c.loop-whole.invariant.sending

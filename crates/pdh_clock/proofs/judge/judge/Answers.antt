@@ -1,9 +1,11 @@
 use Rattle.std.proofs.Common.{◌≤◌, Ok, Err, sym, arith}
 use Rattle.std.proofs.lemmas.Result.{err_from_is_err_and}
+use Rattle.std.proofs.lemmas.List.{length-take}
 use Rattle.std.proofs.lemmas.List.Elements.{All-weaker}
 use Rattle.pdh_line.specs.Paths.{steps_of}
 use Rattle.pdh_clock.specs.Parsed.{row_found}
-use Rattle.pdh_levels.proofs.LevelLaws.{level_is}
+use Rattle.pdh_levels.specs.Levels.{longest_frame}
+use Rattle.pdh_levels.proofs.LevelLaws.{level_is, stores_few}
 use Rattle.pdh_clock.proofs.Judging.{judged_by_counts}
 use Rattle.pdh_clock.proofs.judge.judge.Goals as goal
 
@@ -24,15 +26,13 @@ returns-clause-judged c =
 pub returns-clause-few : goal.returns-clause-few
 returns-clause-few c =
     let level = level_is c.args.levels.now (steps_of c.in-Some.row.path) c.in-Some-level_of.level c.requires (sym c.in-Some-level_of.ensures) in
-    omega (arith, level.most, c.in_ok-judge_counts.ensures.stores)
+    omega (arith, level.most, stores_few c.in-Some-level_of.level, c.in_ok-judge_counts.ensures.stores)
 
 pub returns-clause-most : goal.returns-clause-most
 returns-clause-most c =
     let level = level_is c.args.levels.now (steps_of c.in-Some.row.path) c.in-Some-level_of.level c.requires (sym c.in-Some-level_of.ensures) in
     let longest = level.longest in
-    All-weaker (λ n. n ≤ c.in-Some-level_of.level.len) (λ n. n ≤ 4760) (λ n h. omega arith) _ c.in_ok-judge_counts.ensures.most
+    All-weaker (λ n. n ≤ c.in-Some-level_of.level.len) (λ n. n ≤ longest_frame) (λ n h. omega arith) _ c.in_ok-judge_counts.ensures.most
 
 pub returns-clause-lens : goal.returns-clause-lens
-returns-clause-lens c =
-    let level = level_is c.args.levels.now (steps_of c.in-Some.row.path) c.in-Some-level_of.level c.requires (sym c.in-Some-level_of.ensures) in
-    omega (arith, level.fewest, c.in_ok-judge_counts.ensures.stores, c.in-Some.ensures.lens)
+returns-clause-lens c = omega (arith, length-take c.in-Some.row.counts.number c.in-Some.row.counts.first, c.in-Some.ensures.lens)

@@ -1,19 +1,24 @@
-use Rattle.std.proofs.Common.{◌≡◌, ◌∙◌, ◌-◌, [], length, get_or, refl, ap, sym, subst, arith}
+use Rattle.std.proofs.Common.{◌≡◌, ◌∙◌, ◌≤◌, [], length, get_or, is_some, IsSome, refl, ap, sym, subst, arith}
 use Rattle.std.specs.Vec.{with_item}
 use Rattle.pdh_clock.specs.declared.tree.NodeRows.{NodeRows}
 use Rattle.pdh_clock.specs.declared.tree.Tree.{Tree}
 use Rattle.pdh_line.specs.Paths.{steps_of}
-use Rattle.pdh_levels.specs.Levels.{nodes_in, place_of}
+use Rattle.pdh_levels.specs.Levels.{nodes_in, level_at, place_of}
 use Rattle.pdh_clock.specs.Begun.{NoneShort}
-use Rattle.pdh_clock.specs.Made.{offset_of}
-use Rattle.pdh_clock.specs.Making.{last_step}
+use Rattle.pdh_clock.specs.Made.{most_made}
+use Rattle.pdh_clock.specs.Making.{line_at}
 use Rattle.pdh_clock.specs.Stored.{contents_of, node_path}
-use Rattle.pdh_levels.proofs.LevelLaws.{level_in, level_is}
-use Rattle.pdh_clock.proofs.Trees.{Changes, IsTree_changed, path_of_node, place_of_node}
+use Rattle.pdh_levels.proofs.LevelLaws.{level_is}
+use Rattle.pdh_clock.proofs.Trees.{Changes, IsTree_changed, path_of_node, place_of_node, known_node}
 use Rattle.pdh_clock.proofs.MadeRows.{made_rows}
 use Rattle.pdh_clock.proofs.MadeTrees.{begun_is_made, made-few, none_short_made}
 use Rattle.pdh_clock.proofs.MadeNodes.{IsMadeNode, rated_is, changes_made, made_more}
 use Rattle.pdh_clock.proofs.made.make_node.Goals as goal
+
+pub level_of-level-requires : goal.level_of-level-requires
+level_of-level-requires c =
+    let tree = c.args.tree.now in
+    subst (λ (node : NodeRows). IsSome (level_at tree.levels.items (node_path node))) (sym c.index.ensures) (known_node tree c.args.place _ c.requires.tree c.requires.inside)
 
 pub begun-frames-requires-clause-enough : goal.begun-frames-requires-clause-enough
 begun-frames-requires-clause-enough c =
@@ -23,9 +28,8 @@ begun-frames-requires-clause-enough c =
 
 pub clocks_of-clocks-requires : goal.clocks_of-clocks-requires
 clocks_of-clocks-requires c =
-    let tree = c.args.tree.now in
     let path = steps_of c.index.result.now.path in
-    omega (arith, (level_in tree.levels.items path c.level_of-level.result c.level_of-level.ensures).inside, c.len.ensures)
+    ap (λ levels. is_some (level_at levels path)) c.deref.ensures.value ∙ ap is_some c.level_of-level.ensures
 
 pub made_table-requires-clause-level : goal.made_table-requires-clause-level
 made_table-requires-clause-level c =
@@ -59,17 +63,23 @@ makes c =
     ap node_path c.index.ensures ∙ path_of_node tree c.args.place _ [] c.requires.tree c.requires.inside in
     let path' : node_path (node_after c) ≡ get_or (nodes_in tree.levels.items) c.args.place [] =
     ap node_path c.index_mut.ensures.value ∙ path_of_node tree c.args.place _ [] c.requires.tree c.requires.inside in
+    let place : place_of tree.levels.items (steps_of c.index.result.now.path) ≡ c.args.place =
+    ap (λ node. place_of tree.levels.items (node_path node)) c.index.ensures ∙ place_of_node tree c.args.place _ c.requires.tree c.requires.inside in
+    let begun = begun_is_made tree c.args.bias c.args.top_frames c.args.place (steps_of c.index.result.now.path) c.level_of-level.result c.requires.before c.level_of-level.ensures (omega arith) in
+    let most = made-few tree.levels.items c.args.bias c.args.top_frames (steps_of c.index.result.now.path) c.level_of-level.result c.requires.tree.levels_are c.requires.rated c.requires.few c.level_of-level.ensures in
+    let few : c.begun-frames.result ≤ most_made = omega (arith, c.begun-frames.ensures, begun, most) in
     record {
       inside = c.requires.inside;
       path_is = sym path;
       place_is = ap (λ node. place_of tree.levels.items (node_path node)) c.index.ensures ∙ place_of_node tree c.args.place _ c.requires.tree c.requires.inside;
       known_is = c.level_of-level.ensures;
       node_is = path' ∙ sym path;
-      height_is = omega (arith, c.clocks_of-clocks.ensures.height, c.len.ensures);
-      line_is = c.clocks_of-clocks.ensures.line ∙ ap (λ n. offset_of c.args.bias (n - length (steps_of c.index.result.now.path)) (last_step (steps_of c.index.result.now.path))) (omega (arith, c.len.ensures));
+      height_is = c.clocks_of-clocks.ensures.height ∙ ap length c.deref.ensures.value;
+      line_is = c.clocks_of-clocks.ensures.line ∙ ap (λ levels. line_at levels c.args.bias (steps_of c.index.result.now.path)) c.deref.ensures.value;
       frames_are = c.begun-frames.ensures;
       stored = c.in_ok-tree.ensures.table;
       tribs = c.in_ok-tree.ensures.tribs;
+      few = few;
       rows = c.in_ok-tree.ensures.rows ∙ ap (λ bias. made_rows c.level_of-level.result bias c.clocks_of-clocks.result.height c.clocks_of-clocks.result.line c.begun-frames.result) c.clocks_of-clocks.ensures.bias;
     }
 

@@ -6,6 +6,9 @@ use Rattle.pdh_ops.proofs.Received.{lists_hold, shares_in_room}
 use Rattle.pdh_ops.proofs.MuxSent.{none_rose}
 use Rattle.pdh_ops.proofs.demux.deliver.Goals as goal
 
+pub demux-requires-clause-leaves : goal.demux-requires-clause-leaves
+demux-requires-clause-leaves c k low = lists_hold (leaves_of c.args.chain) k c.requires.outputs low
+
 pub unreachable-requires-in-Err-WriteFailed : goal.unreachable-requires-in-Err-WriteFailed
 unreachable-requires-in-Err-WriteFailed c =
     let fails = rw c.in-Err-WriteFailed.field-0-is at c.in-Err-WriteFailed.ensures.err in

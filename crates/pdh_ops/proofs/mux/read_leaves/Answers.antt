@@ -1,4 +1,4 @@
-use Rattle.std.proofs.Common.{◌≡◌, refl, suc, ℕ, ◌*◌, ◌<◌, ◌∷◌, [], ◌++◌, Bool, Vec, List, length, ap, sym, ◌∙◌, subst, arith}
+use Rattle.std.proofs.Common.{◌≡◌, None, refl, suc, ℕ, ◌*◌, ◌<◌, ◌∷◌, [], ◌++◌, Bool, Vec, List, length, ap, sym, ◌∙◌, subst, arith}
 use Rattle.std.specs.Prelude.{slice_index}
 use Rattle.std.specs.declared.alloc.Global.{Global}
 use Rattle.std.proofs.lemmas.Grind.{common_steps}
@@ -40,9 +40,9 @@ returns-in_err-bytes-clause-err g c =
     let p = err_from_is_err_and c.from_residual.result c.from_residual.ensures.1 in
     let inv = c.loop-leaf.invariant in
     let here : c.loop-leaf.leaf < leaves_of c.args.chain = omega (arith, c.leaf_count-leaf-end.ensures.value) in
-    let due = of_inputs_since c.args.chain _ _ (g.S.Shelf.state c.loop-leaf.shelf) inv.looks c.requires.due in
-    rw (p.1, p.2) (refuses_since (Mux c.args.chain) _ (g.S.Shelf.state c.loop-leaf.shelf) _ _ inv.looks inv.same
-    (read_refuses (Mux c.args.chain) (Leaf c.loop-leaf.leaf) (suc c.loop-leaf.leaf) _ _ _ (omega arith) refl due c.in_err-bytes.ensures.err))
+    let due = of_inputs_since c.args.chain None _ _ (g.S.Shelf.state c.loop-leaf.shelf) inv.looks c.requires.due in
+    rw (p.1, p.2) (λ feac. refuses_since (Mux c.args.chain feac) _ (g.S.Shelf.state c.loop-leaf.shelf) _ _ inv.looks inv.same
+    (read_refuses (Mux c.args.chain feac) (Leaf c.loop-leaf.leaf) (suc c.loop-leaf.leaf) _ _ _ (omega arith) refl due c.in_err-bytes.ensures.err))
 
 pub returns-in_err-bytes-clause-counted : goal.returns-in_err-bytes-clause-counted
 returns-in_err-bytes-clause-counted g c =
@@ -83,8 +83,8 @@ loop-leaf-preserved g c =
       same = c.in_ok-bytes.ensures.counted ∙ inv.same;
       count = grind (arith, common_steps);
       len = each_pushed (λ k v. length v.items ≡ 8 * slice_index c.args.sizes.now.leaves k) c.loop-leaf.leaves.items c.push.new.self.items bits leaf pushed inv.count inv.len long;
-      bits = each_pushed (λ k v. OfInputs (Mux c.args.chain) old (λ files. v.items ≡ leaf_bits files k)) c.loop-leaf.leaves.items c.push.new.self.items bits leaf pushed inv.count inv.bits
-          (λ files told. made ∙ sym (bits_are c.args.chain old leaf bytes files here holds told));
+      bits = each_pushed (λ k v. OfInputs (Mux c.args.chain None) old (λ files. v.items ≡ leaf_bits files k)) c.loop-leaf.leaves.items c.push.new.self.items bits leaf pushed inv.count inv.bits
+          (λ files told. made ∙ sym (bits_are c.args.chain None old leaf bytes files here holds told));
     }
 
 pub returns-clause-looks : goal.returns-clause-looks
@@ -96,5 +96,5 @@ returns-clause-ok g c =
     record {
       count = omega (arith, inv.count, c.leaf_count-leaf-end.ensures.value);
       len = λ k d h. inv.len k d (omega (arith, c.leaf_count-leaf-end.ensures.value));
-      bits = λ k d h. of_inputs_since c.args.chain _ _ _ inv.looks (inv.bits k d (omega (arith, c.leaf_count-leaf-end.ensures.value)));
+      bits = λ k d h. of_inputs_since c.args.chain None _ _ _ inv.looks (inv.bits k d (omega (arith, c.leaf_count-leaf-end.ensures.value)));
     }

@@ -1,4 +1,4 @@
-use Rattle.std.proofs.Common.{◌≡◌, ℕ, ◌<◌, ◌*◌, Bool, Vec, length}
+use Rattle.std.proofs.Common.{None, ◌≡◌, ℕ, ◌<◌, ◌*◌, Bool, Vec, length}
 use Rattle.std.specs.Prelude.{slice_index, slice_index_or}
 use Rattle.std.specs.declared.alloc.Global.{Global}
 use Rattle.pdh_edge.specs.Files.{Looks}
@@ -16,5 +16,5 @@ invariant-loop-leaf g l =
       same : new.counts ≡ old.counts;
       count : length l.leaves.items ≡ l.leaf;
       len : (k : ℕ) (d : Vec Bool Global) → k < l.leaf → length (slice_index_or l.leaves.items k d).items ≡ 8 * slice_index l.sizes.leaves k;
-      bits : (k : ℕ) (d : Vec Bool Global) → k < l.leaf → OfInputs (Mux l.fn.chain) old (λ files. (slice_index_or l.leaves.items k d).items ≡ leaf_bits files k);
+      bits : (k : ℕ) (d : Vec Bool Global) → k < l.leaf → OfInputs (Mux l.fn.chain None) old (λ files. (slice_index_or l.leaves.items k d).items ≡ leaf_bits files k);
     }

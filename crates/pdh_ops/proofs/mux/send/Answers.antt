@@ -22,6 +22,6 @@ unreachable-requires-in-Err-WriteFailed c =
     let new = c.mux.new.port in
     none_rose _ _ c.requires.faults
     (puts_in_room old new kept.3 (λ k held.
-    let room = in_room c.args.chain c.args.clock.now.rows c.args.frames (room_of c.args.port.now 0) k _ _ _ _ c.requires.outputs kept.2 c.requires.room fails.1 held in
+    let room = in_room c.args.chain c.args.feac c.args.clock.now.rows c.args.frames (room_of c.args.port.now 0) k _ _ _ _ c.requires.outputs kept.2 c.requires.room fails.1 held in
     subst (λ i. bits_held (mem_outputs new.outputs.items) k < room_of old i) (sym room.0) room.1))
     fails.0

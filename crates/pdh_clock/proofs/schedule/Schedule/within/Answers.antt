@@ -1,4 +1,4 @@
-use Rattle.std.proofs.Common.{◌≡◌, ◌∙◌, Option, length, ap, sym}
+use Rattle.std.proofs.Common.{◌≡◌, ◌∙◌, Option, length, ap, sym, arith}
 use Rattle.std.specs.Option.{option_map_or}
 use Rattle.pdh_shape.specs.declared.place.Level.{Level}
 use Rattle.pdh_rows.specs.Rows.{node_counts, node_frame_count}
@@ -6,6 +6,7 @@ use Rattle.pdh_rows.specs.Stored.{rows_of}
 use Rattle.pdh_rows.specs.Outside.{first_outside, run_in}
 use Rattle.pdh_line.specs.Paths.{steps_of}
 use Rattle.pdh_levels.specs.Levels.{low_at, level_at}
+use Rattle.pdh_levels.proofs.LevelLaws.{has_stores, stores_count}
 use Rattle.pdh_clock.specs.Contents.{Contents, counts, frame_count}
 use Rattle.pdh_clock.specs.Stored.{rows_in}
 use Rattle.pdh_clock.proofs.Served.{same_counts}
@@ -35,4 +36,5 @@ returns-clause-outside c = λ shape same within. within_ok shape _ _ _ c.within_
 
 pub returns-clause-rates : goal.returns-clause-rates
 returns-clause-rates c = λ level is rated within.
-    within_rates-ok level (level_at c.args.self.now.levels (steps_of c.args.node.now)) _ _ c.within_tolerance.result (run c) is rated within
+    within_rates-ok level (level_at c.args.self.now.levels (steps_of c.args.node.now)) _ _ c.within_tolerance.result (run c) is rated
+    (has_stores level c.args.trib (omega (arith, c.requires, stores_count c.args.self.now.levels (steps_of c.args.node.now) level is))) within

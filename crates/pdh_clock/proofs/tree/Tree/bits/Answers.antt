@@ -6,7 +6,7 @@ use Rattle.pdh_line.specs.Progress.{begun_by}
 use Rattle.pdh_levels.specs.Levels.{place_of}
 use Rattle.pdh_clock.specs.Stored.{contents_of, rows_in}
 use Rattle.pdh_levels.proofs.LevelLaws.{first_step, second_step, steps_two, level_is}
-use Rattle.pdh_clock.proofs.Begins.{child, bits_child, enough_at, top_len_is, first_node, top_before, first_before, second_node, stores_child}
+use Rattle.pdh_clock.proofs.Begins.{child, bits_child, enough_at, top_len_is, first_node, top_before, first_before, second_node, child_tributary}
 use Rattle.pdh_clock.proofs.tree.Tree.bits.Goals as goal
 
 pub overflow_sub-node : goal.overflow_sub-node
@@ -15,7 +15,7 @@ overflow_sub-node c = (first_step c.args.self.now.levels.items c.args.node.now c
 pub taken-first-requires-clause-in_range : goal.taken-first-requires-clause-in_range
 taken-first-requires-clause-in_range c =
     let levels = c.args.self.now.levels.items in
-    stores_child levels [] c.args.node.now.first c.requires.tree.levels_are.each (child levels [] c.args.node.now.first (first_node levels c.args.node.now c.if-node-eq0.false c.requires.node))
+    λ level is. child_tributary levels [] c.args.node.now.first level (child levels [] c.args.node.now.first (first_node levels c.args.node.now c.if-node-eq0.false c.requires.node)) is
 
 pub taken-first-requires-clause-enough : goal.taken-first-requires-clause-enough
 taken-first-requires-clause-enough c = λ level is.
@@ -50,7 +50,20 @@ overflow_sub-node-2 c = (second_step c.args.self.now.levels.items c.args.node.no
 pub taken-requires-clause-in_range : goal.taken-requires-clause-in_range
 taken-requires-clause-in_range c =
     let levels = c.args.self.now.levels.items in
-    stores_child levels (c.args.node.now.first ∷ []) c.args.node.now.second c.requires.tree.levels_are.each (second_node levels c.args.node.now c.if-node-eq0.false c.if-node-eq1.false c.requires.node)
+    λ level is. child_tributary levels (c.args.node.now.first ∷ []) c.args.node.now.second level (second_node levels c.args.node.now c.if-node-eq0.false c.if-node-eq1.false c.requires.node) is
+
+pub taken-requires-clause-node : goal.taken-requires-clause-node
+taken-requires-clause-node c = first_node c.args.self.now.levels.items c.args.node.now c.if-node-eq0.false c.requires.node
+
+pub taken-requires-clause-few : goal.taken-requires-clause-few
+taken-requires-clause-few c = λ level is.
+    let shortest = (level_is c.args.self.now.levels.items (c.args.node.now.first ∷ []) level c.requires.tree.levels_are.each is).shortest in
+    omega (arith, c.taken-first.ensures.few)
+
+pub returns-then-node-eq1-clause-few : goal.returns-then-node-eq1-clause-few
+returns-then-node-eq1-clause-few c = λ level is.
+    let shortest = (level_is c.args.self.now.levels.items (steps_of c.args.node.now) level c.requires.tree.levels_are.each is).shortest in
+    omega (arith, c.taken-first.ensures.few)
 
 pub returns-clause-bits : goal.returns-clause-bits
 returns-clause-bits c =

@@ -5,16 +5,13 @@ use Rattle.pdh_clock.specs.declared.tree.NodeRows.{NodeRows}
 use Rattle.pdh_levels.specs.Levels.{AreLevels, nodes_in}
 use Rattle.pdh_line.specs.Paths.{steps_of}
 use Rattle.pdh_clock.specs.Stored.{node_path}
-use Rattle.pdh_levels.proofs.LevelLaws.{tribs_of}
+use Rattle.pdh_levels.proofs.LevelLaws.{stores_count}
 use Rattle.pdh_clock.proofs.Trees.{IsEmptyNode, IsTree_empty, no_rows, paths_more}
 use Rattle.pdh_clock.proofs.tree.Tree.new.Goals as goal
 
-pub new-requires : goal.new-requires
-new-requires c = (tribs_of c.args.levels.now (steps_of c.node_at-path.result) c.from.result c.level_of-level.result c.requires.each c.level_of-level.ensures c.from.ensures).1
-
 pub loop-place-preserved : goal.loop-place-preserved
 loop-place-preserved c =
-    let tribs = (tribs_of c.args.levels.now (steps_of c.node_at-path.result) c.from.result c.level_of-level.result c.requires.each c.level_of-level.ensures c.from.ensures).0 in
+    let tribs = c.store_count.ensures ∙ sym (stores_count c.args.levels.now (steps_of c.node_at-path.result) c.level_of-level.result c.level_of-level.ensures) in
     let node : NodeRows = record { path = c.node_at-path.result; table = c.in_ok-table.table } in
     let empty : IsEmptyNode c.args.levels.now node = record {
       stored = c.in_ok-table.ensures.table;

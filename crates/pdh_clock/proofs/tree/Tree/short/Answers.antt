@@ -1,7 +1,8 @@
-use Rattle.std.proofs.Common.{◌≡◌, ◌∙◌, ◌<◌, ℕ, [], Some, length, ap, sym, subst, arith}
+use Rattle.std.proofs.Common.{◌≡◌, ◌∙◌, ◌<◌, ℕ, [], Some, IsSome, length, ap, sym, subst, arith}
+use Rattle.std.proofs.lemmas.List.Elements.{All-get_or}
 use Rattle.pdh_line.specs.Paths.{steps_of}
-use Rattle.pdh_levels.specs.Levels.{nodes_in, place_of}
-use Rattle.pdh_levels.proofs.NodeOrder.{node_place}
+use Rattle.pdh_levels.specs.Levels.{nodes_in, level_at, place_of}
+use Rattle.pdh_levels.proofs.NodeOrder.{node_place, nodes_known}
 use Rattle.pdh_clock.specs.Contents.{frame_count}
 use Rattle.pdh_clock.specs.Begun.{NoneShort, Shortage}
 use Rattle.pdh_clock.specs.Stored.{contents_of, rows_in}
@@ -9,6 +10,13 @@ use Rattle.pdh_clock.proofs.Trees.{length-nodes}
 use Rattle.pdh_clock.proofs.Served.{read_at}
 use Rattle.pdh_clock.proofs.Begins.{shortage_first, shortage_none, none_short_more}
 use Rattle.pdh_clock.proofs.tree.Tree.short.Goals as goal
+
+pub begun-need-requires-clause-node : goal.begun-need-requires-clause-node
+begun-need-requires-clause-node c =
+    let levels = c.args.self.now.levels.items in
+    let inside : c.loop-place.place < length (nodes_in levels) = omega (arith, length-nodes c.args.self.now c.requires) in
+    subst (λ path. IsSome (level_at levels path)) (sym c.node-node.ensures.steps)
+    (All-get_or (λ path. IsSome (level_at levels path)) (nodes_in levels) c.loop-place.place [] inside (nodes_known levels))
 
 pub begun-need-requires-clause-enough : goal.begun-need-requires-clause-enough
 begun-need-requires-clause-enough c =

@@ -35,6 +35,6 @@ returns-clause-made g c x was =
     let long : length bits ≡ len = c.make_piece.auto.into in
     let end : suc last ≡ at.slot + len = omega (arith, c.requires.some) in
     node_piece (placed_in g.C.Tx) (held_in g.C.Tx) (meaning_in g.C.Tx) share_in g.S.Shape.shape g.met.S.Shape.is_frame c.args.self.now.path (plan_of c.args.clock.now) c.args.self.now.tributaries.list.items c.make_piece.new.self.list.items at c.moved-self.result x len last
-    c.args.self.now.say c.args.self.now.next_say c.said-say.result bits c.is_odd-is_odd.result _ _ g.met.S.Shape.has_tributaries c.in_ok-make_piece.ensures.same (c.make_piece.new.self.count ∙ sym g.met.S.Shape.tribs_is) c.said-say.ensures c.requires.idles long end
+    c.args.self.now.say c.args.self.now.next_say c.said-say.result bits c.is_odd-is_odd.result _ _ g.met.S.Shape.has_tributaries c.in_ok-make_piece.ensures.same (c.make_piece.new.self.count ∙ sym g.met.S.Shape.tribs_is) c.said-say.ensures long c.requires.some end
     (omega (arith, c.requires.some, c.requires.inside, g.met.S.Shape.len_is)) was c.in_ok-make_piece.ensures.made c.moved-self.ensures.follows
     (λ source line odd. c.is_odd-is_odd.ensures ∙ odd_piece g.S.Shape.shape source at.frame at.slot bits at.is_odd line odd ∙ ap (λ k. odd_within g.S.Shape.shape source at.frame (at.slot + k)) long) c.moved-self.ensures.parity

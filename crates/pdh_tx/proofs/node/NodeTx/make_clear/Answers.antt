@@ -16,7 +16,6 @@ loop-made-init g c =
       upto = omega arith;
       running = c.requires.running;
       same = refl;
-      idles = c.requires.idles;
       same_says = refl;
       later = omega arith;
       fed = g.met.F.Feed.fed_same _;
@@ -134,13 +133,12 @@ loop-made-preserved g c =
       upto = omega (arith, same_long, fits);
       running = c.piece.ensures.running ∙ inv.running;
       same = c.piece.ensures.same ∙ inv.same;
-      idles = c.piece.ensures.same_says ∙ inv.idles;
       same_says = c.piece.ensures.same_says ∙ inv.same_says;
       later = (let a = inv.later in let b = c.piece.ensures.cause.later in omega arith);
       fed = g.met.F.Feed.fed_join _ _ _ inv.fed c.piece.ensures.fed;
       makes = λ x was.
           let before = inv.makes x was in
-          all_more _ _ _ _ _ _ _ _ x (x + m) (x + m + length (take (m + len - m) (drop m into))) (x + (m + len)) (take m into) new _ _ _ _ inv.same (omega (arith, part)) (take-put_mid m (m + len - m) into new (m + len) (omega (arith, long)) inv.upto) before
+          all_more _ _ _ _ _ _ _ _ x (x + m) (x + m + length (take (m + len - m) (drop m into))) (x + (m + len)) (take m into) new _ _ _ _ inv.same inv.same_says (omega (arith, part)) (take-put_mid m (m + len - m) into new (m + len) (omega (arith, long)) inv.upto) before
           (c.in-Ok.ensures.made (x + m) before.place);
     }
 

@@ -1,5 +1,4 @@
 use Rattle.std.proofs.Common.{◌≡◌, ◌≤◌, ◌+◌, ◌-◌, ℕ, false, length, take}
-use Rattle.pdh_shape.specs.Frame.{idle}
 use Rattle.pdh_tx.specs.Meaning.{plan_of}
 use Rattle.pdh_tx.specs.Making.{MakesAll}
 use Rattle.pdh_tx.specs.Tributaries.{meaning_of, IsAt, IsFor}
@@ -12,12 +11,11 @@ invariant-loop-made g l =
       upto : l.made ≤ length l.into;
       running : l.self.stopped ≡ false;
       same : meaning_of l.self.tributaries l.self.path ≡ meaning_of l.fn.self.tributaries l.fn.self.path;
-      idles : l.self.next_say ≡ idle;
       same_says : l.self.next_say ≡ l.fn.self.next_say;
       later : g.F.Feed.feed_faults l.fn.feed ≤ g.F.Feed.feed_faults l.feed;
       fed : g.F.Feed.fed l.fn.feed l.feed;
       makes : (x : ℕ) → IsAt l.fn.self.tributaries l.fn.self.path l.fn.self.at (plan_of l.clock) x
-          → MakesAll (meaning_of l.fn.self.tributaries l.fn.self.path) (IsAt l.self.tributaries l.self.path l.self.at (plan_of l.clock)) (IsFor l.fn.self.tributaries l.fn.self.path l.fn.self.at l.fn.self.say)
+          → MakesAll (meaning_of l.fn.self.tributaries l.fn.self.path) l.fn.self.next_say (IsAt l.self.tributaries l.self.path l.self.at (plan_of l.clock)) (IsFor l.fn.self.tributaries l.fn.self.path l.fn.self.at l.fn.self.say)
           (IsFor l.self.tributaries l.self.path l.self.at l.self.say) (plan_of l.clock) x (x + l.made) (take l.made l.into) (g.F.Feed.inputs l.fn.feed) (g.F.Feed.inputs l.feed);
     }
 

@@ -1,16 +1,19 @@
 use Rattle.pdh_tx.specs.Node.{IsDisjoint}
-use Rattle.std.proofs.Common.{◌≡◌, ◌<◌, ◌≤◌, ◌+◌, ◌==◌, ℕ, false, length, refl, sym, ap, ◌∙◌, arith, leb, inl, inr, subst}
+use Rattle.std.proofs.Common.{◌≡◌, ◌<◌, ◌≤◌, ◌+◌, ◌==◌, ℕ, false, length, sym, ap, ◌∙◌, arith, leb, cond, inl, inr, subst}
 use Rattle.std.specs.Option.{option_map_or}
 use Rattle.std.proofs.lemmas.Bool.{cases_lt, cases_eq}
 use Rattle.std.proofs.lemmas.List.{length-set}
 use Rattle.std.proofs.Math.Seq.{map-set_same}
 use Rattle.pdh_shape.specs.OwnNumbers.{threshold}
 use Rattle.pdh_levels.specs.Levels.{len_at, level_stores, stores_at}
-use Rattle.pdh_line.specs.Progress.{FrameNumbers, stores_of}
+use Rattle.pdh_line.specs.Progress.{stores_of}
+use Rattle.pdh_line.specs.Progress.Stores.{Elastic, Locked}
 use Rattle.pdh_line.specs.Sending.{shape_numbers}
 use Rattle.pdh_shape.specs.Frame.{FrameShape}
+use Rattle.pdh_shape.specs.Tributary.{reads_below}
+use Rattle.pdh_shape.specs.declared.place.Level.{Level}
 use Rattle.pdh_line.specs.Paths.{steps_of}
-use Rattle.pdh_tx.specs.Meaning.{plan_of}
+use Rattle.pdh_tx.specs.Meaning.{plan_of, HasNumbers, is_locked}
 use Rattle.pdh_tx.specs.Tributary.{child_in, store_in, share_in, would_carry, meaning_in}
 use Rattle.pdh_tx.proofs.Moving.{slice_get_set, inside}
 use Rattle.pdh_tx.proofs.tributaries.Tributaries.decide_all.Goals as goal
@@ -21,14 +24,16 @@ before j i h other = elim (cases_lt j i) [
   | inr more ↦ absurd (other (omega arith))
 ]
 
--- each tributary of a shape with control bits has a store
-all_stores : (s : FrameShape) → (s.copies == 0) ≡ false → stores_of (shape_numbers s) ≡ s.tribs
-all_stores s stores = rw stores refl
+-- each tributary of a level whose shape has control bits has a store
+all_stores : (s : FrameShape) (level : Level) → (s.copies == 0) ≡ false → HasNumbers level (shape_numbers s) → level_stores level ≡ s.tribs
+all_stores s level stores has =
+    let elastic : level.locked ≡ false = has.locked ∙ ap (λ b. is_locked (cond b (Locked (λ j t. reads_below s j false t)) Elastic)) stores in
+    ap (λ b. stores_of (record { len = level.len; tribs = level.tribs; low = level.low; stores = cond b (Locked (λ j t. 0)) Elastic })) elastic ∙ has.tribs
 
 pub count-arriving-requires-clause-in_range : goal.count-arriving-requires-clause-in_range
 count-arriving-requires-clause-in_range g c =
     let stores : stores_at c.args.clock.now.levels (steps_of c.args.path) ≡ g.S.Shape.TRIBS =
-    ap (λ o. option_map_or level_stores o 0) c.requires.node.at ∙ ap stores_of c.requires.node.numbers ∙ all_stores g.S.Shape.shape c.args.self.now.stores ∙ g.met.S.Shape.tribs_is in
+    ap (λ o. option_map_or level_stores o 0) c.requires.node.at ∙ all_stores g.S.Shape.shape c.requires.node.level c.args.self.now.stores c.requires.node.numbers ∙ g.met.S.Shape.tribs_is in
     omega (arith, stores)
 
 pub loop-trib-preserved : goal.loop-trib-preserved
@@ -53,7 +58,7 @@ loop-trib-preserved g c =
       fits = λ j h. elim (cases_eq j i) [
         | inl same ↦
             let most : counts i ≤ len_at c.args.clock.now.levels (steps_of c.args.path) = omega (arith, c.count-arriving.ensures.value, c.count-arriving.ensures.most) in
-            let len : len_at c.args.clock.now.levels (steps_of c.args.path) ≡ g.S.Shape.LEN = ap (λ o. option_map_or (λ level. level.len) o 0) c.requires.node.at ∙ ap (λ (n : FrameNumbers). n.len) c.requires.node.numbers ∙ g.met.S.Shape.len_is in
+            let len : len_at c.args.clock.now.levels (steps_of c.args.path) ≡ g.S.Shape.LEN = ap (λ o. option_map_or (λ level. level.len) o 0) c.requires.node.at ∙ c.requires.node.numbers.len ∙ g.met.S.Shape.len_is in
             omega (arith, most, len, ap counts same)
         | inr other ↦ inv.fits j (before j i h other)
       ];

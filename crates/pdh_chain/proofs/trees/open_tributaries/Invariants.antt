@@ -1,8 +1,8 @@
 use Rattle.std.proofs.Common.{◌≡◌, ◌+◌, ◌*◌, map, All}
 use Rattle.pdh_nesting.specs.Chains.{width}
 use Rattle.pdh_tx.specs.Meaning.{IsFresh}
-use Rattle.pdh_chain.proofs.Senders.{senders_below}
-use Rattle.pdh_chain.proofs.trees.NodeChainTx.open.Given as goal
+use Rattle.pdh_chain.specs.Trees.{senders_below}
+use Rattle.pdh_chain.proofs.trees.open_tributaries.Given as goal
 
 -- the tributaries so far are made
 abbrev pub invariant-loop-trib : goal.invariant-loop-trib

@@ -1,0 +1,7 @@
+mod OneSlot
+mod Reading
+mod OneBit
+mod Opening
+mod LockedNodes
+mod Filled
+mod Clearing

@@ -1,0 +1,61 @@
+use Rattle.std.proofs.Common.{rules, ◌≡◌, ℕ, Err, refl, sym, ap, ◌∙◌, subst, arith}
+use Rattle.std.proofs.lemmas.List.{length-set}
+use Rattle.std.proofs.lemmas.Option.{slice_get_read}
+use Rattle.std.proofs.Math.Seq.{map-set_same}
+use Rattle.pdh_shape.specs.Tributary.{turned}
+use Rattle.pdh_tx.specs.Meaning.{plan_of}
+use Rattle.pdh_tx.specs.Node.{IsDisjoint}
+use Rattle.pdh_tx.proofs.Gaining.{if_err_from}
+use Rattle.pdh_tx.proofs.Moving.{leaf_of}
+use Rattle.pdh_locked.proofs.OneSlot.{xor_turned}
+use Rattle.pdh_locked.proofs.Reading.{maker, reads_one, reads_stops}
+use Rattle.pdh_locked.proofs.children.Children.read.Goals as goal
+
+pub next-requires-clause-running : goal.next-requires-clause-running
+next-requires-clause-running g c =
+    let here = slice_get_read _ _ c.args.trib _ refl (omega (arith, c.requires.trib, c.args.self.now.count)) c.index_mut.ensures.value in
+    (c.requires.placed.1 c.args.trib _ here).runs
+
+pub next-requires-clause-lists : goal.next-requires-clause-lists
+next-requires-clause-lists g c k leaf =
+    let here = slice_get_read _ _ c.args.trib _ refl (omega (arith, c.requires.trib, c.args.self.now.count)) c.index_mut.ensures.value in
+    c.requires.fed.lists k (leaf_of _ c.args.trib k _ (maker g.C.Tx (plan_of c.args.clock.now) c.args.self.now.list.items c.args.trib _ c.requires.placed.0 c.args.self.now.disjoint here) leaf)
+
+pub next-requires-clause-nodes : goal.next-requires-clause-nodes
+next-requires-clause-nodes g c =
+    let here = slice_get_read _ _ c.args.trib _ refl (omega (arith, c.requires.trib, c.args.self.now.count)) c.index_mut.ensures.value in
+    c.requires.fed.nodes c.args.trib _ (maker g.C.Tx (plan_of c.args.clock.now) c.args.self.now.list.items c.args.trib _ c.requires.placed.0 c.args.self.now.disjoint here)
+
+pub next-requires-clause-stands : goal.next-requires-clause-stands
+next-requires-clause-stands g c =
+    let here = slice_get_read _ _ c.args.trib _ refl (omega (arith, c.requires.trib, c.args.self.now.count)) c.index_mut.ensures.value in
+    (c.requires.placed.0 c.args.trib, (c.requires.placed.1 c.args.trib _ here).place)
+
+pub invariant_of-self-clause-count : goal.invariant_of-self-clause-count
+invariant_of-self-clause-count g c = length-set c.args.self.now.list.items c.args.trib c.next.new.self ∙ c.args.self.now.count
+
+pub invariant_of-self-clause-disjoint : goal.invariant_of-self-clause-disjoint
+invariant_of-self-clause-disjoint g c =
+    subst IsDisjoint (sym (map-set_same g.C.Tx.meaning c.args.self.now.list.items c.args.trib c.next.new.self c.index_mut.result.now (c.next.ensures.same ∙ ap g.C.Tx.meaning c.index_mut.ensures.value))) c.args.self.now.disjoint
+
+pub returns-clause-same : goal.returns-clause-same
+returns-clause-same g c = map-set_same g.C.Tx.meaning c.args.self.now.list.items c.args.trib c.next.new.self c.index_mut.result.now (c.next.ensures.same ∙ ap g.C.Tx.meaning c.index_mut.ensures.value)
+
+pub returns-in_err-bit-clause-same : goal.returns-in_err-bit-clause-same
+returns-in_err-bit-clause-same g c = map-set_same g.C.Tx.meaning c.args.self.now.list.items c.args.trib c.next.new.self c.index_mut.result.now (c.next.ensures.same ∙ ap g.C.Tx.meaning c.index_mut.ensures.value)
+
+pub returns-clause-read : goal.returns-clause-read
+returns-clause-read g c made each =
+    let i : ℕ = c.args.trib in
+    let here = slice_get_read _ _ i _ refl (omega (arith, c.requires.trib, c.args.self.now.count)) c.index_mut.ensures.value in
+    reads_one g.C.Tx (plan_of c.args.clock.now) c.args.self.now.list.items i _ made c.args.self.now.disjoint here g.S.Shape.shape c.next.new.self c.in_ok-bit.bit _ _ _ each c.next.ensures.same_says c.in_ok-bit.ensures.running
+    (xor_turned c.in_ok-bit.bit c.inverted.result ∙ ap (λ b. turned b c.in_ok-bit.bit) c.inverted.ensures)
+    (c.in_ok-bit.ensures.made (made i) (each i _ here).place)
+
+pub returns-in_err-bit-clause-stop : goal.returns-in_err-bit-clause-stop
+returns-in_err-bit-clause-stop g c =
+    let e : c.from_residual.result ≡ Err c.in_err-bit.field-0.0 = search rules in
+    let i : ℕ = c.args.trib in
+    let here = slice_get_read _ _ i _ refl (omega (arith, c.requires.trib, c.args.self.now.count)) c.index_mut.ensures.value in
+    if_err_from c.from_residual.result _ c.in_err-bit.field-0.0 e
+    (λ made each. reads_stops g.C.Tx (plan_of c.args.clock.now) c.args.self.now.list.items i _ made c.args.self.now.disjoint here _ _ _ _ _ (λ child x k. g.met.C.Tx.grows child _ x k) (c.in_err-bit.ensures.stops (made i) (each i _ here).place))

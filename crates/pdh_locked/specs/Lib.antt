@@ -1,0 +1,3 @@
+pub mod Children
+pub mod Locked
+pub mod laws
