@@ -7,7 +7,13 @@ use std::alloc::{AllocError, Global};
 use std::collections::BTreeSet;
 
 // The files that the program writes.
-const OUTPUTS: [&str; 3] = ["line.bits", "schedule.txt", "o01..o64.bits"];
+const OUTPUTS: [&str; 5] = [
+    "line.bits",
+    "schedule.txt",
+    "o01..o64.bits",
+    "e1.bits",
+    "payload.out",
+];
 
 fn add_names(known: &mut BTreeSet<String>, names: &[String]) -> Result<(), AllocError> {
     for name in names {

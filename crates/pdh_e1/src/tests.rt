@@ -1,6 +1,7 @@
 //! Worked lines and words.
 
 use crate::{PackFault, UnpackFault, crc4, pack, unpack};
+use pdh_bits::bits_of;
 use std::test::Fail;
 
 /// The first octets of two multiframes of zeros.
@@ -56,5 +57,17 @@ fn words_of_one_bit(rt: HostRuntime) -> Result<(), Fail> {
     assert_eq!(rt; crc4(&[true]), 3);
     assert_eq!(rt; crc4(&[true, false, false]), 12);
     assert_eq!(rt; crc4(&[true, false, false, false]), 11);
+    Ok(())
+}
+
+/// Words that CRC-4/G-704 of the program crccheck has for these octets. It takes the least significant bit of an octet
+/// first, so its octets and its word were turned.
+#[test]
+fn words_by_another_program(rt: HostRuntime) -> Result<(), Fail> {
+    assert_eq!(rt; crc4(&bits_of(rt.alloc(), b"123456789")?), 14);
+    assert_eq!(rt; crc4(&bits_of(rt.alloc(), b"G.704")?), 6);
+    assert_eq!(rt; crc4(&bits_of(rt.alloc(), b"multiframe")?), 0);
+    assert_eq!(rt; crc4(&bits_of(rt.alloc(), &[0x1B, 0x5F])?), 1);
+    assert_eq!(rt; crc4(&bits_of(rt.alloc(), &[0xFF; 256])?), 4);
     Ok(())
 }

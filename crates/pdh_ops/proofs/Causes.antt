@@ -7,7 +7,7 @@ use Rattle.pdh_ops.specs.Schedules.{Files}
 use Rattle.pdh_ops.specs.Commands.{AreTold, comes_to}
 use Rattle.pdh_ops.specs.Run.{HasCause, ChangesOnly, IsCounted, IsTold, Runs, Completes}
 use Rattle.pdh_words.specs.declared.commands.Command.{Command}
-use Rattle.pdh_ops.specs.declared.answer.Stop.TheVariants.{Memory, Usage, Read, Write, Missing, LongSchedule, BadRow, UnknownNode, CountOver, ShortNode, Short, Overflow, Underflow, ManyFrames, NoAlignment}
+use Rattle.pdh_ops.specs.declared.answer.Stop.TheVariants.{Memory, Usage, Read, Write, Missing, LongSchedule, BadRow, UnknownNode, CountOver, ShortNode, Short, Overflow, Underflow, ManyFrames, NoAlignment, NotWhole}
 use Rattle.pdh_ops.proofs.Touching.{looks_same}
 
 pub looks_others : (P : List ℕ → Type 0) (a b : ShelfState) → Looks a b → ChangesOnly P a b
@@ -27,6 +27,7 @@ exact command a b (Err (Read file)) files cause counted told reads writes = absu
 exact command a b (Err (Write file)) files cause counted told reads writes = absurd (writes (one_more_rose a.counts.write_faults b.counts.write_faults (ap (λ (c : Counts). c.write_faults) counted)))
 exact command a b (Err (Missing file)) files cause counted told reads writes = inr (cause files told)
 exact command a b (Err (NoAlignment n)) files cause counted told reads writes = inr (cause files told)
+exact command a b (Err (NotWhole n)) files cause counted told reads writes = inr (cause files told)
 exact command a b (Err LongSchedule) files cause counted told reads writes = inr (cause files told)
 exact command a b (Err (BadRow l)) files cause counted told reads writes = inr (cause files told)
 exact command a b (Err (UnknownNode l)) files cause counted told reads writes = inr (cause files told)

@@ -19,3 +19,7 @@ pub mod MuxFiles
 pub mod ClockComes
 pub mod MuxGivesBack
 pub mod MuxTolerated
+pub mod OneInput
+pub mod E1Packing
+pub mod E1Files
+pub mod E1Unpacking

@@ -18,7 +18,7 @@ use Rattle.pdh_ops.specs.Refusing.{Refuses}
 use Rattle.pdh_ops.specs.Steps.{FailsForLine, IsLineCause}
 use Rattle.pdh_ops.specs.declared.file.File.TheVariants.{Line}
 use Rattle.pdh_ops.specs.declared.answer.Stop.{Stop}
-use Rattle.pdh_ops.specs.declared.answer.Stop.TheVariants.{Memory, Usage, Read, Write, Missing, LongSchedule, BadRow, UnknownNode, CountOver, ShortNode, Short, Overflow, Underflow, ManyFrames, NoAlignment}
+use Rattle.pdh_ops.specs.declared.answer.Stop.TheVariants.{Memory, Usage, Read, Write, Missing, LongSchedule, BadRow, UnknownNode, CountOver, ShortNode, Short, Overflow, Underflow, ManyFrames, NoAlignment, NotWhole}
 use Rattle.pdh_ops.proofs.Touching.{looks_same, read_fails_since}
 use Rattle.pdh_ops.proofs.Refusing.{size_stop, read_stop}
 use Rattle.pdh_chain.specs.declared.chain.Chain.{Chain}
@@ -107,4 +107,5 @@ line_refuses chain command next a b (Short f h n) begins cause = absurd cause
 line_refuses chain command next a b (Overflow p) begins cause = absurd cause
 line_refuses chain command next a b (Underflow p) begins cause = absurd cause
 line_refuses chain command next a b (NoAlignment n) begins cause = absurd cause
+line_refuses chain command next a b (NotWhole n) begins cause = absurd cause
 line_refuses chain command next a b (Write file) begins cause = absurd cause

@@ -26,10 +26,10 @@ use Rattle.pdh_ops.proofs.ScheduleComes.{Begins, HasSchedule}
 use Rattle.pdh_ops.specs.MuxSteps.{AreSizes, AllHeld, HasRows, IsLong, IsShortNode, IsShort, IsEnoughStop}
 use Rattle.pdh_words.specs.declared.commands.Command.TheVariants.{Mux}
 use Rattle.pdh_ops.specs.declared.file.File.{File}
-use Rattle.pdh_ops.specs.declared.file.File.TheVariants.{Line, Schedule, Leaf, Output}
+use Rattle.pdh_ops.specs.declared.file.File.TheVariants.{Line, Schedule, Leaf, Output, Payload, E1Line, PayloadOut}
 use Rattle.pdh_ops.specs.declared.mux.InputSizes.{InputSizes}
 use Rattle.pdh_ops.specs.declared.answer.Stop.{Stop}
-use Rattle.pdh_ops.specs.declared.answer.Stop.TheVariants.{Memory, Usage, Read, Write, Missing, LongSchedule, BadRow, UnknownNode, CountOver, ShortNode, Short, Overflow, Underflow, ManyFrames, NoAlignment}
+use Rattle.pdh_ops.specs.declared.answer.Stop.TheVariants.{Memory, Usage, Read, Write, Missing, LongSchedule, BadRow, UnknownNode, CountOver, ShortNode, Short, Overflow, Underflow, ManyFrames, NoAlignment, NotWhole}
 use Rattle.pdh_ops.proofs.Touching.{has_length_still}
 use Rattle.pdh_chain.specs.declared.chain.Chain.{Chain}
 use Rattle.pdh_shape.specs.OwnNumbers.{most_frames}
@@ -201,6 +201,9 @@ enough_refuses chain feac sizes rows a b (Short (Leaf k) have need) are has caus
 enough_refuses chain feac sizes rows a b (Short Line have need) are has cause = absurd cause
 enough_refuses chain feac sizes rows a b (Short Schedule have need) are has cause = absurd cause
 enough_refuses chain feac sizes rows a b (Short (Output k) have need) are has cause = absurd cause
+enough_refuses chain feac sizes rows a b (Short Payload have need) are has cause = absurd cause
+enough_refuses chain feac sizes rows a b (Short E1Line have need) are has cause = absurd cause
+enough_refuses chain feac sizes rows a b (Short PayloadOut have need) are has cause = absurd cause
 enough_refuses chain feac sizes rows a b Memory are has cause = absurd cause
 enough_refuses chain feac sizes rows a b Usage are has cause = absurd cause
 enough_refuses chain feac sizes rows a b (Read f) are has cause = absurd cause
@@ -213,6 +216,7 @@ enough_refuses chain feac sizes rows a b (CountOver l n m) are has cause = absur
 enough_refuses chain feac sizes rows a b (Overflow p) are has cause = absurd cause
 enough_refuses chain feac sizes rows a b (Underflow p) are has cause = absurd cause
 enough_refuses chain feac sizes rows a b (NoAlignment n) are has cause = absurd cause
+enough_refuses chain feac sizes rows a b (NotWhole n) are has cause = absurd cause
 
 -- they count nothing
 pub enough_counts : (chain : Chain) (rows : List Row) (sizes : InputSizes) (x y : Counts) (stop : Stop) → IsEnoughStop chain rows sizes stop → y ≡ x → y ≡ with_stop stop x
@@ -231,6 +235,7 @@ enough_counts chain rows sizes x y (CountOver l n m) cause same = same
 enough_counts chain rows sizes x y (Overflow p) cause same = same
 enough_counts chain rows sizes x y (Underflow p) cause same = same
 enough_counts chain rows sizes x y (NoAlignment n) cause same = same
+enough_counts chain rows sizes x y (NotWhole n) cause same = same
 
 -- the bytes of a leaf's file that were read give its bits
 pub bits_are : (chain : Chain) (feac : Option ℕ) (a : ShelfState) (k : ℕ) (bytes : List ℕ) (files : Files) → k < leaves_of chain → Holds (a.told (leaf_name k)) bytes → AreTold (Mux chain feac) a.told files → leaf_bits files k ≡ bits_of bytes

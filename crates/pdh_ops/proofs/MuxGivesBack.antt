@@ -35,11 +35,11 @@ use Rattle.pdh_ops.specs.Run.{Performs, IsTold, Runs}
 use Rattle.pdh_edge.specs.Ports.{IsPrefix}
 use Rattle.pdh_ops.specs.GivesBack.{GivesBack}
 use Rattle.pdh_words.specs.declared.commands.Command.{Command}
-use Rattle.pdh_words.specs.declared.commands.Command.TheVariants.{Demux, Mux, ClockCheck, ClockMake}
+use Rattle.pdh_words.specs.declared.commands.Command.TheVariants.{Demux, Mux, ClockCheck, ClockMake, E1Pack, E1Unpack}
 use Rattle.pdh_ops.specs.declared.answer.Done.{Done}
 use Rattle.pdh_ops.specs.declared.answer.Done.TheVariants.{Muxed}
 use Rattle.pdh_ops.specs.declared.answer.Stop.{Stop}
-use Rattle.pdh_ops.specs.declared.answer.Stop.TheVariants.{Memory, Usage, Read, Write, Missing, LongSchedule, BadRow, UnknownNode, CountOver, ShortNode, Short, Overflow, Underflow, ManyFrames, NoAlignment}
+use Rattle.pdh_ops.specs.declared.answer.Stop.TheVariants.{Memory, Usage, Read, Write, Missing, LongSchedule, BadRow, UnknownNode, CountOver, ShortNode, Short, Overflow, Underflow, ManyFrames, NoAlignment, NotWhole}
 use Rattle.pdh_ops.specs.declared.file.File.TheVariants.{Leaf}
 use Rattle.pdh_ops.proofs.Scheduled.{arrive_singly}
 use Rattle.pdh_ops.proofs.MuxComes.{each_long}
@@ -65,6 +65,7 @@ stop_status (Overflow p) = omega arith
 stop_status (Underflow p) = omega arith
 stop_status (ManyFrames n) = omega arith
 stop_status (NoAlignment n) = omega arith
+stop_status (NotWhole n) = omega arith
 
 -- the frames are made without an event, by a schedule in which no node is short and from leaves that are long enough
 pub record IsDone (chain : Chain) (files : Files) (rows : List Row) : Type 0 where
@@ -174,4 +175,6 @@ gives_back None a b k l status runs = tt
 gives_back (Some (Demux chain)) a b k l status runs = tt
 gives_back (Some (ClockCheck chain)) a b k l status runs = tt
 gives_back (Some (ClockMake chain frames bias)) a b k l status runs = tt
+gives_back (Some E1Pack) a b k l status runs = tt
+gives_back (Some E1Unpack) a b k l status runs = tt
 gives_back (Some (Mux chain feac)) a b k l status runs = answer_gives_back chain feac a b k l status runs.answer runs.does runs.told

@@ -31,12 +31,12 @@ use Rattle.pdh_ops.specs.Commands.{AreTold, comes_to}
 use Rattle.pdh_ops.specs.Run.{IsCause, Performs, IsTold, Runs}
 use Rattle.pdh_ops.specs.Tolerated.{AreWithin, HasNoEvent, IsDelayed}
 use Rattle.pdh_words.specs.declared.commands.Command.{Command}
-use Rattle.pdh_words.specs.declared.commands.Command.TheVariants.{Demux, Mux, ClockCheck, ClockMake}
+use Rattle.pdh_words.specs.declared.commands.Command.TheVariants.{Demux, Mux, ClockCheck, ClockMake, E1Pack, E1Unpack}
 use Rattle.pdh_ops.specs.declared.file.File.{File}
 use Rattle.pdh_ops.specs.declared.file.File.TheVariants.{Leaf}
 use Rattle.pdh_ops.specs.declared.answer.Done.TheVariants.{Muxed}
 use Rattle.pdh_ops.specs.declared.answer.Stop.{Stop}
-use Rattle.pdh_ops.specs.declared.answer.Stop.TheVariants.{Memory, Usage, Read, Write, Missing, LongSchedule, BadRow, UnknownNode, CountOver, ShortNode, Short, Overflow, Underflow, ManyFrames, NoAlignment}
+use Rattle.pdh_ops.specs.declared.answer.Stop.TheVariants.{Memory, Usage, Read, Write, Missing, LongSchedule, BadRow, UnknownNode, CountOver, ShortNode, Short, Overflow, Underflow, ManyFrames, NoAlignment, NotWhole}
 use Rattle.pdh_ops.proofs.Scheduled.{all_scheduled, scheduled-fewer}
 use Rattle.pdh_ops.proofs.MuxGivesBack.{DidMux, mux_done, frames_there, line_front, stop_status}
 use Rattle.pdh_shape.specs.OwnNumbers.{most_frames}
@@ -110,6 +110,7 @@ no_eight chain feac a b (ShortNode p h n) files eight cause told none = absurd (
 no_eight chain feac a b (Short f h n) files eight cause told none = absurd (omega arith)
 no_eight chain feac a b (ManyFrames n) files eight cause told none = absurd (omega arith)
 no_eight chain feac a b (NoAlignment n) files eight cause told none = absurd (omega arith)
+no_eight chain feac a b (NotWhole n) files eight cause told none = absurd (omega arith)
 
 answer_no_event : (chain : Chain) (feac : Option ℕ) (a b : ShelfState) (k l : SinkState) (status : ℕ) (answer : Answer) → Performs (Mux chain feac) a b answer → IsTold answer k l status → HasNoEvent (Some (Mux chain feac)) a status
 answer_no_event chain feac a b k l status (Ok done) performs tells files told within eight = elim tells [ inl sent ↦ absurd (omega (arith, sent.0, eight)) | inr failed ↦ absurd (omega (arith, failed.0, eight)) ]
@@ -121,6 +122,8 @@ has_no_event None a b k l status runs = tt
 has_no_event (Some (Demux chain)) a b k l status runs = tt
 has_no_event (Some (ClockCheck chain)) a b k l status runs = tt
 has_no_event (Some (ClockMake chain frames bias)) a b k l status runs = tt
+has_no_event (Some E1Pack) a b k l status runs = tt
+has_no_event (Some E1Unpack) a b k l status runs = tt
 has_no_event (Some (Mux chain feac)) a b k l status runs = answer_no_event chain feac a b k l status runs.answer runs.does runs.told
 
 -- ---- the delay
@@ -153,4 +156,6 @@ is_delayed None a b k l status runs = tt
 is_delayed (Some (Demux chain)) a b k l status runs = tt
 is_delayed (Some (ClockCheck chain)) a b k l status runs = tt
 is_delayed (Some (ClockMake chain frames bias)) a b k l status runs = tt
+is_delayed (Some E1Pack) a b k l status runs = tt
+is_delayed (Some E1Unpack) a b k l status runs = tt
 is_delayed (Some (Mux chain feac)) a b k l status runs = answer_delayed chain feac a b k l status runs.answer runs.does runs.told

@@ -5,10 +5,11 @@ use Rattle.pdh_line.specs.Paths.{steps_of, path_text}
 use Rattle.pdh_chain.specs.Chains.{name_of as name_of_chain}
 use Rattle.pdh_ops.specs.Names.{name_of}
 use Rattle.pdh_ops.specs.declared.answer.Done.{Done}
-use Rattle.pdh_ops.specs.declared.answer.Done.TheVariants.{Demuxed, Muxed, ClockInside, ClockOutside, ClockMade}
+use Rattle.pdh_ops.specs.declared.answer.Done.TheVariants.{Demuxed, Muxed, ClockInside, ClockOutside, ClockMade, E1Packed, E1Unpacked}
+use Rattle.pdh_ops.specs.declared.answer.E1Counts.{E1Counts}
 use Rattle.pdh_ops.specs.declared.answer.OutOfTolerance.{OutOfTolerance}
 use Rattle.pdh_ops.specs.declared.answer.Stop.{Stop}
-use Rattle.pdh_ops.specs.declared.answer.Stop.TheVariants.{Memory, Usage, Read, Write, Missing, LongSchedule, BadRow, UnknownNode, CountOver, ShortNode, Short, Overflow, Underflow, ManyFrames, NoAlignment}
+use Rattle.pdh_ops.specs.declared.answer.Stop.TheVariants.{Memory, Usage, Read, Write, Missing, LongSchedule, BadRow, UnknownNode, CountOver, ShortNode, Short, Overflow, Underflow, ManyFrames, NoAlignment, NotWhole}
 
 -- what was done, or why not
 abbrev pub Answer : Type 0
@@ -35,6 +36,7 @@ status_of (Overflow place) = 8
 status_of (Underflow place) = 8
 status_of (ManyFrames frames) = 10
 status_of (NoAlignment bits) = 11
+status_of (NotWhole octets) = 12
 
 -- a place as texts have it: tributaries are counted from 1, frames and slots from 0
 abbrev pub place_text : Place → List ℕ
@@ -46,6 +48,10 @@ abbrev pub outside_text : OutOfTolerance → List ℕ
 outside_text out =
     path_text (steps_of out.node) ++ codes " tributary " ++ decimal out.trib ++ codes " frames " ++ decimal out.run.from ++ codes " to " ++ decimal out.run.to ++ codes " sum " ++ decimal out.run.sum
 
+-- what was found in a framed 2048 kbit/s line
+abbrev pub counts_text : E1Counts → List ℕ
+counts_text found = decimal found.multiframes ++ codes " blocks " ++ decimal found.blocks ++ codes " errored " ++ decimal found.errored
+
 -- each text is one line
 abbrev pub done_text : Done → List ℕ
 done_text (Demuxed chain frames) = codes "demux " ++ name_of_chain chain ++ codes ": frames " ++ decimal frames ++ codes "\n"
@@ -53,6 +59,8 @@ done_text (Muxed chain frames) = codes "mux " ++ name_of_chain chain ++ codes ":
 done_text (ClockInside chain) = codes "clock " ++ name_of_chain chain ++ codes ": inside\n"
 done_text (ClockOutside chain out) = codes "clock " ++ name_of_chain chain ++ codes ": outside " ++ outside_text out ++ codes "\n"
 done_text (ClockMade chain rows) = codes "clock " ++ name_of_chain chain ++ codes ": rows " ++ decimal rows ++ codes "\n"
+done_text (E1Packed multiframes) = codes "e1pack: multiframes " ++ decimal multiframes ++ codes "\n"
+done_text (E1Unpacked found) = codes "e1unpack: multiframes " ++ counts_text found ++ codes "\n"
 
 abbrev pub stop_text : Stop → List ℕ
 stop_text Memory = codes "memory\n"
@@ -70,6 +78,7 @@ stop_text (Overflow place) = codes "overflow: " ++ place_text place ++ codes "\n
 stop_text (Underflow place) = codes "underflow: " ++ place_text place ++ codes "\n"
 stop_text (ManyFrames frames) = codes "too many frames: " ++ decimal frames ++ codes "\n"
 stop_text (NoAlignment bits) = codes "no alignment: " ++ decimal bits ++ codes " bits\n"
+stop_text (NotWhole octets) = codes "not a whole multiframe: " ++ decimal octets ++ codes " octets\n"
 
 abbrev pub text_of : Answer → List ℕ
 text_of (Ok done) = done_text done

@@ -4,6 +4,7 @@ pub mod Demux
 pub mod Schedules
 pub mod Mux
 pub mod Clock
+pub mod E1
 pub mod Commands
 pub mod Run
 pub mod Reading
@@ -12,5 +13,7 @@ pub mod Writing
 pub mod Steps
 pub mod ScheduleSteps
 pub mod MuxSteps
+pub mod E1Steps
 pub mod GivesBack
+pub mod Packs
 pub mod Tolerated

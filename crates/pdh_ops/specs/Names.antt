@@ -1,7 +1,7 @@
 -- The names of the files.
 use Rattle.std.specs.Prelude.{ℕ, ◌+◌, ◌/◌, ◌%◌, List, [], ◌∷◌, ◌++◌, codes}
 use Rattle.pdh_ops.specs.declared.file.File.{File}
-use Rattle.pdh_ops.specs.declared.file.File.TheVariants.{Line, Schedule, Leaf, Output}
+use Rattle.pdh_ops.specs.declared.file.File.TheVariants.{Line, Schedule, Leaf, Output, Payload, E1Line, PayloadOut}
 
 -- the last two decimal digits of a number
 abbrev pub two_digits : ℕ → List ℕ
@@ -27,8 +27,23 @@ leaf_name leaf = numbered_name (codes "t") leaf
 abbrev pub output_name : ℕ → List ℕ
 output_name leaf = numbered_name (codes "o") leaf
 
+-- the octets that are packed into a framed 2048 kbit/s line
+unfoldable pub payload_name : List ℕ
+payload_name = codes "payload.bin"
+
+-- that line
+unfoldable pub e1_name : List ℕ
+e1_name = codes "e1.bits"
+
+-- what such a line gives
+unfoldable pub payload_out_name : List ℕ
+payload_out_name = codes "payload.out"
+
 abbrev pub name_of : File → List ℕ
 name_of Line = line_name
 name_of Schedule = schedule_name
 name_of (Leaf leaf) = leaf_name leaf
 name_of (Output leaf) = output_name leaf
+name_of Payload = payload_name
+name_of E1Line = e1_name
+name_of PayloadOut = payload_out_name

@@ -15,6 +15,17 @@ pub struct OutOfTolerance {
     pub run: Outside,
 }
 
+/// What was found in a framed 2048 kbit/s line.
+#[derive(Clone, Copy, Debug, PartialEq, Eq)]
+pub struct E1Counts {
+    /// The delivered multiframes.
+    pub multiframes: u64,
+    /// The judged blocks.
+    pub blocks: u64,
+    /// The errored ones among them.
+    pub errored: u64,
+}
+
 /// What a command did, with the numbers of its text.
 #[derive(Clone, Copy, Debug, PartialEq, Eq)]
 pub enum Done {
@@ -28,6 +39,10 @@ pub enum Done {
     ClockOutside(Chain, OutOfTolerance),
     /// `clock make`, with the rows of the schedule.
     ClockMade(Chain, u64),
+    /// `e1pack`, with the multiframes of the line.
+    E1Packed(u64),
+    /// `e1unpack`, with what was found in the line.
+    E1Unpacked(E1Counts),
 }
 
 /// Why a command ended early. Lines of a text are counted from 1.
@@ -61,8 +76,10 @@ pub enum Stop {
     Underflow(Place),
     /// The line has more frames than 16,384.
     ManyFrames(u64),
-    /// No frame of the line was delivered: its bits.
+    /// No frame, or in `e1unpack` no multiframe, of the line was delivered: its bits.
     NoAlignment(u64),
+    /// The payload doesn't fill whole multiframes: its octets.
+    NotWhole(u64),
 }
 
 impl Stop {
@@ -89,6 +106,7 @@ impl Stop {
             Stop::Underflow(_) => 8,
             Stop::ManyFrames(_) => 10,
             Stop::NoAlignment(_) => 11,
+            Stop::NotWhole(_) => 12,
         }
     }
 }

@@ -1,5 +1,5 @@
 ghost use Rattle.std.specs.Prelude.{◌≡◌, ◌+◌, ◌%◌, ◌≤◌, length};
-ghost use Rattle.pdh_ops.specs.Names.{line_name as name_of_line, schedule_name as name_of_schedule, numbered_name as name_of_numbered};
+ghost use Rattle.pdh_ops.specs.Names.{line_name as name_of_line, schedule_name as name_of_schedule, payload_name as name_of_payload, e1_name as name_of_e1, payload_out_name as name_of_payload_out, numbered_name as name_of_numbered};
 
 use arrayvec::ArrayString;
 
@@ -14,6 +14,12 @@ pub enum File {
     Leaf(u8),
     /// What a leaf received, counted from 0.
     Output(u8),
+    /// The octets that are packed into a framed 2048 kbit/s line.
+    Payload,
+    /// That line.
+    E1Line,
+    /// What such a line gives.
+    PayloadOut,
 }
 
 /// A file's name, of at most 16 bytes.
@@ -64,6 +70,39 @@ fn schedule_name() -> Name
     name
 }
 
+// The name of the octets that are packed.
+#[tactic(auto, unfolding(crate::specs::Names::payload_name))]
+fn payload_name() -> Name
+    ensures value { result.bytes ≡ name_of_payload }
+    ensures short { length result.bytes ≡ 11 }
+{
+    let mut name = Name::new();
+    name.push_str("payload.bin");
+    name
+}
+
+// The name of the framed 2048 kbit/s line.
+#[tactic(auto, unfolding(crate::specs::Names::e1_name))]
+fn e1_name() -> Name
+    ensures value { result.bytes ≡ name_of_e1 }
+    ensures short { length result.bytes ≡ 7 }
+{
+    let mut name = Name::new();
+    name.push_str("e1.bits");
+    name
+}
+
+// The name of the octets that a framed 2048 kbit/s line gives.
+#[tactic(auto, unfolding(crate::specs::Names::payload_out_name))]
+fn payload_out_name() -> Name
+    ensures value { result.bytes ≡ name_of_payload_out }
+    ensures short { length result.bytes ≡ 11 }
+{
+    let mut name = Name::new();
+    name.push_str("payload.out");
+    name
+}
+
 impl File {
     ghost use Rattle.pdh_ops.specs.Names.{name_of};
 
@@ -77,6 +116,9 @@ impl File {
             File::Schedule => schedule_name(),
             File::Leaf(leaf) => numbered_name("t", leaf),
             File::Output(leaf) => numbered_name("o", leaf),
+            File::Payload => payload_name(),
+            File::E1Line => e1_name(),
+            File::PayloadOut => payload_out_name(),
         }
     }
 }

@@ -4,6 +4,7 @@
 mod answer;
 mod clock;
 mod demux;
+mod e1;
 mod file;
 mod files;
 mod leaf;

@@ -3,11 +3,13 @@ ghost use Rattle.std.specs.String.{string_bytes};
 ghost use Rattle.pdh_words.specs.Commands.{command_of, HasCode};
 ghost use Rattle.pdh_ops.specs.Run.{Performs, Does, Runs, Completes};
 ghost use Rattle.pdh_ops.specs.GivesBack.{GivesBack};
+ghost use Rattle.pdh_ops.specs.Packs.{Packs};
 ghost use Rattle.pdh_ops.specs.Tolerated.{HasNoEvent, IsDelayed};
 
 use crate::answer::{Done, Stop};
 use crate::clock::{check, make};
 use crate::demux::demux;
+use crate::e1::{e1pack, e1unpack};
 use crate::mux::mux;
 use crate::report::report;
 use pdh_edge::{Shelf, Sink};
@@ -35,6 +37,8 @@ fn perform<S: Shelf>(alloc: Global, command: Command, shelf: &mut S) -> Result<D
             frames,
             bias,
         } => make(alloc, chain, frames, bias, shelf),
+        Command::E1Pack => e1pack(alloc, shelf),
+        Command::E1Unpack => e1unpack(alloc, shelf),
     }
 }
 
@@ -56,7 +60,8 @@ fn answer<S: Shelf>(alloc: Global, words: &[String], shelf: &mut S) -> Result<Do
 /// fault; 7, the schedule has too few frames of a node below the top, or a leaf's file too few bits; 8,
 /// an elastic store overflows or underflows, and the line ends before the frame in whose making that
 /// happens; 10, the line, or the schedule that is asked for, has too many frames; 11, no frame of the
-/// line was delivered, and the outputs hold what a search for one gives.
+/// line, or in `e1unpack` no multiframe, was delivered, and the outputs hold what the search gives; 12, the payload doesn't fill
+/// whole multiframes.
 pub fn run<S: Shelf, K: Sink>(
     alloc: Global,
     words: &[String],
@@ -66,6 +71,8 @@ pub fn run<S: Shelf, K: Sink>(
     ensures runs { Runs (command_of (map string_bytes words.now)) (S.state shelf) (S.state result.shelf) (K.state out) (K.state result.out) result.status }
     // What `mux` wrote, `demux` gives back in order.
     ensures gives_back { GivesBack (command_of (map string_bytes words.now)) (S.state shelf) (S.state result.shelf) result.status }
+    // What `e1pack` wrote is the packed line of its payload.
+    ensures packs { Packs (command_of (map string_bytes words.now)) (S.state shelf) (S.state result.shelf) result.status }
     // Where each tributary of each node is within the tolerance, `mux` meets no event, and what its
     // line gives back is at most the chain's delay behind arrival.
     ensures no_event { HasNoEvent (command_of (map string_bytes words.now)) (S.state shelf) result.status }

@@ -2,10 +2,10 @@ ghost use Rattle.std.specs.Prelude.{◌≡◌, ◌≤◌, ◌++◌, length, deci
 ghost use Rattle.pdh_chain.specs.Chains.{name_of as name_of_chain};
 ghost use Rattle.pdh_line.specs.Paths.{steps_of, path_text};
 ghost use Rattle.pdh_ops.specs.Names.{name_of};
-ghost use Rattle.pdh_ops.specs.Answer.{text_of, done_text as done_of, stop_text as stop_of, place_text as place_of, outside_text as outside_of};
+ghost use Rattle.pdh_ops.specs.Answer.{text_of, done_text as done_of, stop_text as stop_of, place_text as place_of, outside_text as outside_of, counts_text};
 ghost use Rattle.pdh_ops.specs.Run.{IsTold};
 
-use crate::answer::{Done, OutOfTolerance, Stop};
+use crate::answer::{Done, E1Counts, OutOfTolerance, Stop};
 use crate::file::File;
 use pdh_chain::Chain;
 use pdh_edge::Sink;
@@ -105,6 +105,22 @@ fn outside(chain: Chain, out: OutOfTolerance) -> Text
     text
 }
 
+// The line of what was found in a framed 2048 kbit/s line.
+#[tactic(auto, using(crate::proofs::Texts::digits))]
+fn unpacked(found: E1Counts) -> Text
+    ensures { result ≡ codes "e1unpack: multiframes " ++ counts_text found ++ codes "\n" }
+{
+    let mut text = Text::new();
+    text.text("e1unpack: multiframes ");
+    text.number(found.multiframes);
+    text.text(" blocks ");
+    text.number(found.blocks);
+    text.text(" errored ");
+    text.number(found.errored);
+    text.text("\n");
+    text
+}
+
 // A line of a part alone.
 fn plain(part: &str) -> Text
     requires { length part.now ≤ 100 }
@@ -158,6 +174,18 @@ fn no_alignment(bits: u64) -> Text
     text
 }
 
+// The line of a payload that doesn't fill whole multiframes.
+#[tactic(auto, using(crate::proofs::Texts::digits))]
+fn not_whole(octets: u64) -> Text
+    ensures { result ≡ codes "not a whole multiframe: " ++ decimal octets ++ codes " octets\n" }
+{
+    let mut text = Text::new();
+    text.text("not a whole multiframe: ");
+    text.number(octets);
+    text.text(" octets\n");
+    text
+}
+
 // The line of a file with too few bits.
 #[tactic(auto, using(crate::proofs::Texts::digits))]
 fn short(file: File, have: u64, need: u64) -> Text
@@ -199,6 +227,8 @@ fn done_text(done: Done) -> Text
         Done::ClockInside(chain) => inside(chain),
         Done::ClockOutside(chain, out) => outside(chain, out),
         Done::ClockMade(chain, rows) => chain_counted("clock ", chain, ": rows ", rows),
+        Done::E1Packed(multiframes) => counted("e1pack: multiframes ", multiframes),
+        Done::E1Unpacked(found) => unpacked(found),
     }
 }
 
@@ -223,6 +253,7 @@ fn stop_text(stop: Stop) -> Text
         Stop::Underflow(place) => placed("underflow: ", place),
         Stop::ManyFrames(frames) => counted("too many frames: ", frames),
         Stop::NoAlignment(bits) => no_alignment(bits),
+        Stop::NotWhole(octets) => not_whole(octets),
     }
 }
 

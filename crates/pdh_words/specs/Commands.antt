@@ -8,7 +8,7 @@ use Rattle.pdh_chain.specs.declared.chain.Chain.{Chain}
 use Rattle.pdh_chain.specs.declared.chain.Chain.TheVariants.{C13}
 use Rattle.pdh_chain.specs.Chains.{chains, name_of}
 use Rattle.pdh_words.specs.declared.commands.Command.{Command}
-use Rattle.pdh_words.specs.declared.commands.Command.TheVariants.{Demux, Mux, ClockCheck, ClockMake}
+use Rattle.pdh_words.specs.declared.commands.Command.TheVariants.{Demux, Mux, ClockCheck, ClockMake, E1Pack, E1Unpack}
 
 -- the chain of a word
 abbrev pub chain_of : List ℕ → Option Chain
@@ -21,6 +21,12 @@ bias_of word =
     else (if bytes_eq word (codes "fast") then Some Fast
     else (if bytes_eq word (codes "slow") then Some Slow
     else (if bytes_eq word (codes "mixed") then Some Mixed else None))))
+
+-- `e1pack` or `e1unpack`
+abbrev pub framing_of : List ℕ → Option Command
+framing_of word =
+    (if bytes_eq word (codes "e1pack") then Some E1Pack
+    else (if bytes_eq word (codes "e1unpack") then Some E1Unpack else None))
 
 -- `mux` or `demux` of a chain
 abbrev pub conversion_of : List ℕ → Chain → Option Command
@@ -43,8 +49,9 @@ making_of chain_word frames_word bias_word = do
   Some (ClockMake chain frames bias)
 
 -- the command of these words, if they are a row of the table: `mux CHAIN`, `demux CHAIN`, `clock check CHAIN`,
--- `mux c13 feac CODE`, and `clock make CHAIN FRAMES BIAS`
+-- `mux c13 feac CODE`, `clock make CHAIN FRAMES BIAS`, `e1pack`, and `e1unpack`
 abbrev pub command_of : List (List ℕ) → Option Command
+command_of (a ∷ []) = framing_of a
 command_of (a ∷ chain_word ∷ []) = do
   chain ← chain_of chain_word
   conversion_of a chain

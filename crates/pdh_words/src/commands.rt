@@ -30,4 +30,8 @@ pub enum Command {
         /// Which clocks are fast and which are slow.
         bias: Bias,
     },
+    /// `e1pack`: puts a payload into a line of CRC-4 multiframes (G.704, 2.3).
+    E1Pack,
+    /// `e1unpack`: takes the payload out of a line of CRC-4 multiframes (G.706, 4).
+    E1Unpack,
 }

@@ -1,6 +1,6 @@
 ghost use Rattle.std.specs.Prelude.{◌≡◌, map, IfSome};
 ghost use Rattle.std.specs.String.{string_bytes};
-ghost use Rattle.pdh_words.specs.Commands.{chain_of, bias_of, conversion_of, sending_of, making_of, command_of, HasCode};
+ghost use Rattle.pdh_words.specs.Commands.{chain_of, bias_of, framing_of, conversion_of, sending_of, making_of, command_of, HasCode};
 
 use crate::commands::Command;
 use pdh_chain::{Chain, all_chains};
@@ -25,6 +25,17 @@ fn bias(word: &str) -> Option<Bias>
         "fast" => Some(Bias::Fast),
         "slow" => Some(Bias::Slow),
         "mixed" => Some(Bias::Mixed),
+        _ => None,
+    }
+}
+
+// The command of one word alone.
+fn framing(word: &str) -> Option<Command>
+    ensures { result ≡ framing_of word.now }
+{
+    match word {
+        "e1pack" => Some(Command::E1Pack),
+        "e1unpack" => Some(Command::E1Unpack),
         _ => None,
     }
 }
@@ -69,13 +80,14 @@ fn making(chain_word: &str, frames: &str, bias_word: &str) -> Option<Command>
 }
 
 /// The command of the words, without the program's own name, if they are a row of the table: `mux CHAIN`, `demux CHAIN`,
-/// `mux c13 feac CODE` with a number of at most 63, `clock check CHAIN`, or `clock make CHAIN FRAMES BIAS` with a number and
-/// `nominal`, `fast`, `slow` or `mixed`. CHAIN is the name of a chain.
+/// `mux c13 feac CODE` with a number of at most 63, `clock check CHAIN`, `clock make CHAIN FRAMES BIAS` with a number and
+/// `nominal`, `fast`, `slow` or `mixed`, `e1pack`, or `e1unpack`. CHAIN is the name of a chain.
 pub fn command(words: &[String]) -> Option<Command>
     ensures is { result ≡ command_of (map string_bytes words.now) }
     ensures code { IfSome result HasCode }
 {
     match words {
+        [word] => framing(word.as_str()),
         [first, chain_word] => conversion(first.as_str(), chain(chain_word.as_str())?),
         [first, second, chain_word] => {
             let chain = chain(chain_word.as_str())?;

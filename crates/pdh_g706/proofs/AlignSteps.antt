@@ -1,0 +1,342 @@
+-- What the calls do to the fields is a turn of the machine.
+use Rattle.std.proofs.Common.{◌≡◌, ◌≢◌, ℕ, ◌+◌, ◌-◌, ◌*◌, ◌/◌, ◌%◌, ◌<◌, ◌≤◌, Bool, true, false, cond, ltb, List, [], ◌∷◌, ◌++◌, length, get_or, take, drop, refl, sym, ap, ◌∙◌, subst, inl, inr, arith}
+use Rattle.std.specs.Prelude.{◌==◌, Result, Ok, Err, OnOk, OnErr}
+use Rattle.std.proofs.lemmas.Bool.{cases_Bool, lt-ltb, le-ltb, eq-eqb, ne_eqb}
+use Rattle.std.proofs.lemmas.List.{append-nil, append_assoc, take_more, take_all, take-append-drop}
+use Rattle.pdh_edge.proofs.Runs.{puts_begin, puts_then, puts_part}
+use Rattle.pdh_bits.specs.Bits.{bit_value}
+use Rattle.pdh_edge.specs.Ports.{Outputs, Puts, PutsPart, IsPrefix, HasCause, for_leaf}
+use Rattle.pdh_g706.specs.declared.align.E1Align.{E1Align}
+use Rattle.pdh_g706.specs.declared.counts.Counts.{Counts}
+use Rattle.pdh_g706.specs.declared.counts.Group.{Group}
+use Rattle.pdh_g706.specs.declared.stage.Stage.{Stage}
+use Rattle.pdh_g706.specs.declared.stage.Stage.TheVariants as stages
+use Rattle.pdh_g706.specs.Frames.{frames_of, is_confirmed}
+use Rattle.pdh_g706.specs.Alignment.{loses, earlier, reaches, errs}
+use Rattle.pdh_g706.specs.Tracking.{Share, e1_far, multiframes_in, blocks_in, errors_in, counted}
+use Rattle.pdh_g706.specs.Machine.{Phase, Holds, Fits, Turn, nothing, still, last_bits, payload_from, errs_in, search_turn, framing_turn, aligned_turn, aligned_bits, group_phase, block_turn, framed_turn, framed_bits, turn}
+use Rattle.pdh_g706.specs.Machine.Phase.{Searching, Aligned, Framed}
+use Rattle.pdh_g706.specs.View.{phase_of, phase, StandsFor, Counted, Becomes, Gains, GainsPart}
+use Rattle.pdh_g706.proofs.FrameLists.{length_frames}
+use Rattle.pdh_g706.proofs.TurnLaws.{framing_turn_is, aligned_turn_is}
+use Rattle.pdh_g706.proofs.HoldsLaws.{holds_turn, e1_far_grows}
+
+-- ---- turns
+
+pub search_short : (bits : List Bool) → length bits < 768 → search_turn bits ≡ still (Searching bits)
+unfolding search_turn
+search_short bits short = ap (λ b. cond b (still (Searching bits)) (cond (is_confirmed bits) (still (Aligned bits)) (still (Searching (drop 1 bits))))) (lt-ltb _ _ short)
+
+pub search_long : (bits : List Bool) (right : Bool) → 768 ≤ length bits → right ≡ is_confirmed bits → search_turn bits ≡ cond right (still (Aligned bits)) (still (Searching (drop 1 bits)))
+unfolding search_turn
+search_long bits right long is =
+    ap (λ b. cond b (still (Searching bits)) (cond (is_confirmed bits) (still (Aligned bits)) (still (Searching (drop 1 bits))))) (le-ltb _ _ long)
+    ∙ ap (λ b. cond b (still (Aligned bits)) (still (Searching (drop 1 bits)))) (sym is)
+
+-- the way of the bits where no frame ends, or a loss is complete, or neither
+pub ends_none : (bits : List Bool) (lost other here : Turn) → length bits % 256 ≢ 0 → cond (length bits % 256 == 0) (cond (loses (frames_of bits)) lost other) here ≡ here
+ends_none bits lost other here part = ap (λ b. cond b (cond (loses (frames_of bits)) lost other) here) (ne_eqb _ _ part)
+
+pub ends_loss : (bits : List Bool) (lost other here : Turn) → length bits % 256 ≡ 0 → loses (frames_of bits) ≡ true → cond (length bits % 256 == 0) (cond (loses (frames_of bits)) lost other) here ≡ lost
+ends_loss bits lost other here whole is = ap (λ b. cond b (cond (loses (frames_of bits)) lost other) here) (eq-eqb _ _ whole) ∙ ap (λ b. cond b lost other) is
+
+pub ends_frame : (bits : List Bool) (lost other here : Turn) → length bits % 256 ≡ 0 → loses (frames_of bits) ≡ false → cond (length bits % 256 == 0) (cond (loses (frames_of bits)) lost other) here ≡ other
+ends_frame bits lost other here whole is = ap (λ b. cond b (cond (loses (frames_of bits)) lost other) here) (eq-eqb _ _ whole) ∙ ap (λ b. cond b lost other) is
+
+pub aligned_found : (bits : List Bool) (first : ℕ) → reaches (frames_of bits) ≡ true → first ≡ earlier (frames_of bits) (length bits / 256 - 12) → aligned_turn bits ≡ framing_turn bits first
+aligned_found bits first right is =
+    aligned_turn_is bits (frames_of bits) refl
+    ∙ ap (λ b. cond b (framing_turn bits (earlier (frames_of bits) (length (frames_of bits) - 12))) (cond (length (frames_of bits) == 64) (still (Searching (last_bits 255 bits))) (still (Aligned bits)))) right
+    ∙ ap (framing_turn bits) (ap (λ n. earlier (frames_of bits) (n - 12)) (length_frames bits) ∙ sym is)
+
+pub aligned_none : (bits : List Bool) (last : Bool) → reaches (frames_of bits) ≡ false → (length (frames_of bits) == 64) ≡ last → aligned_turn bits ≡ cond last (still (Searching (last_bits 255 bits))) (still (Aligned bits))
+aligned_none bits last wrong is =
+    aligned_turn_is bits (frames_of bits) refl
+    ∙ ap (λ b. cond b (framing_turn bits (earlier (frames_of bits) (length (frames_of bits) - 12))) (cond (length (frames_of bits) == 64) (still (Searching (last_bits 255 bits))) (still (Aligned bits)))) wrong
+    ∙ ap (λ b. cond b (still (Searching (last_bits 255 bits))) (still (Aligned bits))) is
+
+-- what is made where the multiframes are found
+abbrev pub begun : List Bool → ℕ → ℕ → ℕ → ℕ → Turn
+begun bits first whole blocks wrong = record {
+  phase = Framed (drop (256 * (first + 16 * (whole - 1))) bits) blocks wrong;
+  gained = record { payload = payload_from (frames_of bits) first (16 * whole); multiframes = whole; blocks = blocks; errored = wrong };
+}
+
+pub framing_is : (bits : List Bool) (first whole blocks wrong : ℕ) → (length bits / 256 - first) / 16 ≡ whole → (length bits / 256 - first) / 8 - 1 ≡ blocks → wrong ≡ errs_in (frames_of bits) first blocks
+    → framing_turn bits first ≡ begun bits first whole blocks wrong
+framing_is bits first whole blocks wrong w_is b_is e_is =
+    let n_is : length (frames_of bits) ≡ length bits / 256 = length_frames bits in
+    let w : (length (frames_of bits) - first) / 16 ≡ whole = ap (λ n. (n - first) / 16) n_is ∙ w_is in
+    let b : (length (frames_of bits) - first) / 8 - 1 ≡ blocks = ap (λ n. (n - first) / 8 - 1) n_is ∙ b_is in
+    framing_turn_is bits (frames_of bits) first refl
+    ∙ ap (λ m. begun bits first m ((length (frames_of bits) - first) / 8 - 1) (errs_in (frames_of bits) first ((length (frames_of bits) - first) / 8 - 1))) w
+    ∙ ap (λ m. begun bits first whole m (errs_in (frames_of bits) first m)) b
+    ∙ ap (begun bits first whole blocks) (sym e_is)
+
+-- what is made where a sub-multiframe ends
+abbrev pub judged_one : List Bool → List Bool → List Bool → ℕ → ℕ → ℕ → ℕ → Turn
+judged_one bits rest put group wrong whole one = record {
+  phase = group_phase bits rest group wrong;
+  gained = record { payload = put; multiframes = whole; blocks = 1; errored = one };
+}
+
+block_is : (bits : List Bool) (group wrong : ℕ) (full : Bool) (i : ℕ) (bad : Bool) → (length (frames_of bits) == 32) ≡ full → i ≡ length bits / 256 - 16 → bad ≡ errs (frames_of bits) i
+    → block_turn bits group wrong ≡ judged_one bits (cond full (drop 4096 bits) bits) (cond full (payload_from (frames_of bits) 16 16) []) (group + 1) (wrong + bit_value bad) (bit_value full) (bit_value bad)
+unfolding block_turn
+block_is bits group wrong full i bad f_is i_is b_is =
+    let fs = frames_of bits in
+    let one : bit_value (errs fs (length fs - 16)) ≡ bit_value bad = ap bit_value (ap (λ n. errs fs (n - 16)) (length_frames bits) ∙ ap (errs fs) (sym i_is) ∙ sym b_is) in
+    ap (λ b. judged_one bits (cond b (drop 4096 bits) bits) (cond b (payload_from fs 16 16) []) (group + 1) (wrong + bit_value (errs fs (length fs - 16))) (bit_value b) (bit_value (errs fs (length fs - 16)))) f_is
+    ∙ ap (λ n. judged_one bits (cond full (drop 4096 bits) bits) (cond full (payload_from fs 16 16) []) (group + 1) (wrong + n) (bit_value full) n) one
+
+pub block_full : (bits : List Bool) (group wrong i : ℕ) (bad : Bool) → length bits ≡ 8192 → i ≡ length bits / 256 - 16 → bad ≡ errs (frames_of bits) i
+    → block_turn bits group wrong ≡ judged_one bits (drop 4096 bits) (payload_from (frames_of bits) 16 16) (group + 1) (wrong + bit_value bad) 1 (bit_value bad)
+block_full bits group wrong i bad long i_is b_is =
+    let size : length (frames_of bits) ≡ 32 = length_frames bits ∙ ap (λ n. n / 256) long in
+    block_is bits group wrong true i bad (eq-eqb _ _ size) i_is b_is
+
+pub block_half : (bits : List Bool) (group wrong i : ℕ) (bad : Bool) → length bits % 2048 ≡ 0 → length bits ≢ 8192 → i ≡ length bits / 256 - 16 → bad ≡ errs (frames_of bits) i
+    → block_turn bits group wrong ≡ judged_one bits bits [] (group + 1) (wrong + bit_value bad) 0 (bit_value bad)
+block_half bits group wrong i bad whole other i_is b_is =
+    let size : length (frames_of bits) ≢ 32 = λ e. other (exact (length bits) whole (sym (length_frames bits) ∙ e)) in
+    block_is bits group wrong false i bad (ne_eqb _ _ size) i_is b_is
+  where
+    exact : (n : ℕ) → n % 2048 ≡ 0 → n / 256 ≡ 32 → n ≡ 8192
+    exact n e f = omega arith
+
+pub framed_block : (bits : List Bool) (group wrong : ℕ) → length bits % 2048 ≡ 0 → framed_turn bits group wrong ≡ block_turn bits group wrong
+unfolding framed_turn
+framed_block bits group wrong whole =
+    let eighth : length (frames_of bits) % 8 ≡ 0 = ap (λ n. n % 8) (length_frames bits) ∙ omega arith in
+    ap (λ b. cond b (block_turn bits group wrong) (still (Framed bits group wrong))) (eq-eqb _ _ eighth)
+
+pub framed_frame : (bits : List Bool) (group wrong : ℕ) → length bits % 256 ≡ 0 → length bits % 2048 ≢ 0 → framed_turn bits group wrong ≡ still (Framed bits group wrong)
+unfolding framed_turn
+framed_frame bits group wrong whole part =
+    let eighth : length (frames_of bits) % 8 ≢ 0 = λ e. part (exact (length bits) whole (ap (λ n. n % 8) (sym (length_frames bits)) ∙ e)) in
+    ap (λ b. cond b (block_turn bits group wrong) (still (Framed bits group wrong))) (ne_eqb _ _ eighth)
+  where
+    exact : (n : ℕ) → n % 256 ≡ 0 → n / 256 % 8 ≡ 0 → n % 2048 ≡ 0
+    exact n e f = omega arith
+
+-- ---- what becomes of the fields
+
+pub becomes : (t u : Turn) (old new : E1Align) → t ≡ u → Becomes u old new → Becomes t old new
+becomes t u old new e b = subst (λ (x : Turn). Becomes x old new) (sym e) b
+
+-- nothing was counted
+pub uncounted : (old new : Counts) → new ≡ old → Counted nothing old new
+uncounted old new same = record {
+  multiframes_are = λ n is. ap (λ (c : Counts). c.multiframes) same ∙ is ∙ ap counted (plus_none n);
+  blocks_are = λ n is. ap (λ (c : Counts). c.blocks) same ∙ is ∙ ap counted (plus_none n);
+  errored_are = λ n is. ap (λ (c : Counts). c.errored) same ∙ is ∙ ap counted (plus_none n);
+}
+  where
+    plus_none : (n : ℕ) → n ≡ n + 0
+    plus_none n = omega arith
+
+-- so much was counted
+pub counted_more : (old : Counts) (new : Counts) (gained : Share) → new.multiframes ≡ counted (old.multiframes + gained.multiframes) → new.blocks ≡ counted (old.blocks + gained.blocks) → new.errored ≡ counted (old.errored + gained.errored) → Counted gained old new
+counted_more old new gained m b e = record {
+  multiframes_are = λ n is. m ∙ more old.multiframes n gained.multiframes is;
+  blocks_are = λ n is. b ∙ more old.blocks n gained.blocks is;
+  errored_are = λ n is. e ∙ more old.errored n gained.errored is;
+}
+  where
+    more : (x n g : ℕ) → x ≡ counted n → counted (x + g) ≡ counted (n + g)
+    more x n g e = omega arith
+
+pub becomes_still : (t : Turn) (p : Phase) (old new : E1Align) → t ≡ still p → phase new ≡ p → new.counts ≡ old.counts → new.held.capacity ≡ old.held.capacity → Becomes t old new
+becomes_still t p old new e p_is c_is r_is = becomes t (still p) old new e (record { phase_is = p_is; counts = uncounted old.counts new.counts c_is; room = r_is })
+
+-- ---- what comes to the drain
+
+pub puts_of : (t u : Turn) (o p : Outputs) → t ≡ u → Puts (for_leaf 0 u.gained.payload) o p → Puts (for_leaf 0 t.gained.payload) o p
+puts_of t u o p e h = subst (λ (x : Turn). Puts (for_leaf 0 x.gained.payload) o p) (sym e) h
+
+pub part_of : (t u : Turn) (o p : Outputs) → t ≡ u → PutsPart (for_leaf 0 u.gained.payload) o p → PutsPart (for_leaf 0 t.gained.payload) o p
+part_of t u o p e h = subst (λ (x : Turn). PutsPart (for_leaf 0 x.gained.payload) o p) (sym e) h
+
+-- ---- what the machine stands for
+
+pub stands_push : (old new : E1Align) (bit : Bool) (line : List Bool) → Becomes (turn (phase old) bit) old new → StandsFor old line → StandsFor new (line ++ bit ∷ [])
+stands_push old new bit line b h =
+    let facts = holds_turn (phase old) line bit h.holds in
+    let grows = facts.1 in
+    record {
+      holds = subst (λ (p : Phase). Holds p (line ++ bit ∷ [])) (sym b.phase_is) facts.0;
+      counts = record {
+        multiframes_are = b.counts.multiframes_are (multiframes_in line) h.counts.multiframes_are ∙ ap counted (sym grows.multiframes_are);
+        blocks_are = b.counts.blocks_are (blocks_in line) h.counts.blocks_are ∙ ap counted (sym grows.blocks_are);
+        errored_are = b.counts.errored_are (errors_in line) h.counts.errored_are ∙ ap counted (sym grows.errored_are);
+      };
+      room = b.room ∙ h.room;
+    }
+
+pub gains_push : (old : E1Align) (bit : Bool) (line : List Bool) (o p : Outputs) → Puts (for_leaf 0 (turn (phase old) bit).gained.payload) o p → StandsFor old line → Gains line (line ++ bit ∷ []) o p
+gains_push old bit line o p puts h = record { more = (turn (phase old) bit).gained.payload; gained = (holds_turn (phase old) line bit h.holds).1.payload_is; puts = puts }
+
+pub gains_part : (old : E1Align) (bit : Bool) (line : List Bool) (o p : Outputs) → PutsPart (for_leaf 0 (turn (phase old) bit).gained.payload) o p → StandsFor old line → GainsPart line (line ++ bit ∷ []) o p
+gains_part old bit line o p puts h = record { more = (turn (phase old) bit).gained.payload; gained = (holds_turn (phase old) line bit h.holds).1.payload_is; puts = puts }
+
+-- ---- answers
+
+pub on_ok : {T F : Type 0} (r : Result T F) (P Q : Type 0) → (P → Q) → OnOk r P → OnOk r Q
+on_ok (Ok x) P Q f h = f h
+on_ok (Err e) P Q f h = tt
+
+pub on_err : {T F : Type 0} (r : Result T F) (P Q : Type 0) → (P → Q) → OnErr r P → OnErr r Q
+on_err (Ok x) P Q f h = tt
+on_err (Err e) P Q f h = f h
+
+-- what a call says of a turn, said of the same turn
+pub ok_becomes : {T F : Type 0} (r : Result T F) (t u : Turn) (old new : E1Align) → t ≡ u → OnOk r (Becomes u old new) → OnOk r (Becomes t old new)
+ok_becomes r t u old new e h = on_ok r (Becomes u old new) (Becomes t old new) (becomes t u old new e) h
+
+pub ok_puts : {T F : Type 0} (r : Result T F) (t u : Turn) (o p : Outputs) → t ≡ u → OnOk r (Puts (for_leaf 0 u.gained.payload) o p) → OnOk r (Puts (for_leaf 0 t.gained.payload) o p)
+ok_puts r t u o p e h = on_ok r (Puts (for_leaf 0 u.gained.payload) o p) (Puts (for_leaf 0 t.gained.payload) o p) (puts_of t u o p e) h
+
+pub err_part : {T F : Type 0} (r : Result T F) (t u : Turn) (o p : Outputs) → t ≡ u → OnErr r (PutsPart (for_leaf 0 u.gained.payload) o p) → OnErr r (PutsPart (for_leaf 0 t.gained.payload) o p)
+err_part r t u o p e h = on_err r (PutsPart (for_leaf 0 u.gained.payload) o p) (PutsPart (for_leaf 0 t.gained.payload) o p) (part_of t u o p e) h
+
+-- where multiframe alignment isn't reached
+pub aligned_gives_up : (bits : List Bool) → reaches (frames_of bits) ≡ false → length bits ≡ 16384 → aligned_turn bits ≡ still (Searching (last_bits 255 bits))
+aligned_gives_up bits wrong last =
+    let size : length (frames_of bits) ≡ 64 = length_frames bits ∙ ap (λ n. n / 256) last in
+    aligned_none bits true wrong (eq-eqb _ _ size)
+
+pub aligned_goes : (bits : List Bool) → length bits % 256 ≡ 0 → reaches (frames_of bits) ≡ false → length bits ≢ 16384 → aligned_turn bits ≡ still (Aligned bits)
+aligned_goes bits whole wrong other =
+    let size : length (frames_of bits) ≢ 64 = λ e. other (exact (length bits) whole (sym (length_frames bits) ∙ e)) in
+    aligned_none bits false wrong (ne_eqb _ _ size)
+  where
+    exact : (n : ℕ) → n % 256 ≡ 0 → n / 256 ≡ 64 → n ≡ 16384
+    exact n e f = omega arith
+
+-- ---- one bit, by the stage
+
+pub turn_searching : (a : E1Align) (bit : Bool) → a.stage ≡ stages.Searching → turn (phase a) bit ≡ search_turn (a.held.items ++ bit ∷ [])
+unfolding turn
+turn_searching a bit e = ap (λ s. turn (phase_of s a.held.items a.group) bit) e
+
+pub turn_aligned : (a : E1Align) (bit : Bool) (bits : List Bool) → a.stage ≡ stages.Aligned → bits ≡ a.held.items ++ bit ∷ [] → length bits % 256 ≡ 0 → loses (frames_of bits) ≡ false → turn (phase a) bit ≡ aligned_turn bits
+unfolding turn
+turn_aligned a bit bits e is whole fine =
+    ap (λ s. turn (phase_of s a.held.items a.group) bit) e ∙ ap (λ (x : List Bool). aligned_bits x) (sym is)
+    ∙ ends_frame bits (still (Searching (last_bits 256 bits))) (aligned_turn bits) (still (Aligned bits)) whole fine
+
+pub turn_framed : (a : E1Align) (bit : Bool) (bits : List Bool) → a.stage ≡ stages.Framed → bits ≡ a.held.items ++ bit ∷ [] → length bits % 256 ≡ 0 → loses (frames_of bits) ≡ false
+    → turn (phase a) bit ≡ framed_turn bits a.group.judged a.group.errored
+unfolding turn
+turn_framed a bit bits e is whole fine =
+    ap (λ s. turn (phase_of s a.held.items a.group) bit) e ∙ ap (λ (x : List Bool). framed_bits x a.group.judged a.group.errored) (sym is)
+    ∙ ends_frame bits (still (Searching (last_bits 256 bits))) (framed_turn bits a.group.judged a.group.errored) (still (Framed bits a.group.judged a.group.errored)) whole fine
+
+-- no frame ends in an alignment
+pub turn_part : (stage : Stage) (held bits : List Bool) (group : Group) (bit : Bool) → (stage ≡ stages.Searching → ⊥) → bits ≡ held ++ bit ∷ [] → length bits % 256 ≢ 0 → turn (phase_of stage held group) bit ≡ still (phase_of stage bits group)
+unfolding turn
+turn_part stages.Searching held bits group bit other is part = absurd (other refl)
+turn_part stages.Aligned held bits group bit other is part =
+    ap (λ (x : List Bool). aligned_bits x) (sym is) ∙ ends_none bits (still (Searching (last_bits 256 bits))) (aligned_turn bits) (still (Aligned bits)) part
+turn_part stages.Framed held bits group bit other is part =
+    ap (λ (x : List Bool). framed_bits x group.judged group.errored) (sym is)
+    ∙ ends_none bits (still (Searching (last_bits 256 bits))) (framed_turn bits group.judged group.errored) (still (Framed bits group.judged group.errored)) part
+
+-- a frame completes a loss
+pub turn_lost : (stage : Stage) (held bits : List Bool) (group : Group) (bit : Bool) → (stage ≡ stages.Searching → ⊥) → bits ≡ held ++ bit ∷ [] → length bits % 256 ≡ 0 → loses (frames_of bits) ≡ true
+    → turn (phase_of stage held group) bit ≡ still (Searching (last_bits 256 bits))
+unfolding turn
+turn_lost stages.Searching held bits group bit other is whole lost = absurd (other refl)
+turn_lost stages.Aligned held bits group bit other is whole lost =
+    ap (λ (x : List Bool). aligned_bits x) (sym is) ∙ ends_loss bits (still (Searching (last_bits 256 bits))) (aligned_turn bits) (still (Aligned bits)) whole lost
+turn_lost stages.Framed held bits group bit other is whole lost =
+    ap (λ (x : List Bool). framed_bits x group.judged group.errored) (sym is)
+    ∙ ends_loss bits (still (Searching (last_bits 256 bits))) (framed_turn bits group.judged group.errored) (still (Framed bits group.judged group.errored)) whole lost
+
+-- the stage that is left
+pub is_framed : (stage : Stage) → (stage ≡ stages.Searching → ⊥) → (stage ≡ stages.Aligned → ⊥) → stage ≡ stages.Framed
+is_framed stages.Searching a b = absurd (a refl)
+is_framed stages.Aligned a b = absurd (b refl)
+is_framed stages.Framed a b = refl
+
+pub fits_stage : (a : E1Align) (s : Stage) → a.stage ≡ s → Fits (phase a) → Fits (phase_of s a.held.items a.group)
+fits_stage a s e h = subst (λ (x : Stage). Fits (phase_of x a.held.items a.group)) e h
+
+-- there is room for a bit more
+pub has_room : (stage : Stage) (bits : List Bool) (group : Group) → Fits (phase_of stage bits group) → length bits < 16384
+has_room stages.Searching bits group h = omega arith
+has_room stages.Aligned bits group h = h
+has_room stages.Framed bits group h = omega (arith, h.1)
+
+-- the payload that is put where the multiframes are found
+pub framing_payload : (bits : List Bool) (first whole : ℕ) → (length bits / 256 - first) / 16 ≡ whole → (framing_turn bits first).gained.payload ≡ payload_from (frames_of bits) first (16 * whole)
+framing_payload bits first whole is =
+    ap (λ (t : Turn). t.gained.payload)
+    (framing_is bits first whole ((length bits / 256 - first) / 8 - 1) (errs_in (frames_of bits) first ((length bits / 256 - first) / 8 - 1)) is refl refl)
+
+-- a turn was made of what a bit was added to
+pub becomes_from : (t u : Turn) (mid old new : E1Align) → t ≡ u → mid.counts ≡ old.counts → mid.held.capacity ≡ old.held.capacity → Becomes u mid new → Becomes t old new
+becomes_from t u mid old new e c_is r_is b =
+    let same : Becomes u old new = record {
+      phase_is = b.phase_is;
+      counts = subst (λ (c : Counts). Counted u.gained c new.counts) c_is b.counts;
+      room = b.room ∙ r_is;
+    } in
+    becomes t u old new e same
+
+pub ok_becomes_from : {T F : Type 0} (r : Result T F) (t u : Turn) (mid old new : E1Align) → t ≡ u → mid.counts ≡ old.counts → mid.held.capacity ≡ old.held.capacity → OnOk r (Becomes u mid new) → OnOk r (Becomes t old new)
+ok_becomes_from r t u mid old new e c_is r_is h = on_ok r (Becomes u mid new) (Becomes t old new) (becomes_from t u mid old new e c_is r_is) h
+
+-- a search gains no payload
+pub search_gains : (bits : List Bool) → (search_turn bits).gained.payload ≡ []
+unfolding search_turn
+search_gains bits = elim (cases_Bool (ltb (length bits) 768)) [
+  | inl short ↦ rw short refl
+  | inr long ↦ elim (cases_Bool (is_confirmed bits)) [
+    | inl right ↦ rw (long, right) refl
+    | inr wrong ↦ rw (long, wrong) refl
+  ]
+]
+
+-- ---- many bits
+
+pub gains_same : (line : List Bool) (o : Outputs) → Gains line (line ++ []) o o
+gains_same line o = record {
+  more = [];
+  gained = ap e1_far (append-nil line) ∙ sym (append-nil (e1_far line));
+  puts = puts_begin 0 o;
+}
+
+pub gains_join : (a b c : List Bool) (o p q : Outputs) → Gains a b o p → Gains b c p q → Gains a c o q
+gains_join a b c o p q g h = record {
+  more = g.more ++ h.more;
+  gained = h.gained ∙ ap (λ (x : List Bool). x ++ h.more) g.gained ∙ append_assoc (e1_far a) g.more h.more;
+  puts = puts_then 0 g.more h.more o p q g.puts h.puts;
+}
+
+pub part_join : (a b c d : List Bool) (o p q : Outputs) → IsPrefix (e1_far c) (e1_far d) → Gains a b o p → GainsPart b c p q → GainsPart a d o q
+part_join a b c d o p q grows g h = record {
+  more = g.more ++ (h.more ++ grows.0);
+  gained = grows.1 ∙ ap (λ (x : List Bool). x ++ grows.0) (h.gained ∙ ap (λ (x : List Bool). x ++ h.more) g.gained)
+      ∙ append_assoc (e1_far a ++ g.more) h.more grows.0 ∙ append_assoc (e1_far a) g.more (h.more ++ grows.0);
+  puts = puts_part 0 g.more h.more (g.more ++ (h.more ++ grows.0)) o p q g.puts h.puts (grows.0, sym (append_assoc g.more h.more grows.0));
+}
+
+-- a line with the bits so far, and one more
+pub line_more : (line bits : List Bool) (i : ℕ) → i < length bits → line ++ take i bits ++ get_or bits i false ∷ [] ≡ line ++ take (i + 1) bits
+line_more line bits i lt = append_assoc line (take i bits) (get_or bits i false ∷ []) ∙ ap (λ (x : List Bool). line ++ x) (sym (take_more bits i false lt))
+
+-- and all of them
+pub line_all : (line bits : List Bool) (i : ℕ) → length bits ≤ i → line ++ take i bits ≡ line ++ bits
+line_all line bits i le = ap (λ (x : List Bool). line ++ x) (take_all i bits le)
+
+-- what the whole line gives begins with what the bits so far and one more give
+pub line_grows : (line bits : List Bool) (i : ℕ) → i < length bits → IsPrefix (e1_far (line ++ take i bits ++ get_or bits i false ∷ [])) (e1_far (line ++ bits))
+line_grows line bits i lt =
+    let all : line ++ take (i + 1) bits ++ drop (i + 1) bits ≡ line ++ bits = append_assoc line (take (i + 1) bits) (drop (i + 1) bits) ∙ ap (λ (x : List Bool). line ++ x) (take-append-drop (i + 1) bits) in
+    subst (λ (x : List Bool). IsPrefix (e1_far x) (e1_far (line ++ bits))) (sym (line_more line bits i lt))
+    (subst (λ (x : List Bool). IsPrefix (e1_far (line ++ take (i + 1) bits)) (e1_far x)) all (e1_far_grows (line ++ take (i + 1) bits) (drop (i + 1) bits)))
+
+-- a call that succeeds has no cause to fail
+pub no_cause : {F : Type 0} (a b : ℕ) → a ≤ b → HasCause {T = Unit {0}} {E = F} a b (Ok tt)
+no_cause a b le = record { later = le; failed = tt }

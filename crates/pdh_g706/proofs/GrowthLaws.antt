@@ -1,0 +1,384 @@
+-- How the share of an alignment grows by one more frame.
+use Rattle.std.proofs.Common.{◌≡◌, ◌≢◌, ℕ, suc, ◌+◌, ◌-◌, ◌*◌, ◌/◌, ◌%◌, ◌<◌, ◌≤◌, Bool, true, false, ◌&&◌, not, cond, leb, List, [], ◌∷◌, ◌++◌, length, take, drop, refl, sym, ap, ◌∙◌, inl, inr, arith, length-drop}
+use Rattle.std.proofs.lemmas.List.{append-nil, get_or-drop, take-append-le, drop-append-le, drop-drop, length_push}
+use Rattle.std.proofs.lemmas.Bool.{lt-ltb, le-ltb, ne_eqb, eq-eqb, cases_eq, and_left, and_right}
+use Rattle.std.proofs.lemmas.Bool.Decides.{nat_tests}
+use Rattle.std.proofs.Math.Seq.{take-add}
+use Rattle.std.proofs.lemmas.Grind.{flat_map-append}
+use Rattle.std.specs.Prelude.{flat_map, nat_lt, nat_le, count_by, ◌==◌, ◌⊎◌}
+use Rattle.std.specs.List.{range_with_len}
+use Rattle.pdh_line.proofs.Ranges.{count-range_same, range_push}
+use Rattle.std.proofs.lemmas.List.Sums.{sum_by_push}
+use Rattle.pdh_bits.specs.Bits.{bit_value}
+use Rattle.pdh_e1.specs.Crc4.{crc4, cleared}
+use Rattle.pdh_g706.specs.Frames.{has_signal}
+use Rattle.pdh_g706.specs.Alignment.{frame, loses, reach, is_reached, begin, framed, multiframes, payload, eight, sent_check, errs, is_errored, judged, errored_in, is_false}
+use Rattle.pdh_g706.specs.Tracking.{Share, share_of}
+use Rattle.pdh_g706.specs.Machine.{nothing, payload_from, errs_in, last_begin, InGroup}
+use Rattle.pdh_g706.proofs.AlignmentLaws.{places_of, is_reached-append, begin-append}
+
+-- a share with what was gained
+abbrev pub add : Share → Share → Share
+add s g = record { payload = s.payload ++ g.payload; multiframes = s.multiframes + g.multiframes; blocks = s.blocks + g.blocks; errored = s.errored + g.errored }
+
+-- ---- blocks
+
+eight-append : (fs gs : List (List Bool)) (k : ℕ) → k + 8 ≤ length fs → eight (fs ++ gs) k ≡ eight fs k
+eight-append fs gs k le =
+    let inside : 8 ≤ length (drop k fs) = omega (arith, length-drop k fs) in
+    ap (λ (x : List (List Bool)). flat_map (λ (bits : List Bool). bits) (take 8 x)) (drop-append-le k fs gs (omega arith))
+    ∙ ap (flat_map (λ (bits : List Bool). bits)) (take-append-le 8 (drop k fs) gs inside)
+
+pub errs_is : (fs : List (List Bool)) (k : ℕ) → errs fs k ≡ not (sent_check (eight fs (k + 8)) == crc4 (cleared (eight fs k)))
+unfolding errs
+errs_is fs k = refl
+
+same_errs : (a b c d : List Bool) → a ≡ b → c ≡ d → not (sent_check a == crc4 (cleared c)) ≡ not (sent_check b == crc4 (cleared d))
+same_errs a b c d e f = ap (λ (x : List Bool). not (sent_check x == crc4 (cleared c))) e ∙ ap (λ (x : List Bool). not (sent_check b == crc4 (cleared x))) f
+
+pub errs-append : (fs gs : List (List Bool)) (k : ℕ) → k + 16 ≤ length fs → errs (fs ++ gs) k ≡ errs fs k
+errs-append fs gs k le =
+    errs_is (fs ++ gs) k
+    ∙ same_errs (eight (fs ++ gs) (k + 8)) (eight fs (k + 8)) (eight (fs ++ gs) k) (eight fs k) (eight-append fs gs (k + 8) (omega arith)) (eight-append fs gs k (omega arith))
+    ∙ sym (errs_is fs k)
+
+eight-drop : (fs : List (List Bool)) (o k i : ℕ) → o + k ≡ i → eight (drop o fs) k ≡ eight fs i
+eight-drop fs o k i e = ap (λ (x : List (List Bool)). flat_map (λ (bits : List Bool). bits) (take 8 x)) (drop-drop k o fs ∙ ap (λ n. drop n fs) e)
+
+-- a block of a window of the frames
+pub errs-drop : (fs : List (List Bool)) (o k i : ℕ) → o + k ≡ i → errs (drop o fs) k ≡ errs fs i
+errs-drop fs o k i e =
+    errs_is (drop o fs) k
+    ∙ same_errs (eight (drop o fs) (k + 8)) (eight fs (i + 8)) (eight (drop o fs) k) (eight fs i) (eight-drop fs o (k + 8) (i + 8) (omega arith)) (eight-drop fs o k i e)
+    ∙ sym (errs_is fs i)
+
+pub is_errored_is : (fs : List (List Bool)) (b : ℕ) → is_errored fs b ≡ errs fs (begin fs + 8 * b)
+unfolding is_errored
+is_errored_is fs b = refl
+
+pub is_errored-append : (fs gs : List (List Bool)) (b : ℕ) → is_reached fs ≡ true → begin fs + 8 * b + 16 ≤ length fs → is_errored (fs ++ gs) b ≡ is_errored fs b
+is_errored-append fs gs b h le =
+    is_errored_is (fs ++ gs) b ∙ ap (λ n. errs (fs ++ gs) (n + 8 * b)) (begin-append fs gs h) ∙ errs-append fs gs (begin fs + 8 * b) le ∙ sym (is_errored_is fs b)
+
+pub judged_is : (fs : List (List Bool)) → is_reached fs ≡ true → judged fs ≡ framed fs / 8 - 1
+unfolding judged
+judged_is fs h = rw h refl
+
+pub judged_none : (fs : List (List Bool)) → is_reached fs ≡ false → judged fs ≡ 0
+unfolding judged
+judged_none fs h = rw h refl
+
+pub multiframes_is : (fs : List (List Bool)) → is_reached fs ≡ true → multiframes fs ≡ framed fs / 16
+unfolding multiframes
+multiframes_is fs h = rw h refl
+
+pub multiframes_none : (fs : List (List Bool)) → is_reached fs ≡ false → multiframes fs ≡ 0
+unfolding multiframes
+multiframes_none fs h = rw h refl
+
+pub payload_is : (fs : List (List Bool)) → payload fs ≡ payload_from fs (begin fs) (16 * multiframes fs)
+unfolding payload
+payload_is fs = refl
+
+-- the judged blocks that were counted before stay so
+pub errored_in-append : (fs gs : List (List Bool)) (from count : ℕ) → is_reached fs ≡ true → from + count ≤ judged fs → errored_in (fs ++ gs) from count ≡ errored_in fs from count
+errored_in-append fs gs from count h le =
+    let p = places_of fs h in
+    let is : judged fs ≡ framed fs / 8 - 1 = judged_is fs h in
+    let long : begin fs + 27 ≤ reach fs = p.apart in
+    let within : reach fs < length fs = p.within in
+    count-range_same (is_errored (fs ++ gs)) (is_errored fs) from count (λ b _from lt. is_errored-append fs gs b h (omega arith))
+
+-- one more block
+errored_in_push : (fs : List (List Bool)) (from count : ℕ) → errored_in fs from (suc count) ≡ errored_in fs from count + bit_value (is_errored fs (from + count))
+errored_in_push fs from count =
+    ap (count_by (is_errored fs)) (range_push from count) ∙ sum_by_push (λ b. bit_value (is_errored fs b)) (range_with_len from count) (from + count)
+
+-- ---- shares
+
+abbrev made : List Bool → ℕ → ℕ → ℕ → Share
+made p a b c = record { payload = p; multiframes = a; blocks = b; errored = c }
+
+pub share_is : (fs : List (List Bool)) → share_of fs ≡ record { payload = payload fs; multiframes = multiframes fs; blocks = judged fs; errored = errored_in fs 0 (judged fs) }
+unfolding share_of
+share_is fs = refl
+
+share_same : (p q : List Bool) (a b c d e f : ℕ) → p ≡ q → a ≡ b → c ≡ d → e ≡ f → made p a c e ≡ made q b d f
+share_same p q a b c d e f g h i j =
+    ap (λ (x : List Bool). made x a c e) g ∙ ap (λ n. made q n c e) h ∙ ap (λ n. made q b n e) i ∙ ap (made q b d) j
+
+-- where no multiframe is found
+pub share_none : (fs : List (List Bool)) → is_reached fs ≡ false → share_of fs ≡ nothing
+share_none fs h =
+    let m : multiframes fs ≡ 0 = multiframes_none fs h in
+    let j : judged fs ≡ 0 = judged_none fs h in
+    let n : 16 * multiframes fs ≡ 0 = omega arith in
+    share_is fs
+    ∙ share_same (payload fs) [] (multiframes fs) 0 (judged fs) 0 (errored_in fs 0 (judged fs)) 0 (payload_is fs ∙ ap (payload_from fs (begin fs)) n) m j (ap (errored_in fs 0) j)
+
+-- where the multiframes are found with the last frame
+pub share_framing : (fs : List (List Bool)) (b whole blocks : ℕ) → is_reached fs ≡ true → begin fs ≡ b → (length fs - b) / 16 ≡ whole → (length fs - b) / 8 - 1 ≡ blocks
+    → share_of fs ≡ record { payload = payload_from fs b (16 * whole); multiframes = whole; blocks = blocks; errored = errs_in fs b blocks }
+share_framing fs b whole blocks h b_is w_is k_is =
+    let m : multiframes fs ≡ whole = multiframes_is fs h ∙ ap (λ n. (length fs - n) / 16) b_is ∙ w_is in
+    let j : judged fs ≡ blocks = judged_is fs h ∙ ap (λ n. (length fs - n) / 8 - 1) b_is ∙ k_is in
+    share_is fs
+    ∙ share_same (payload fs) (payload_from fs b (16 * whole)) (multiframes fs) whole (judged fs) blocks (errored_in fs 0 (judged fs)) (errs_in fs b blocks)
+    (payload_is fs ∙ ap (λ n. payload_from fs n (16 * multiframes fs)) b_is ∙ ap (λ n. payload_from fs b (16 * n)) m)
+    m j
+    (ap (errored_in fs 0) j ∙ count-range_same (is_errored fs) (λ k. errs fs (b + 8 * k)) 0 blocks (λ k _from lt. is_errored_is fs k ∙ ap (λ n. errs fs (n + 8 * k)) b_is))
+
+-- ---- a frame more in an alignment whose multiframes are found
+
+-- where the frames of such an alignment stand
+pub record Window (fs : List (List Bool)) (f : List Bool) : Type 0 where
+  -- the frames and one more
+  pub long : length (fs ++ f ∷ []) ≡ suc (length fs)
+  pub reached : is_reached (fs ++ f ∷ []) ≡ true
+  pub begin_same : begin (fs ++ f ∷ []) ≡ begin fs
+  pub least : begin fs + 28 ≤ length fs
+  pub even : begin fs % 2 ≡ 0
+  pub whole : multiframes fs ≡ (length fs - begin fs) / 16
+  pub whole_next : multiframes (fs ++ f ∷ []) ≡ (length fs + 1 - begin fs) / 16
+  pub blocks : judged fs ≡ (length fs - begin fs) / 8 - 1
+  pub blocks_next : judged (fs ++ f ∷ []) ≡ (length fs + 1 - begin fs) / 8 - 1
+  pub start : last_begin fs ≡ begin fs + 16 * (multiframes fs - 1)
+
+pub last_begin_is : (fs : List (List Bool)) → last_begin fs ≡ begin fs + 16 * (multiframes fs - 1)
+unfolding last_begin
+last_begin_is fs = refl
+
+pub window : (fs : List (List Bool)) (f : List Bool) → is_reached fs ≡ true → Window fs f
+window fs f h =
+    let p = places_of fs h in
+    let after : is_reached (fs ++ f ∷ []) ≡ true = is_reached-append fs (f ∷ []) h in
+    let long : length (fs ++ f ∷ []) ≡ length fs + 1 = length_push fs f in
+    let b : begin (fs ++ f ∷ []) ≡ begin fs = begin-append fs (f ∷ []) h in
+    let n : framed (fs ++ f ∷ []) ≡ length fs + 1 - begin fs = ap (λ k. k - begin (fs ++ f ∷ [])) long ∙ ap (λ k. length fs + 1 - k) b in
+    record {
+      long = omega arith;
+      reached = after;
+      begin_same = b;
+      least = omega (arith, p.within, p.apart);
+      even = p.even;
+      whole = multiframes_is fs h;
+      whole_next = multiframes_is (fs ++ f ∷ []) after ∙ ap (λ k. k / 16) n;
+      blocks = judged_is fs h;
+      blocks_next = judged_is (fs ++ f ∷ []) after ∙ ap (λ k. k / 8 - 1) n;
+      start = last_begin_is fs;
+    }
+
+-- its share where no sub-multiframe ends with it
+pub share_part : (fs : List (List Bool)) (f : List Bool) → is_reached fs ≡ true → (length fs + 1 - last_begin fs) % 8 ≢ 0 → share_of (fs ++ f ∷ []) ≡ share_of fs
+share_part fs f h part =
+    let w = window fs f h in
+    let start : last_begin fs ≡ begin fs + 16 * (multiframes fs - 1) = w.start in
+    let whole : multiframes fs ≡ (length fs - begin fs) / 16 = w.whole in
+    let whole' : multiframes (fs ++ f ∷ []) ≡ (length fs + 1 - begin fs) / 16 = w.whole_next in
+    let blocks : judged fs ≡ (length fs - begin fs) / 8 - 1 = w.blocks in
+    let blocks' : judged (fs ++ f ∷ []) ≡ (length fs + 1 - begin fs) / 8 - 1 = w.blocks_next in
+    let least : begin fs + 28 ≤ length fs = w.least in
+    let odd : (length fs + 1 - begin fs) % 8 ≢ 0 = λ e. part (omega arith) in
+    let m : multiframes (fs ++ f ∷ []) ≡ multiframes fs = omega arith in
+    let j : judged (fs ++ f ∷ []) ≡ judged fs = omega arith in
+    let inside : 16 * multiframes fs ≤ length (drop (begin fs) fs) = omega (arith, length-drop (begin fs) fs) in
+    let p : payload (fs ++ f ∷ []) ≡ payload fs =
+    payload_is (fs ++ f ∷ []) ∙ ap (λ n. payload_from (fs ++ f ∷ []) n (16 * multiframes (fs ++ f ∷ []))) w.begin_same
+    ∙ ap (λ n. payload_from (fs ++ f ∷ []) (begin fs) (16 * n)) m
+    ∙ ap (λ (x : List (List Bool)). flat_map (drop 8) (take (16 * multiframes fs) x)) (drop-append-le (begin fs) fs (f ∷ []) (omega arith))
+    ∙ ap (flat_map (drop 8)) (take-append-le (16 * multiframes fs) (drop (begin fs) fs) (f ∷ []) inside) ∙ sym (payload_is fs) in
+    share_is (fs ++ f ∷ [])
+    ∙ share_same (payload (fs ++ f ∷ [])) (payload fs) (multiframes (fs ++ f ∷ [])) (multiframes fs) (judged (fs ++ f ∷ [])) (judged fs) (errored_in (fs ++ f ∷ []) 0 (judged (fs ++ f ∷ []))) (errored_in fs 0 (judged fs))
+    p m j (ap (errored_in (fs ++ f ∷ []) 0) j ∙ errored_in-append fs (f ∷ []) 0 (judged fs) h (omega arith))
+    ∙ sym (share_is fs)
+
+-- what a sub-multiframe that ends with it adds
+abbrev pub block_gain : List (List Bool) → Share
+block_gain w =
+    let whole = length w == 32 in
+    let one = bit_value (errs w (length w - 16)) in
+    record { payload = cond whole (payload_from w 16 16) []; multiframes = bit_value whole; blocks = 1; errored = one }
+
+-- where a sub-multiframe ends, one more is judged
+pub record Block (fs : List (List Bool)) (f : List Bool) : Type 0 where
+  pub length_is : length (drop (last_begin fs) (fs ++ f ∷ [])) ≡ suc (length fs) - last_begin fs
+  pub long : (length (drop (last_begin fs) (fs ++ f ∷ [])) ≡ 24) × (multiframes (fs ++ f ∷ []) ≡ multiframes fs) ⊎ (length (drop (last_begin fs) (fs ++ f ∷ [])) ≡ 32) × (multiframes (fs ++ f ∷ []) ≡ suc (multiframes fs))
+  pub judged_next : judged (fs ++ f ∷ []) ≡ suc (judged fs)
+  pub error_is : errs (drop (last_begin fs) (fs ++ f ∷ [])) (length (drop (last_begin fs) (fs ++ f ∷ [])) - 16) ≡ is_errored (fs ++ f ∷ []) (judged fs)
+
+window_length : (fs : List (List Bool)) (f : List Bool) → length (drop (last_begin fs) (fs ++ f ∷ [])) ≡ suc (length fs) - last_begin fs
+window_length fs f = omega (arith, length-drop (last_begin fs) (fs ++ f ∷ []), length_push fs f)
+
+pub block_of : (fs : List (List Bool)) (f : List Bool) → is_reached fs ≡ true → (length fs + 1 - last_begin fs) % 8 ≡ 0 → Block fs f
+block_of fs f h ended =
+    let w = window fs f h in
+    let start : last_begin fs ≡ begin fs + 16 * (multiframes fs - 1) = w.start in
+    let whole : multiframes fs ≡ (length fs - begin fs) / 16 = w.whole in
+    let whole' : multiframes (fs ++ f ∷ []) ≡ (length fs + 1 - begin fs) / 16 = w.whole_next in
+    let blocks : judged fs ≡ (length fs - begin fs) / 8 - 1 = w.blocks in
+    let blocks' : judged (fs ++ f ∷ []) ≡ (length fs + 1 - begin fs) / 8 - 1 = w.blocks_next in
+    let least : begin fs + 28 ≤ length fs = w.least in
+    let b : begin (fs ++ f ∷ []) ≡ begin fs = w.begin_same in
+    let count = window_length fs f in
+    let place : last_begin fs + (length (drop (last_begin fs) (fs ++ f ∷ [])) - 16) ≡ begin (fs ++ f ∷ []) + 8 * judged fs = omega arith in
+    record {
+      length_is = count;
+      long = sizes (length fs) (begin fs) (multiframes fs) (multiframes (fs ++ f ∷ [])) (last_begin fs) (length (drop (last_begin fs) (fs ++ f ∷ []))) start whole whole' least count ended;
+      judged_next = omega arith;
+      error_is = errs-drop (fs ++ f ∷ []) (last_begin fs) (length (drop (last_begin fs) (fs ++ f ∷ [])) - 16) (begin (fs ++ f ∷ []) + 8 * judged fs) place ∙ sym (is_errored_is (fs ++ f ∷ []) (judged fs));
+    }
+  where
+    sizes : (n b m m' o r : ℕ) → o ≡ b + 16 * (m - 1) → m ≡ (n - b) / 16 → m' ≡ (n + 1 - b) / 16 → b + 28 ≤ n → r ≡ suc n - o → (n + 1 - o) % 8 ≡ 0 → (r ≡ 24) × (m' ≡ m) ⊎ (r ≡ 32) × (m' ≡ suc m)
+    sizes n b m m' o r p q q' least c e = elim (cases_eq ((n + 1 - b) % 16) 0) [
+      | inl none ↦ inr (omega arith, omega arith)
+      | inr other ↦ inl (omega arith, omega arith)
+    ]
+
+-- its share where a sub-multiframe ends with it
+pub share_block : (fs : List (List Bool)) (f : List Bool) → is_reached fs ≡ true → (length fs + 1 - last_begin fs) % 8 ≡ 0
+    → share_of (fs ++ f ∷ []) ≡ add (share_of fs) (block_gain (drop (last_begin fs) (fs ++ f ∷ [])))
+share_block fs f h ended =
+    let fs' : List (List Bool) = fs ++ f ∷ [] in
+    let w : List (List Bool) = drop (last_begin fs) fs' in
+    let facts = window fs f h in
+    let block = block_of fs f h ended in
+    let start : last_begin fs ≡ begin fs + 16 * (multiframes fs - 1) = facts.start in
+    let whole : multiframes fs ≡ (length fs - begin fs) / 16 = facts.whole in
+    let blocks : judged fs ≡ (length fs - begin fs) / 8 - 1 = facts.blocks in
+    let least : begin fs + 28 ≤ length fs = facts.least in
+    let inside : 16 * multiframes fs ≤ length (drop (begin fs) fs) = omega (arith, length-drop (begin fs) fs) in
+    let before : payload_from fs' (begin fs) (16 * multiframes fs) ≡ payload fs =
+    ap (λ (x : List (List Bool)). flat_map (drop 8) (take (16 * multiframes fs) x)) (drop-append-le (begin fs) fs (f ∷ []) (omega arith))
+    ∙ ap (flat_map (drop 8)) (take-append-le (16 * multiframes fs) (drop (begin fs) fs) (f ∷ []) inside) ∙ sym (payload_is fs) in
+    let j : judged fs' ≡ judged fs + 1 = omega (arith, block.judged_next) in
+    let errors : errored_in fs' 0 (judged fs') ≡ errored_in fs 0 (judged fs) + bit_value (errs w (length w - 16)) =
+    ap (errored_in fs' 0) block.judged_next ∙ errored_in_push fs' 0 (judged fs)
+    ∙ ap (λ n. n + bit_value (is_errored fs' (0 + judged fs))) (errored_in-append fs (f ∷ []) 0 (judged fs) h (omega arith))
+    ∙ ap (λ b. errored_in fs 0 (judged fs) + bit_value b) (ap (is_errored fs') (omega arith) ∙ sym block.error_is) in
+    elim block.long [
+      | inl part ↦
+          let small : (length w == 32) ≡ false = ne_eqb _ _ (λ e. absurd (omega (arith, part.0))) in
+          let m : multiframes fs' ≡ multiframes fs + bit_value (length w == 32) = omega (arith, part.1, ap bit_value small) in
+          let p : payload fs' ≡ payload fs ++ cond (length w == 32) (payload_from w 16 16) [] =
+          payload_is fs' ∙ ap (λ n. payload_from fs' n (16 * multiframes fs')) facts.begin_same ∙ ap (λ n. payload_from fs' (begin fs) (16 * n)) part.1 ∙ before
+          ∙ sym (ap (λ b. payload fs ++ cond b (payload_from w 16 16) []) small ∙ append-nil (payload fs)) in
+          grown fs fs' w p m j errors
+      | inr full ↦
+          let large : (length w == 32) ≡ true = eq-eqb _ _ full.0 in
+          let m : multiframes fs' ≡ multiframes fs + bit_value (length w == 32) = omega (arith, full.1, ap bit_value large) in
+          let more : 16 * multiframes fs' ≡ 16 * multiframes fs + 16 = omega (arith, full.1) in
+          let place : last_begin fs + 16 ≡ begin fs + 16 * multiframes fs = omega arith in
+          let tail : take 16 (drop (16 * multiframes fs) (drop (begin fs) fs')) ≡ take 16 (drop 16 w) =
+          ap (take 16) (drop-drop (16 * multiframes fs) (begin fs) fs' ∙ ap (λ n. drop n fs') (sym place) ∙ sym (drop-drop 16 (last_begin fs) fs')) in
+          let p : payload fs' ≡ payload fs ++ cond (length w == 32) (payload_from w 16 16) [] =
+          payload_is fs' ∙ ap (λ n. payload_from fs' n (16 * multiframes fs')) facts.begin_same ∙ ap (payload_from fs' (begin fs)) more
+          ∙ ap (flat_map (drop 8)) (take-add (16 * multiframes fs) 16 (drop (begin fs) fs'))
+          ∙ flat_map-append (drop 8) (take (16 * multiframes fs) (drop (begin fs) fs')) (take 16 (drop (16 * multiframes fs) (drop (begin fs) fs')))
+          ∙ ap (λ (x : List Bool). x ++ flat_map (drop 8) (take 16 (drop (16 * multiframes fs) (drop (begin fs) fs')))) before
+          ∙ ap (λ (x : List (List Bool)). payload fs ++ flat_map (drop 8) x) tail
+          ∙ sym (ap (λ b. payload fs ++ cond b (payload_from w 16 16) []) large) in
+          grown fs fs' w p m j errors
+    ]
+  where
+    grown : (fs fs' w : List (List Bool)) → payload fs' ≡ payload fs ++ cond (length w == 32) (payload_from w 16 16) [] → multiframes fs' ≡ multiframes fs + bit_value (length w == 32)
+        → judged fs' ≡ judged fs + 1 → errored_in fs' 0 (judged fs') ≡ errored_in fs 0 (judged fs) + bit_value (errs w (length w - 16)) → share_of fs' ≡ add (share_of fs) (block_gain w)
+    grown fs fs' w p m j e =
+        share_is fs'
+        ∙ share_same (payload fs') (payload fs ++ cond (length w == 32) (payload_from w 16 16) []) (multiframes fs') (multiframes fs + bit_value (length w == 32)) (judged fs') (judged fs + 1)
+        (errored_in fs' 0 (judged fs')) (errored_in fs 0 (judged fs) + bit_value (errs w (length w - 16))) p m j e
+        ∙ sym (ap (λ (x : Share). add x (block_gain w)) (share_is fs))
+
+-- ---- groups
+
+pub is_false_is : (fs : List (List Bool)) → is_false fs ≡ ((framed fs % 8 == 0) && nat_lt 0 (judged fs) && (judged fs % 1000 == 0) && nat_le 915 (errored_in fs (judged fs - 1000) 1000))
+unfolding is_false
+is_false_is fs = refl
+
+-- no group ends where no sub-multiframe does
+pub is_false_part : (fs : List (List Bool)) → framed fs % 8 ≢ 0 → is_false fs ≡ false
+is_false_part fs part = is_false_is fs ∙ and_left _ _ (and_left _ _ (and_left _ _ (ne_eqb _ _ part)))
+
+-- none ends before the multiframes are found
+pub is_false_none : (fs : List (List Bool)) → is_reached fs ≡ false → is_false fs ≡ false
+is_false_none fs h =
+    let none : nat_lt 0 (judged fs) ≡ false = le-ltb _ _ (omega (arith, judged_none fs h)) in
+    is_false_is fs ∙ and_left _ _ (and_left _ _ (and_right _ _ none))
+
+-- the group that a block ends, or goes on with
+pub record GroupNext (fs : List (List Bool)) (f : List Bool) (group wrong : ℕ) : Type 0 where
+  pub false_is : is_false (fs ++ f ∷ []) ≡ ((group == 1000) && nat_le 915 wrong)
+  pub goes_on : group ≢ 1000 → InGroup group wrong (fs ++ f ∷ [])
+  pub begins : group ≡ 1000 → InGroup 0 0 (fs ++ f ∷ [])
+
+pub group_next : (fs : List (List Bool)) (f : List Bool) (group wrong : ℕ) → is_reached fs ≡ true → (length fs + 1 - last_begin fs) % 8 ≡ 0 → InGroup group wrong fs
+    → GroupNext fs f (group + 1) (wrong + bit_value (errs (drop (last_begin fs) (fs ++ f ∷ [])) (length (drop (last_begin fs) (fs ++ f ∷ [])) - 16)))
+group_next fs f group wrong h ended in_group =
+    let fs' : List (List Bool) = fs ++ f ∷ [] in
+    let w : List (List Bool) = drop (last_begin fs) fs' in
+    let one : ℕ = bit_value (errs w (length w - 16)) in
+    let facts = window fs f h in
+    let block = block_of fs f h ended in
+    let start : last_begin fs ≡ begin fs + 16 * (multiframes fs - 1) = facts.start in
+    let blocks : judged fs ≡ (length fs - begin fs) / 8 - 1 = facts.blocks in
+    let least : begin fs + 28 ≤ length fs = facts.least in
+    let group_is : group ≡ judged fs % 1000 = in_group.group_is in
+    let next : judged fs' ≡ suc (judged fs) = block.judged_next in
+    let eight : framed fs' % 8 ≡ 0 = ap (λ n. n % 8) (ap (λ n. length fs' - n) facts.begin_same) ∙ omega (arith, facts.long) in
+    let from : ℕ = judged fs - group in
+    let last : from + group ≡ judged fs = omega arith in
+    let count : errored_in fs' from (suc group) ≡ wrong + one =
+    errored_in_push fs' from group
+    ∙ ap (λ n. n + bit_value (is_errored fs' (from + group))) (errored_in-append fs (f ∷ []) from group h (omega arith) ∙ sym in_group.wrong_is)
+    ∙ ap (λ b. wrong + bit_value b) (ap (is_errored fs') last ∙ sym block.error_is) in
+    let tests : is_false fs' ≡ ((judged fs' % 1000 == 0) && nat_le 915 (errored_in fs' (judged fs' - 1000) 1000)) =
+    is_false_is fs' ∙ ap (λ b. b && nat_lt 0 (judged fs') && (judged fs' % 1000 == 0) && nat_le 915 (errored_in fs' (judged fs' - 1000) 1000)) (eq-eqb _ _ eight)
+    ∙ ap (λ b. b && (judged fs' % 1000 == 0) && nat_le 915 (errored_in fs' (judged fs' - 1000) 1000)) (lt-ltb _ _ (omega arith)) in
+    record {
+      false_is = elim (cases_eq (group + 1) 1000) [
+        | inl full ↦
+            let begins : judged fs' % 1000 ≡ 0 = omega arith in
+            let place : judged fs' - 1000 ≡ from = omega arith in
+            let size : 1000 ≡ suc group = omega arith in
+            let is : errored_in fs' (judged fs' - 1000) 1000 ≡ wrong + one = ap (λ n. errored_in fs' n 1000) place ∙ ap (errored_in fs' from) size ∙ count in
+            tests ∙ ap (λ b. b && nat_le 915 (errored_in fs' (judged fs' - 1000) 1000)) (eq-eqb _ _ begins) ∙ ap (nat_le 915) is
+            ∙ sym (ap (λ b. b && nat_le 915 (wrong + one)) (eq-eqb _ _ full))
+        | inr part ↦
+            let goes : judged fs' % 1000 ≢ 0 = λ e. part (omega arith) in
+            tests ∙ and_left _ _ (ne_eqb _ _ goes) ∙ sym (and_left _ _ (ne_eqb _ _ part))
+      ];
+      goes_on = λ part.
+          let place : from ≡ judged fs' - (group + 1) = omega arith in
+          let size : suc group ≡ group + 1 = omega arith in
+          record {
+            group_is = omega arith;
+            wrong_is = sym count ∙ ap (λ n. errored_in fs' n (suc group)) place ∙ ap (errored_in fs' (judged fs' - (group + 1))) size;
+          };
+      begins = λ full. record { group_is = omega arith; wrong_is = refl };
+    }
+
+-- ---- the loss in a window of the frames
+
+pub loses_is : (fs : List (List Bool)) → loses fs ≡ (nat_le 5 (length fs) && (length fs % 2 == 1) && not (has_signal (frame fs (length fs - 5))) && not (has_signal (frame fs (length fs - 3))) && not (has_signal (frame fs (length fs - 1))))
+unfolding loses
+loses_is fs = refl
+
+pub loses-drop : (fs : List (List Bool)) (o : ℕ) → o % 2 ≡ 0 → o + 5 ≤ length fs → loses (drop o fs) ≡ loses fs
+loses-drop fs o even room =
+    let n : ℕ = length fs in
+    let r : length (drop o fs) ≡ n - o = length-drop o fs in
+    let a : frame (drop o fs) (length (drop o fs) - 5) ≡ frame fs (n - 5) = get_or-drop o fs (length (drop o fs) - 5) [] ∙ ap (frame fs) (omega arith) in
+    let b : frame (drop o fs) (length (drop o fs) - 3) ≡ frame fs (n - 3) = get_or-drop o fs (length (drop o fs) - 3) [] ∙ ap (frame fs) (omega arith) in
+    let c : frame (drop o fs) (length (drop o fs) - 1) ≡ frame fs (n - 1) = get_or-drop o fs (length (drop o fs) - 1) [] ∙ ap (frame fs) (omega arith) in
+    let long : nat_le 5 (length (drop o fs)) ≡ nat_le 5 n = leb_yes _ _ (omega arith) ∙ sym (leb_yes _ _ (omega arith)) in
+    let parity : length (drop o fs) % 2 ≡ n % 2 = omega arith in
+    loses_is (drop o fs)
+    ∙ same (nat_le 5 (length (drop o fs))) (nat_le 5 n) (length (drop o fs) % 2) (n % 2) (frame (drop o fs) (length (drop o fs) - 5)) (frame fs (n - 5)) (frame (drop o fs) (length (drop o fs) - 3)) (frame fs (n - 3))
+    (frame (drop o fs) (length (drop o fs) - 1)) (frame fs (n - 1)) long parity a b c
+    ∙ sym (loses_is fs)
+  where
+    leb_yes : (a b : ℕ) → a ≤ b → leb a b ≡ true
+    leb_yes a b h = grind (arith, nat_tests)
+
+    same : (x x' : Bool) (y y' : ℕ) (p p' q q' r r' : List Bool) → x ≡ x' → y ≡ y' → p ≡ p' → q ≡ q' → r ≡ r'
+        → (x && (y == 1) && not (has_signal p) && not (has_signal q) && not (has_signal r)) ≡ (x' && (y' == 1) && not (has_signal p') && not (has_signal q') && not (has_signal r'))
+    same x x' y y' p p' q q' r r' d e f g h = cc

@@ -1,0 +1,10 @@
+pub mod FrameLists
+pub mod SearchLaws
+pub mod FirstLaws
+pub mod AlignmentLaws
+pub mod GrowthLaws
+pub mod TrackLaws
+pub mod TurnLaws
+pub mod HoldsLaws
+pub mod HeldLaws
+pub mod AlignSteps

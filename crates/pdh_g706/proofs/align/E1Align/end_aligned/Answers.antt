@@ -1,0 +1,58 @@
+use Rattle.std.proofs.Common.{refl, ap, ◌∙◌, arith}
+use Rattle.pdh_edge.proofs.Runs.{puts_begin}
+use Rattle.pdh_g706.specs.declared.align.E1Align.{E1Align}
+use Rattle.pdh_g706.specs.Machine.{last_bits}
+use Rattle.pdh_g706.specs.Machine.Phase.{Searching, Aligned}
+use Rattle.pdh_g706.specs.View.{phase, phase_of}
+use Rattle.pdh_g706.proofs.AlignSteps.{aligned_found, aligned_gives_up, aligned_goes, becomes_still, puts_of, ok_becomes, ok_puts, err_part}
+use Rattle.pdh_g706.proofs.align.E1Align.end_aligned.Goals as goal
+
+pub returns-in-Some-clause-becomes : goal.returns-in-Some-clause-becomes
+returns-in-Some-clause-becomes g c =
+    let self = c.args.self.now in
+    ok_becomes c.begin_multiframes.result _ _ self c.begin_multiframes.new.self
+    (aligned_found self.held.items c.in-Some.first c.in-Some.ensures.0 c.in-Some.ensures.1) c.begin_multiframes.ensures.becomes
+
+pub returns-in-Some-clause-put : goal.returns-in-Some-clause-put
+returns-in-Some-clause-put g c =
+    let self = c.args.self.now in
+    ok_puts c.begin_multiframes.result _ _ (g.D.Drain.outputs c.args.drain.now) (g.D.Drain.outputs c.begin_multiframes.new.drain)
+    (aligned_found self.held.items c.in-Some.first c.in-Some.ensures.0 c.in-Some.ensures.1) c.begin_multiframes.ensures.put
+
+pub returns-in-Some-clause-part : goal.returns-in-Some-clause-part
+returns-in-Some-clause-part g c =
+    let self = c.args.self.now in
+    err_part c.begin_multiframes.result _ _ (g.D.Drain.outputs c.args.drain.now) (g.D.Drain.outputs c.begin_multiframes.new.drain)
+    (aligned_found self.held.items c.in-Some.first c.in-Some.ensures.0 c.in-Some.ensures.1) c.begin_multiframes.ensures.part
+
+pub returns-then-len-eq16384-clause-becomes : goal.returns-then-len-eq16384-clause-becomes
+returns-then-len-eq16384-clause-becomes g c =
+    let self = c.args.self.now in
+    let bits = self.held.items in
+    let new = c.search_anew.new.self in
+    let is = c.search_anew.ensures in
+    becomes_still _ (Searching (last_bits 255 bits)) self new
+    (aligned_gives_up bits (c.in_default.ensures) (omega arith))
+    (ap phase is) (ap (λ (a : E1Align). a.counts) is) (ap (λ (a : E1Align). a.held.capacity) is)
+
+pub returns-then-len-eq16384-clause-put : goal.returns-then-len-eq16384-clause-put
+returns-then-len-eq16384-clause-put g c =
+    let bits = c.args.self.now.held.items in
+    puts_of _ _ (g.D.Drain.outputs c.args.drain.now) (g.D.Drain.outputs c.args.drain.now)
+    (aligned_gives_up bits (c.in_default.ensures) (omega arith))
+    (puts_begin 0 (g.D.Drain.outputs c.args.drain.now))
+
+pub returns-else-len-eq16384-clause-becomes : goal.returns-else-len-eq16384-clause-becomes
+returns-else-len-eq16384-clause-becomes g c =
+    let self = c.args.self.now in
+    let bits = self.held.items in
+    becomes_still _ (Aligned bits) self _
+    (aligned_goes bits c.requires.whole (c.in_default.ensures) (λ e. c.if-len-eq16384.false (c.len.ensures.len ∙ e)))
+    (ap (λ s. phase_of s bits self.group) c.requires.stage) refl refl
+
+pub returns-else-len-eq16384-clause-put : goal.returns-else-len-eq16384-clause-put
+returns-else-len-eq16384-clause-put g c =
+    let bits = c.args.self.now.held.items in
+    puts_of _ _ (g.D.Drain.outputs c.args.drain.now) (g.D.Drain.outputs c.args.drain.now)
+    (aligned_goes bits c.requires.whole (c.in_default.ensures) (λ e. c.if-len-eq16384.false (c.len.ensures.len ∙ e)))
+    (puts_begin 0 (g.D.Drain.outputs c.args.drain.now))

@@ -1,0 +1,5 @@
+pub mod Frames
+pub mod Alignment
+pub mod Tracking
+pub mod Machine
+pub mod View

@@ -1,0 +1,67 @@
+-- What the fields of an alignment machine stand for.
+use Rattle.std.specs.Prelude.{◌≡◌, ◌+◌, ℕ, Bool, List, ◌++◌}
+use Rattle.pdh_edge.specs.Ports.{Outputs, Puts, PutsPart, for_leaf}
+use Rattle.pdh_g706.specs.declared.align.E1Align.{E1Align}
+use Rattle.pdh_g706.specs.declared.counts.Counts.{Counts}
+use Rattle.pdh_g706.specs.declared.counts.Group.{Group}
+use Rattle.pdh_g706.specs.declared.stage.Stage.{Stage}
+use Rattle.pdh_g706.specs.declared.stage.Stage.TheVariants as stages
+use Rattle.pdh_g706.specs.Tracking.{Share, e1_far, multiframes_in, blocks_in, errors_in, counted}
+use Rattle.pdh_g706.specs.Machine.{Phase, Holds, Turn, aligned_turn, framed_turn, block_turn}
+use Rattle.pdh_g706.specs.Machine.Phase.{Searching, Aligned, Framed}
+
+-- what is held in a stage
+abbrev pub phase_of : Stage → List Bool → Group → Phase
+phase_of stages.Searching held group = Searching held
+phase_of stages.Aligned held group = Aligned held
+phase_of stages.Framed held group = Framed held group.judged group.errored
+
+abbrev pub phase : E1Align → Phase
+phase align = phase_of align.stage align.held.items align.group
+
+-- what is done with the bits that are held at the end of a frame without a loss, in either stage of an alignment, and at the
+-- end of a sub-multiframe
+abbrev pub aligned_here : E1Align → Turn
+aligned_here align = aligned_turn align.held.items
+
+abbrev pub framed_here : E1Align → Turn
+framed_here align = framed_turn align.held.items align.group.judged align.group.errored
+
+abbrev pub block_here : E1Align → Turn
+block_here align = block_turn align.held.items align.group.judged align.group.errored
+
+-- the counts are those of the received bits
+pub record AreCounts (counts : Counts) (line : List Bool) : Type 0 where
+  pub multiframes_are : counts.multiframes ≡ counted (multiframes_in line)
+  pub blocks_are : counts.blocks ≡ counted (blocks_in line)
+  pub errored_are : counts.errored ≡ counted (errors_in line)
+
+-- the machine stands for these received bits: it holds of them what it needs, and has counted what was found in them
+pub record StandsFor (align : E1Align) (line : List Bool) : Type 0 where
+  pub holds : Holds (phase align) line
+  pub counts : AreCounts align.counts line
+  pub room : align.held.capacity ≡ 16384
+
+-- so much was counted in addition
+pub record Counted (gained : Share) (old new : Counts) : Type 0 where
+  pub multiframes_are : (n : ℕ) → old.multiframes ≡ counted n → new.multiframes ≡ counted (n + gained.multiframes)
+  pub blocks_are : (n : ℕ) → old.blocks ≡ counted n → new.blocks ≡ counted (n + gained.blocks)
+  pub errored_are : (n : ℕ) → old.errored ≡ counted n → new.errored ≡ counted (n + gained.errored)
+
+-- a turn was made
+pub record Becomes (turn : Turn) (old new : E1Align) : Type 0 where
+  pub phase_is : phase new ≡ turn.phase
+  pub counts : Counted turn.gained old.counts new.counts
+  pub room : new.held.capacity ≡ old.held.capacity
+
+-- what a line gives has grown, and what came was put to leaf 0
+pub record Gains (line now : List Bool) (old new : Outputs) : Type 0 where
+  pub more : List Bool
+  pub gained : e1_far now ≡ e1_far line ++ more
+  pub puts : Puts (for_leaf 0 more) old new
+
+-- the same where a call failed: a prefix of what came was put
+pub record GainsPart (line now : List Bool) (old new : Outputs) : Type 0 where
+  pub more : List Bool
+  pub gained : e1_far now ≡ e1_far line ++ more
+  pub puts : PutsPart (for_leaf 0 more) old new

@@ -1,0 +1,12 @@
+//! Framed 2048 kbit/s streams with CRC-4 multiframes: frame and multiframe alignment, their loss, and what the CRC-4
+//! blocks tell (G.706, 4).
+#![tactic(auto)]
+
+mod align;
+mod counts;
+mod held;
+mod stage;
+#[cfg(test)]
+mod tests;
+
+pub use align::E1Align;

@@ -1,0 +1,70 @@
+-- What `e1pack` and `e1unpack` come to, and what their outputs hold.
+use Rattle.std.specs.Prelude.{ℕ, zero, suc, ◌+◌, ◌*◌, ◌/◌, ◌%◌, ◌==◌, nat_lt, List, [], ◌∷◌, ◌++◌, Option, Some, None, Result, Ok, Err, length, if◌then◌else◌}
+use Rattle.std.specs.List.{slice_range}
+use Rattle.pdh_bits.specs.Bits.{bits_of, bytes_of}
+use Rattle.pdh_e1.specs.Multiframe.{packed_octet, sent_word}
+use Rattle.pdh_g706.specs.Tracking.{e1_far, multiframes_in, blocks_in, errors_in, counted}
+use Rattle.pdh_ops.specs.Answer.{Answer}
+use Rattle.pdh_ops.specs.declared.file.File.TheVariants.{Payload, E1Line}
+use Rattle.pdh_ops.specs.declared.answer.Done.TheVariants.{E1Packed, E1Unpacked}
+use Rattle.pdh_ops.specs.declared.answer.E1Counts.{E1Counts}
+use Rattle.pdh_ops.specs.declared.answer.Stop.{Stop}
+use Rattle.pdh_ops.specs.declared.answer.Stop.TheVariants.{Missing, ManyFrames, NoAlignment, NotWhole}
+use Rattle.pdh_shape.specs.OwnNumbers.{most_frames}
+
+-- ---- `e1pack`
+
+-- how many frames a payload fills: each carries 31 octets of it
+abbrev pub frames_filled : List ℕ → ℕ
+frames_filled payload = length payload / 31
+
+-- The payload that is held, or why it is refused before it is read: it has to fill multiframes of 16 frames, and no more frames
+-- than a line may have.
+abbrev pub payload_of : Option (List ℕ) → Result (List ℕ) Stop
+payload_of None = Err (Missing Payload)
+payload_of (Some payload) =
+    (if nat_lt most_frames (frames_filled payload) then Err (ManyFrames (frames_filled payload))
+    else (if length payload % 496 == 0 then Ok payload else Err (NotWhole (length payload))))
+
+-- how many multiframes a payload fills
+unfoldable pub e1_packed : List ℕ → Answer
+e1_packed payload = Ok (E1Packed (length payload / 496))
+
+-- the first frames of the line of a payload: each is the octet that a packer puts first (G.704, 2.3.2 and 2.3.3), and then its
+-- 31 octets of the payload
+unfoldable pub packed_frames : List ℕ → ℕ → List ℕ
+packed_frames payload zero = []
+packed_frames payload (suc frame) =
+    let before = packed_frames payload frame in
+    before ++ packed_octet (frame % 16) (sent_word before (frame / 8)) ∷ slice_range payload (31 * frame) (31 * frame + 31)
+
+-- the line of a payload
+abbrev pub packed_line : List ℕ → List ℕ
+packed_line payload = packed_frames payload (frames_filled payload)
+
+-- ---- `e1unpack`
+
+-- how many whole frames a line holds, of 32 octets each
+abbrev pub frames_framed : List ℕ → ℕ
+frames_framed line = length line / 32
+
+-- the line that is held, or why it is refused before it is read
+abbrev pub framed_of : Option (List ℕ) → Result (List ℕ) Stop
+framed_of None = Err (Missing E1Line)
+framed_of (Some line) = (if nat_lt most_frames (frames_framed line) then Err (ManyFrames (frames_framed line)) else Ok line)
+
+-- the whole octets of the payload of a line
+unfoldable pub unpacked_payload : List ℕ → List ℕ
+unpacked_payload line = bytes_of (e1_far (bits_of line))
+
+-- the delivered multiframes of a line, and its judged and errored blocks
+unfoldable pub counts_of : List ℕ → E1Counts
+counts_of line = record {
+  multiframes = counted (multiframes_in (bits_of line));
+  blocks = counted (blocks_in (bits_of line));
+  errored = counted (errors_in (bits_of line));
+}
+
+-- what was found in a line; or no multiframe was delivered, and then how many bits the line has
+unfoldable pub e1_unpacked : List ℕ → Answer
+e1_unpacked line = (if multiframes_in (bits_of line) == 0 then Err (NoAlignment (8 * length line)) else Ok (E1Unpacked (counts_of line)))

@@ -1,0 +1,145 @@
+ghost use Rattle.std.specs.Prelude.{◌≡◌, ◌<◌, ◌≤◌, ◌/◌, ◌%◌, ◌^◌, [], ◌∷◌, length, IsTrue, IfOk, IfErr, OnOk, Some, Ok};
+ghost use Rattle.pdh_edge.specs.Files.{Looks, Holds};
+ghost use Rattle.pdh_edge.specs.MemLists.{outputs_of};
+ghost use Rattle.pdh_g706.specs.View.{StandsFor, Gains};
+ghost use Rattle.pdh_words.specs.declared.commands.Command.TheVariants.{E1Pack, E1Unpack};
+ghost use Rattle.pdh_ops.specs.Names.{payload_name, e1_name};
+ghost use Rattle.pdh_ops.specs.E1.{payload_of, packed_line, framed_of};
+ghost use Rattle.pdh_ops.specs.E1Steps.{IsUnpacked};
+ghost use Rattle.pdh_ops.specs.Refusing.{Refuses};
+ghost use Rattle.pdh_ops.specs.Run.{IsCounted, Performs};
+ghost use Rattle.pdh_ops.specs.declared.answer.Stop.TheVariants.{Memory};
+ghost use Rattle.pdh_shape.specs.OwnNumbers.{most_frames};
+
+use crate::answer::{Done, E1Counts, Stop};
+use crate::file::File;
+use crate::files::{append, read, size, start};
+use pdh_bits::{bits_of, bytes_of};
+use pdh_e1::{PackFault, pack};
+use pdh_edge::{Drain, MemPort, Shelf};
+use pdh_g706::E1Align;
+use pdh_shape::MOST_FRAMES;
+use std::alloc::{AllocError, Global};
+
+// What a framed line gives: the whole octets of its payload, and what was found in it.
+#[derive(Drop)]
+struct Unpacked {
+    payload: Vec<u8>,
+    found: E1Counts,
+}
+
+// The payload, if it fills whole multiframes, and no more frames than a line may have.
+fn read_payload<S: Shelf>(alloc: Global, shelf: &mut S) -> Result<Vec<u8>, Stop>
+    ensures looks { Looks (S.state shelf.old) (S.state shelf.new) }
+    ensures payload { IfOk result (λ payload. Holds ((S.state shelf.old).told payload_name) payload.items) }
+    ensures served { IfOk result (λ payload. payload_of (Some payload.items) ≡ Ok payload.items) }
+    ensures whole { IfOk result (λ payload. length payload.items % 496 ≡ 0) }
+    ensures err { IfErr result (Refuses E1Pack (S.state shelf.old) (S.state shelf.new)) }
+    ensures counted { IsCounted (S.state shelf.old) (S.state shelf.new) result }
+{
+    let octets = size(shelf, File::Payload)?;
+    let frames = octets / 31;
+    if frames > MOST_FRAMES {
+        return Err(Stop::ManyFrames(frames));
+    }
+    if octets % 496 != 0 {
+        return Err(Stop::NotWhole(octets));
+    }
+    read(alloc, shelf, File::Payload, octets)
+}
+
+// The line of a payload that fills whole multiframes.
+fn packed(alloc: Global, payload: &[u8]) -> Result<Vec<u8>, Stop>
+    requires { length payload.now % 496 ≡ 0 }
+    ensures line { IfOk result (λ line. line.items ≡ packed_line payload.now) }
+    ensures err { IfErr result (λ stop. stop ≡ Memory) }
+{
+    match pack(alloc, payload) {
+        Ok(line) => Ok(line),
+        Err(PackFault::Memory) => Err(Stop::Memory),
+        Err(PackFault::NotWhole { .. }) => unreachable!(),
+    }
+}
+
+/// Reads the payload, writes the line of multiframes that carries it, and answers how many there are.
+pub fn e1pack<S: Shelf>(alloc: Global, shelf: &mut S) -> Result<Done, Stop>
+    ensures { Performs E1Pack (S.state shelf.old) (S.state shelf.new) result }
+{
+    let payload = read_payload(alloc, shelf)?;
+    let line = packed(alloc, &payload)?;
+    start(shelf, File::E1Line)?;
+    append(shelf, File::E1Line, &line)?;
+    Ok(Done::E1Packed(payload.len() as u64 / 496))
+}
+
+// The framed line, if it has no more frames than a line may have.
+fn read_framed<S: Shelf>(alloc: Global, shelf: &mut S) -> Result<Vec<u8>, Stop>
+    ensures looks { Looks (S.state shelf.old) (S.state shelf.new) }
+    ensures line { IfOk result (λ line. Holds ((S.state shelf.old).told e1_name) line.items) }
+    ensures served { IfOk result (λ line. framed_of (Some line.items) ≡ Ok line.items) }
+    ensures few { IfOk result (λ line. length line.items / 32 ≤ most_frames) }
+    ensures err { IfErr result (Refuses E1Unpack (S.state shelf.old) (S.state shelf.new)) }
+    ensures counted { IsCounted (S.state shelf.old) (S.state shelf.new) result }
+{
+    let octets = size(shelf, File::E1Line)?;
+    let frames = octets / 32;
+    if frames > MOST_FRAMES {
+        return Err(Stop::ManyFrames(frames));
+    }
+    read(alloc, shelf, File::E1Line, octets)
+}
+
+// A port that takes the payload of a line of so many bits.
+fn payload_port(alloc: Global, bits: usize) -> Result<MemPort, AllocError>
+    ensures { IfOk result (λ port. ⟦<MemPort as Drain>⟧.outputs port ≡ outputs_of ([] ∷ [])) }
+{
+    let mut port = MemPort::open(alloc, Vec::new(alloc), 1)?;
+    port.room(0, bits)?;
+    Ok(port)
+}
+
+// Gives a machine that has taken no bit the bits of a line. Memory is wanting where the port has no room left.
+fn deliver(align: &mut E1Align, bits: &[bool], port: &mut MemPort) -> Result<(), AllocError>
+    requires stands { StandsFor align.old [] }
+    requires list { IsTrue ((⟦<MemPort as Drain>⟧.outputs port.old).holds 0) }
+    ensures stands { OnOk result (StandsFor align.new bits.now) }
+    ensures put { OnOk result (Gains [] bits.now (⟦<MemPort as Drain>⟧.outputs port.old) (⟦<MemPort as Drain>⟧.outputs port.new)) }
+    ensures list { IsTrue ((⟦<MemPort as Drain>⟧.outputs port.new).holds 0) }
+{
+    match align.take(bits, port) {
+        Ok(()) => Ok(()),
+        Err(_) => Err(AllocError),
+    }
+}
+
+// What a framed line gives.
+fn unpack(alloc: Global, line: &[u8]) -> Result<Unpacked, AllocError>
+    ensures { IfOk result (IsUnpacked line.now) }
+{
+    let bits = bits_of(alloc, line)?;
+    let mut port = payload_port(alloc, bits.len())?;
+    let mut align = E1Align::open(alloc)?;
+    deliver(&mut align, &bits, &mut port)?;
+    let payload = bytes_of(alloc, port.output(0))?;
+    let found = E1Counts {
+        multiframes: align.multiframes(),
+        blocks: align.blocks(),
+        errored: align.errored(),
+    };
+    Ok(Unpacked { payload, found })
+}
+
+/// Reads the framed line, writes the payload of its delivered multiframes, and answers what was found in it, or that
+/// no multiframe was delivered.
+pub fn e1unpack<S: Shelf>(alloc: Global, shelf: &mut S) -> Result<Done, Stop>
+    ensures { Performs E1Unpack (S.state shelf.old) (S.state shelf.new) result }
+{
+    let line = read_framed(alloc, shelf)?;
+    let unpacked = unpack(alloc, &line)?;
+    start(shelf, File::PayloadOut)?;
+    append(shelf, File::PayloadOut, &unpacked.payload)?;
+    if unpacked.found.multiframes == 0 {
+        return Err(Stop::NoAlignment(8 * line.len() as u64));
+    }
+    Ok(Done::E1Unpacked(unpacked.found))
+}
