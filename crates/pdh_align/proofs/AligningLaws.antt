@@ -401,6 +401,27 @@ alignment_waits s a b c part line bit shape h short =
       (refl, h.splits (bit ∷ []) ∙ ap (λ x. h.settled ++ x) facts.3 ∙ sym (stands_now s (Tracking a b c part) line h)),
     )
 
+-- the pieces of an alignment end with a frame
+ends_with_frame : (s : FrameShape) (l : List Bool) → IsFrame s → is_found s l ≡ true → is_lost s l ≡ false → (others : List Piece) × (last : List Bool) × (track s l ≡ others ++ Delivered last ∷ [])
+ends_with_frame s l shape found kept =
+    let f : ℕ → Piece = λ k. Delivered (frame_of s (aligned s l) k) in
+    let before : ℕ = delivered s l - 1 in
+    let count : delivered s l ≡ before + 1 = omega (arith, laws.delivered_three s l shape found) in (
+      Gap (gap_of s l) ∷ map f (range_with_len 0 before),
+      frame_of s (aligned s l) before,
+      track_aligned s l kept ∙ ap (λ n. Gap (gap_of s l) ∷ map f (range_with_len 0 n)) count
+          ∙ ap (λ x. Gap (gap_of s l) ∷ x) (map-range_with_len_more f 0 before before (omega arith)),
+    )
+
+-- so do the pieces of a line that is aligned
+line_ends_with_frame : (s : FrameShape) (a b c : Marks) (part line : List Bool) → IsFrame s → StandsFor s (Tracking a b c part) line → (others : List Piece) × (last : List Bool) × (track s line ≡ others ++ Delivered last ∷ [])
+line_ends_with_frame s a b c part line shape h =
+    let ends = ends_with_frame s h.since shape h.describes.0 h.describes.1 in (
+      h.settled ++ ends.0,
+      ends.1,
+      stands_now s (Tracking a b c part) line h ∙ ap (λ x. h.settled ++ x) ends.2 ∙ sym (append_assoc h.settled ends.0 (Delivered ends.1 ∷ [])),
+    )
+
 -- a frame ends and completes a loss
 alignment_ends : (s : FrameShape) (a b c : Marks) (part line : List Bool) (bit : Bool) → IsFrame s → StandsFor s (Tracking a b c part) line → s.len ≤ length (part ++ bit ∷ [])
     → s.loses a b c (wrong s (part ++ bit ∷ [])) ≡ true
@@ -424,7 +445,8 @@ alignment_ends s a b c part line bit shape h long loses =
     let none : positions s (part ++ bit ∷ []) ≡ 0 = omega arith in
     let short = short_search s (part ++ bit ∷ []) none in
     let pieces : List Piece = one_search s (h.since ++ bit ∷ []) in
-    let open_before : track s h.since ≡ pieces = laws.track_open s h.since kept ∙ sym facts.2 in (
+    let open_before : track s h.since ≡ pieces = laws.track_open s h.since kept ∙ sym facts.2 in
+    let ends = line_ends_with_frame s a b c part line shape h in (
       record {
         settled = h.settled ++ pieces;
         since = part ++ bit ∷ [];
@@ -435,7 +457,10 @@ alignment_ends s a b c part line bit shape h long loses =
         describes = (short.0, ap (λ n. drop n (part ++ bit ∷ [])) (sym none));
       },
       (
+        ends.0,
+        ends.1,
         refl,
+        ends.2,
         h.splits (bit ∷ []) ∙ ap (λ x. h.settled ++ x) (laws.track_lost s (h.since ++ bit ∷ []) shape facts.0)
             ∙ ap (λ x. h.settled ++ (pieces ++ track s x)) rest ∙ ap (λ x. h.settled ++ (pieces ++ x)) short.1
             ∙ sym (append_assoc h.settled pieces (Gap 0 ∷ []))
@@ -465,11 +490,15 @@ alignment_delivers s a b c part line bit shape h long fine =
     let at : (n : ℕ) → Type 0 = λ n. (b ≡ judged s (aligned s (h.since ++ bit ∷ [])) n) × (c ≡ judged s (aligned s (h.since ++ bit ∷ [])) (suc n)) × (wrong s (part ++ bit ∷ []) ≡ judged s (aligned s (h.since ++ bit ∷ [])) (suc (suc n))) in
     let here : at (suc (delivered s h.since)) = (b_is ∙ sym (d (suc (delivered s h.since)) (omega arith)), c_is ∙ sym (d (suc (suc (delivered s h.since))) (omega arith)), last) in
     let now_is = laws.marks_back_is s (aligned s (h.since ++ bit ∷ [])) (delivered s (h.since ++ bit ∷ [])) in
-    let there : at (delivered s (h.since ++ bit ∷ [])) = subst at (sym facts.0) here in (
+    let there : at (delivered s (h.since ++ bit ∷ [])) = subst at (sym facts.0) here in
+    let ends = line_ends_with_frame s a b c part line shape h in (
       keeps s (Tracking a b c part) (Tracking b c (wrong s (part ++ bit ∷ [])) []) line bit h
           (laws.is_found-append s h.since (bit ∷ []) found, facts.1, there.0 ∙ sym (now_is.0), there.1 ∙ sym (now_is.1), there.2 ∙ sym (now_is.2), sym facts.2),
       (
+        ends.0,
+        ends.1,
         refl,
+        ends.2,
         h.splits (bit ∷ []) ∙ ap (λ x. h.settled ++ x) facts.3 ∙ sym (append_assoc h.settled (track s h.since) (Delivered (after_loss s h.since ++ bit ∷ []) ∷ []))
             ∙ ap (λ x. x ++ Delivered (after_loss s h.since ++ bit ∷ []) ∷ []) (sym (stands_now s (Tracking a b c part) line h))
             ∙ ap (λ x. track s line ++ Delivered (x ++ bit ∷ []) ∷ []) (sym is),

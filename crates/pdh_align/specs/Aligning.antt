@@ -34,8 +34,8 @@ abbrev pub Grows : Step → List (List Bool) → List Piece → List Piece → T
 Grows Nothing ready before after = (ready ≡ []) × (after ≡ before)
 Grows Rejected ready before after = (others : List Piece) × (n : ℕ) × (ready ≡ []) × (before ≡ others ++ Gap n ∷ []) × (after ≡ others ++ Gap (suc n) ∷ [])
 Grows Aligned ready before after = (others : List Piece) × (n : ℕ) × (length ready ≡ 3) × (before ≡ others ++ Gap n ∷ []) × (after ≡ before ++ map Delivered ready)
-Grows Frame ready before after = (length ready ≡ 1) × (after ≡ before ++ map Delivered ready)
-Grows Lost ready before after = (ready ≡ []) × (after ≡ before ++ Gap 0 ∷ [])
+Grows Frame ready before after = (others : List Piece) × (last : List Bool) × (length ready ≡ 1) × (before ≡ others ++ Delivered last ∷ []) × (after ≡ before ++ map Delivered ready)
+Grows Lost ready before after = (others : List Piece) × (last : List Bool) × (ready ≡ []) × (before ≡ others ++ Delivered last ∷ []) × (after ≡ before ++ Gap 0 ∷ [])
 
 -- what an aligner does with a bit
 pub record Turn : Type 0 where

@@ -7,6 +7,7 @@ pub mod Demuxed
 pub mod Numbered
 pub mod TreeLeaves
 pub mod Receivers
+pub mod Noted
 pub mod LevelNumbers
 pub mod Senders
 pub mod Stops

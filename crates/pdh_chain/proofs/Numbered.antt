@@ -9,7 +9,7 @@ use Rattle.pdh_shape.specs.declared.place.Path.{Path}
 use Rattle.pdh_shape.specs.Frame.{FrameShape}
 use Rattle.pdh_line.specs.Nodes.{child}
 use Rattle.pdh_line.specs.Paths.{steps_of, path_of}
-use Rattle.pdh_chain.specs.Trees.{child_path}
+use Rattle.pdh_events.specs.Chain.{child_path}
 
 -- ---- a list that is made of numbers
 

@@ -14,7 +14,8 @@ use Rattle.pdh_rx.specs.Tail.{tail_meaning}
 use Rattle.pdh_rx.specs.Node.{EachStands, ArePlaced, any_leaf, got_by, received_lines, node_meaning}
 use Rattle.pdh_line.specs.Paths.{steps_of}
 use Rattle.pdh_rx.specs.laws.NodeLaws.{got_elsewhere}
-use Rattle.pdh_chain.specs.Trees.{child_path, receiver_of}
+use Rattle.pdh_events.specs.Chain.{child_path}
+use Rattle.pdh_chain.specs.Trees.{receiver_of}
 use Rattle.pdh_chain.proofs.Numbered.{found_at, child_steps}
 use Rattle.pdh_chain.proofs.TreeLeaves.{Meanings, tributary, told_below}
 

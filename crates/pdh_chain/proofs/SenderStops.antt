@@ -28,7 +28,8 @@ use Rattle.pdh_tx.specs.Meaning.{Plan, Meaning}
 use Rattle.pdh_tx.specs.Held.{first_some, some_if}
 use Rattle.pdh_tx.specs.Node.{obstacle_of, place_at, lead_at, leads, beginning, arrival_at, arrivals, reads}
 use Rattle.pdh_tx.specs.Locked.{locked_beginning, locked_read, locked_steps}
-use Rattle.pdh_chain.specs.Trees.{child_path, sender_of, senders_below}
+use Rattle.pdh_events.specs.Chain.{child_path}
+use Rattle.pdh_chain.specs.Trees.{sender_of, senders_below}
 use Rattle.pdh_chain.specs.Muxes.{LacksFrames, plan_with}
 use Rattle.pdh_chain.proofs.Numbered.{stands_at, below_node, IsAt, child_at}
 use Rattle.pdh_chain.proofs.Senders.{senders, node-locked, node-stores}

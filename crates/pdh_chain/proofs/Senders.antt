@@ -23,7 +23,8 @@ use Rattle.pdh_tx.specs.Leaf.{leaf_meaning}
 use Rattle.pdh_tx.specs.Node.{any_leaf, given_by, line_of, source_of, node_frame, meaning_with, node_obstacle, node_meaning}
 use Rattle.pdh_tx.specs.Locked.{locked_obstacle, locked_meaning, multiplexer_of}
 use Rattle.pdh_tx.specs.NodeState.{ArePlaced}
-use Rattle.pdh_chain.specs.Trees.{child_path, sender_of, senders_below, AreLevelsOf}
+use Rattle.pdh_events.specs.Chain.{child_path}
+use Rattle.pdh_chain.specs.Trees.{sender_of, senders_below, AreLevelsOf}
 use Rattle.pdh_chain.specs.Muxes.{plan_with}
 use Rattle.pdh_chain.proofs.TreeLeaves.{Meanings, tributary, told_below}
 use Rattle.pdh_chain.proofs.LevelNumbers.{EachLevelOf, each_level}

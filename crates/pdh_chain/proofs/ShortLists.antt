@@ -25,6 +25,7 @@ use Rattle.pdh_nesting.specs.Sending.{chain_line}
 use Rattle.std.proofs.lemmas.Nat.{le-div}
 use Rattle.pdh_chain.specs.Muxing.{as_line}
 use Rattle.pdh_chain.specs.Muxes.{bits_of, frames_of_line, PutsPrefix}
+use Rattle.pdh_watch.specs.declared.event.Event.{Event}
 use Rattle.pdh_chain.specs.Demuxes.{received_of, DemuxesPart}
 use Rattle.pdh_nesting.specs.Chains.{width, top_len, AreFrames}
 use Rattle.pdh_nesting.specs.Receiving.{far}
@@ -231,7 +232,7 @@ received_few shapes line bits k are few = elim (cases_lt k (width shapes)) [
 ]
 
 -- Where a bit couldn't be put, no list took more bits than its share of the line.
-pub demux_short : (shapes : List FrameShape) (bits : ℕ) (inputs inputs_now : Inputs) (outputs outputs_now : Outputs) → AreFrames shapes → DemuxesPart shapes bits inputs inputs_now outputs outputs_now
+pub demux_short : (shapes : List FrameShape) (sees : List Event → Type 0) (bits : ℕ) (inputs inputs_now : Inputs) (outputs outputs_now : Outputs) → AreFrames shapes → DemuxesPart shapes sees bits inputs inputs_now outputs outputs_now
     → (k : ℕ) → bits_held outputs_now k ≤ bits_held outputs k + bits / width shapes
-demux_short shapes bits inputs inputs_now outputs outputs_now are put k =
+demux_short shapes sees bits inputs inputs_now outputs outputs_now are put k =
     omega (arith, prefix_short (received_of shapes put.given k) (outputs.told k) (outputs_now.told k) (put.puts k), received_few shapes put.given bits k are put.upto)

@@ -8,7 +8,7 @@ use Rattle.pdh_shape.specs.declared.place.Path.{Path}
 use Rattle.pdh_shape.specs.Frame.{FrameShape}
 use Rattle.pdh_nesting.specs.Chains.{width}
 use Rattle.pdh_line.proofs.LeafNumbers.{leaf-tributary, leaf-below, leaf-number}
-use Rattle.pdh_chain.specs.Trees.{child_path}
+use Rattle.pdh_events.specs.Chain.{child_path}
 use Rattle.pdh_chain.proofs.Numbered.{found_at, one_more, below_node, earlier, apart}
 
 -- What chains mean, by the frames of their levels, by the path of the top and by the number of the first leaf. A leaf has its

@@ -4,6 +4,7 @@ use Rattle.std.specs.List.{range_with_len}
 use Rattle.pdh_shape.specs.declared.place.Path.{Path}
 use Rattle.pdh_shape.specs.declared.place.Level.{Level}
 use Rattle.pdh_shape.specs.Frame.{FrameShape}
+use Rattle.pdh_events.specs.Chain.{child_path}
 use Rattle.pdh_levels.specs.Levels.{numbers_of as numbers_in}
 use Rattle.pdh_line.specs.Sending.{shape_numbers}
 use Rattle.pdh_nesting.specs.Chains.{width, numbers_of}
@@ -17,11 +18,6 @@ use Rattle.pdh_rx.specs.Node.{node_meaning as demultiplexer_of}
 -- the nodes of a shape have no stores, since it has no control copies
 abbrev pub HasNoStores : FrameShape → Type 0
 HasNoStores s = (s.copies == 0) ≡ true
-
--- the path of the tributary of that number, from 0; a node two steps below the top has leaves alone, which have no path
-abbrev pub child_path : Path → ℕ → Path
-child_path path j =
-    if path.depth == 0 then record { depth = 1; first = suc j; second = 0 } else (if path.depth == 1 then record { depth = 2; first = path.first; second = suc j } else path)
 
 -- what a chain's sender means, where its own node stands at a path and its leaves are numbered from `first`
 unfoldable pub sender_of : List FrameShape → Path → ℕ → Sends

@@ -1,11 +1,12 @@
 //! `mux` and `demux` of each chain, by the types of its nodes.
 
-ghost use Rattle.std.specs.Prelude.{◌≡◌, ◌<◌, ◌≤◌, ◌^◌, ℕ, [], IsTrue, IfOk, OnOk, IfErr, IfSome};
+ghost use Rattle.std.specs.Prelude.{◌≡◌, ◌<◌, ◌≤◌, ◌^◌, ℕ, [], IsTrue, Err, IfOk, OnOk, IfErr, IfSome};
 ghost use Rattle.pdh_clock.specs.Contents.{frame_count, counts};
 ghost use Rattle.pdh_chain.specs.Chains.{shapes_of, leaves_of, levels_of};
 ghost use Rattle.pdh_chain.specs.Saying.{says_of};
 ghost use Rattle.pdh_chain.specs.Muxes.{Muxes, IsMuxStop, IsLeftReady};
 ghost use Rattle.pdh_chain.specs.Demuxes.{Demuxes, IsDemuxStop, IsDemuxLeft};
+ghost use Rattle.pdh_chain.specs.declared.stop.DemuxStop.TheVariants.{Memory};
 
 use crate::chain::Chain;
 use crate::making::mux_with;
@@ -86,7 +87,7 @@ pub fn mux<P: Port>(
 
 /// Takes so many bits of a port's list 0, which is a chain's line, puts to each leaf's list what the
 /// leaf receives by them, and answers how many frames of the top were delivered. It takes its memory
-/// before it starts the port. For now it notes no events.
+/// before it starts the port, and notes the events that the bits bring.
 pub fn demux<P: Port, W: Watch>(
     alloc: Global,
     chain: Chain,
@@ -100,13 +101,15 @@ pub fn demux<P: Port, W: Watch>(
     requires leaves { (k : ℕ) → k < leaves_of chain → IsTrue ((P.outputs port.old).holds k) }
     ensures kept { P.kept port.old port.new }
     ensures ready { IsDemuxLeft (P.fresh port.new) (P.ready port.new) result }
-    ensures ok { IfOk result (λ frames. Demuxes (shapes_of chain) bits frames
+    ensures ok { IfOk result (λ frames. Demuxes (shapes_of chain)
+        (λ events. W.saw watch.old events watch.new) bits frames
         (P.inputs port.old) (P.inputs port.new) (P.outputs port.old) (P.outputs port.new)) }
-    ensures err { IfErr result (IsDemuxStop (shapes_of chain) bits
+    ensures err { IfErr result (IsDemuxStop (shapes_of chain)
+        (λ events. W.saw watch.old events watch.new) bits
         (P.inputs port.old) (P.inputs port.new) (P.outputs port.old) (P.outputs port.new)
         (P.feed_faults port.old) (P.feed_faults port.new)
         (P.drain_faults port.old) (P.drain_faults port.new)) }
-    ensures seen { W.saw watch.old [] watch.new }
+    ensures unseen { result ≡ Err Memory → watch.new ≡ watch.old }
 {
     match chain {
         Chain::E12 => demux_with::<E2, Tail, P, W>(alloc, bits, port, watch),

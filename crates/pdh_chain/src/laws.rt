@@ -1,5 +1,5 @@
 //! Laws of whole chains. Each function does nothing: what it ensures is the law.
-ghost use Rattle.std.specs.Prelude.{◌≤◌, ◌<◌, ◌+◌, ◌*◌, ◌/◌, ℕ, Bool, List, length};
+ghost use Rattle.std.specs.Prelude.{◌≤◌, ◌<◌, ◌+◌, ◌*◌, ◌/◌, ℕ, Bool, List, length, ⊤};
 ghost use Rattle.pdh_edge.specs.Ports.{Inputs, Outputs};
 ghost use Rattle.pdh_edge.specs.MemLists.{bits_held};
 ghost use Rattle.pdh_shape.specs.declared.role.Service.{Service};
@@ -36,6 +36,6 @@ pub fn mux_puts_no_more_than_its_frames()
 pub fn demux_puts_no_more_than_the_shares()
     ensures { (shapes : List FrameShape) (bits : ℕ)
         (inputs inputs_now : Inputs) (outputs outputs_now : Outputs) → AreFrames shapes
-        → DemuxesPart shapes bits inputs inputs_now outputs outputs_now
+        → DemuxesPart shapes (λ events. ⊤) bits inputs inputs_now outputs outputs_now
         → (k : ℕ) → bits_held outputs_now k ≤ bits_held outputs k + bits / width shapes }
 {}

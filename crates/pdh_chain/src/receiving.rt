@@ -1,8 +1,9 @@
-ghost use Rattle.std.specs.Prelude.{◌≡◌, ◌<◌, ◌≤◌, ◌^◌, ℕ, [], length, IsTrue, IfOk, IfErr, OnOk, ◌∷◌};
+ghost use Rattle.std.specs.Prelude.{◌≡◌, ◌<◌, ◌≤◌, ◌^◌, ℕ, [], length, ⊤, IsTrue, IfOk, IfErr, OnOk, ◌∷◌, Err};
 ghost use Rattle.pdh_nesting.specs.Chains.{width};
 ghost use Rattle.pdh_rx.specs.Meaning.{HoldsAll};
 ghost use Rattle.pdh_chain.specs.Demuxing.{Receives, IsReceiveStop};
 ghost use Rattle.pdh_chain.specs.Demuxes.{Demuxes, IsDemuxStop, IsDemuxLeft};
+ghost use Rattle.pdh_chain.specs.declared.stop.DemuxStop.TheVariants.{Memory};
 
 use crate::stop::DemuxStop;
 use crate::trees::ChainRx;
@@ -19,17 +20,16 @@ fn receive<R: Rx, P: Port, W: Watch>(
     port: &mut P,
     watch: &mut W,
 ) -> Result<(), DemuxStop>
-    requires stands { R.stands receiver.old [] }
+    requires tells { R.tells receiver.old [] }
     requires lists { HoldsAll (R.meaning receiver.old).leaves (P.outputs port.old) }
     requires line { IsTrue ((P.inputs port.old).holds 0) }
     ensures received { OnOk result
-        (Receives (R.meaning receiver.old) (R.stands receiver.new) bits
+        (Receives (R.meaning receiver.old) (R.tells receiver.new) (λ events. W.saw watch.old events watch.new) bits
         (P.inputs port.old) (P.inputs port.new) (P.outputs port.old) (P.outputs port.new)) }
-    ensures stops { IfErr result (IsReceiveStop (R.meaning receiver.old) bits
+    ensures stops { IfErr result (IsReceiveStop (R.meaning receiver.old) (λ events. W.saw watch.old events watch.new) bits
         (P.inputs port.old) (P.inputs port.new) (P.outputs port.old) (P.outputs port.new)
         (P.feed_faults port.old) (P.feed_faults port.new)
         (P.drain_faults port.old) (P.drain_faults port.new)) }
-    ensures seen { W.saw watch.old [] watch.new }
     ensures kept { P.kept port.old port.new }
     ensures same { R.meaning receiver.new ≡ R.meaning receiver.old }
 {
@@ -64,9 +64,9 @@ fn receive_many<R: Rx, P: Port>(
     requires lists { HoldsAll (R.meaning receiver.old).leaves (P.outputs port.old) }
     requires line { IsTrue ((P.inputs port.old).holds 0) }
     ensures received { OnOk result
-        (Receives (R.meaning receiver.old) (R.stands receiver.new) bits
+        (Receives (R.meaning receiver.old) (R.stands receiver.new) (λ events. ⊤) bits
         (P.inputs port.old) (P.inputs port.new) (P.outputs port.old) (P.outputs port.new)) }
-    ensures stops { IfErr result (IsReceiveStop (R.meaning receiver.old) bits
+    ensures stops { IfErr result (IsReceiveStop (R.meaning receiver.old) (λ events. ⊤) bits
         (P.inputs port.old) (P.inputs port.new) (P.outputs port.old) (P.outputs port.new)
         (P.feed_faults port.old) (P.feed_faults port.new)
         (P.drain_faults port.old) (P.drain_faults port.new)) }
@@ -92,17 +92,16 @@ fn receive_all<R: Rx, P: Port, W: Watch>(
     watch: &mut W,
 ) -> Result<(), DemuxStop>
     requires some { 0 < length buffer.old }
-    requires stands { R.stands receiver.old [] }
+    requires tells { R.tells receiver.old [] }
     requires lists { HoldsAll (R.meaning receiver.old).leaves (P.outputs port.old) }
     requires line { IsTrue ((P.inputs port.old).holds 0) }
     ensures received { OnOk result
-        (Receives (R.meaning receiver.old) (R.stands receiver.new) bits
+        (Receives (R.meaning receiver.old) (R.stands receiver.new) (λ events. W.saw watch.old events watch.new) bits
         (P.inputs port.old) (P.inputs port.new) (P.outputs port.old) (P.outputs port.new)) }
-    ensures stops { IfErr result (IsReceiveStop (R.meaning receiver.old) bits
+    ensures stops { IfErr result (IsReceiveStop (R.meaning receiver.old) (λ events. W.saw watch.old events watch.new) bits
         (P.inputs port.old) (P.inputs port.new) (P.outputs port.old) (P.outputs port.new)
         (P.feed_faults port.old) (P.feed_faults port.new)
         (P.drain_faults port.old) (P.drain_faults port.new)) }
-    ensures seen { W.saw watch.old [] watch.new }
     ensures kept { P.kept port.old port.new }
     ensures same { R.meaning receiver.new ≡ R.meaning receiver.old }
 {
@@ -128,13 +127,15 @@ pub fn demux_with<S: Shape, C: ChainRx, P: Port, W: Watch>(
     requires leaves { (k : ℕ) → k < width (S.shape ∷ C.shapes) → IsTrue ((P.outputs port.old).holds k) }
     ensures kept { P.kept port.old port.new }
     ensures ready { IsDemuxLeft (P.fresh port.new) (P.ready port.new) result }
-    ensures ok { IfOk result (λ frames. Demuxes (S.shape ∷ C.shapes) bits frames
+    ensures ok { IfOk result (λ frames. Demuxes (S.shape ∷ C.shapes)
+        (λ events. W.saw watch.old events watch.new) bits frames
         (P.inputs port.old) (P.inputs port.new) (P.outputs port.old) (P.outputs port.new)) }
-    ensures err { IfErr result (IsDemuxStop (S.shape ∷ C.shapes) bits
+    ensures err { IfErr result (IsDemuxStop (S.shape ∷ C.shapes)
+        (λ events. W.saw watch.old events watch.new) bits
         (P.inputs port.old) (P.inputs port.new) (P.outputs port.old) (P.outputs port.new)
         (P.feed_faults port.old) (P.feed_faults port.new)
         (P.drain_faults port.old) (P.drain_faults port.new)) }
-    ensures seen { W.saw watch.old [] watch.new }
+    ensures unseen { result ≡ Err Memory → watch.new ≡ watch.old }
 {
     let mut next_leaf = 0;
     let tables = <RxNode<S, C> as ChainRx>::tables(alloc)?;

@@ -3,7 +3,8 @@ ghost use Rattle.pdh_shape.specs.Frame.{FrameShape};
 ghost use Rattle.pdh_nesting.specs.Chains.{width, AreFrames, ReadEvenly};
 ghost use Rattle.pdh_line.specs.Sending.{HasStores};
 ghost use Rattle.pdh_tx.specs.Meaning.{IsFresh};
-ghost use Rattle.pdh_chain.specs.Trees.{HasNoStores, child_path as path_of_child, sender_of, senders_below, receiver_of};
+ghost use Rattle.pdh_events.specs.Chain.{child_path as path_of_child};
+ghost use Rattle.pdh_chain.specs.Trees.{HasNoStores, sender_of, senders_below, receiver_of};
 
 use pdh_locked::Locked;
 use pdh_rx::{Rx, RxNode, Tail};
@@ -133,7 +134,7 @@ pub trait ChainRx: Rx {
         requires levels { path.depth + length shapes ≤ 3 }
         requires few { next.old + width shapes < 2 ^ 32 }
         ensures meaning { IfOk result (λ receiver. Self.meaning receiver ≡ receiver_of shapes path next.old) }
-        ensures stands { IfOk result (λ receiver. Self.stands receiver []) }
+        ensures tells { IfOk result (λ receiver. Self.tells receiver []) }
         ensures next { OnOk result (next.new ≡ next.old + width shapes) };
 
     /// Each of these is a frame.

@@ -1,8 +1,8 @@
 -- What the calls do to the fields is a turn of the machine.
-use Rattle.std.proofs.Common.{◌≡◌, ◌≢◌, ℕ, ◌+◌, ◌-◌, ◌*◌, ◌/◌, ◌%◌, ◌<◌, ◌≤◌, Bool, true, false, cond, ltb, List, [], ◌∷◌, ◌++◌, length, get_or, take, drop, refl, sym, ap, ◌∙◌, subst, inl, inr, arith}
-use Rattle.std.specs.Prelude.{◌==◌, Result, Ok, Err, OnOk, OnErr}
+use Rattle.std.proofs.Common.{◌≡◌, ◌≢◌, ℕ, ◌+◌, ◌-◌, ◌*◌, ◌/◌, ◌%◌, ◌<◌, ◌≤◌, Bool, true, false, cond, ltb, List, [], ◌∷◌, ◌++◌, length, get_or, take, drop, refl, sym, ap, ◌∙◌, subst, inl, inr, arith, length-drop}
+use Rattle.std.specs.Prelude.{◌==◌, ◌^◌, min, Result, Ok, Err, OnOk, OnErr}
 use Rattle.std.proofs.lemmas.Bool.{cases_Bool, lt-ltb, le-ltb, eq-eqb, ne_eqb}
-use Rattle.std.proofs.lemmas.List.{append-nil, append_assoc, take_more, take_all, take-append-drop}
+use Rattle.std.proofs.lemmas.List.{append-nil, map-append, length_push, length-take-le, append_assoc, take_more, take_all, take-append-drop}
 use Rattle.pdh_edge.proofs.Runs.{puts_begin, puts_then, puts_part}
 use Rattle.pdh_bits.specs.Bits.{bit_value}
 use Rattle.pdh_edge.specs.Ports.{Outputs, Puts, PutsPart, IsPrefix, HasCause, for_leaf}
@@ -13,13 +13,33 @@ use Rattle.pdh_g706.specs.declared.stage.Stage.{Stage}
 use Rattle.pdh_g706.specs.declared.stage.Stage.TheVariants as stages
 use Rattle.pdh_g706.specs.Frames.{frames_of, is_confirmed}
 use Rattle.pdh_g706.specs.Alignment.{loses, earlier, reaches, errs}
-use Rattle.pdh_g706.specs.Tracking.{Share, e1_far, multiframes_in, blocks_in, errors_in, counted}
-use Rattle.pdh_g706.specs.Machine.{Phase, Holds, Fits, Turn, nothing, still, last_bits, payload_from, errs_in, search_turn, framing_turn, aligned_turn, aligned_bits, group_phase, block_turn, framed_turn, framed_bits, turn}
+use Rattle.pdh_g706.specs.Tracking.{Signs, Share, e1_far, multiframes_in, blocks_in, errors_in, signs_in, counted}
+use Rattle.pdh_watch.specs.declared.kind.Kind.{Kind}
+use Rattle.pdh_watch.specs.declared.kind.TheConstants.Kind.{ALIGNED, LOST}
+use Rattle.pdh_watch.specs.declared.event.Event.{Event}
+use Rattle.pdh_watch.specs.Seen.{SawPart}
+use Rattle.pdh_line.specs.Paths.{top}
+use Rattle.pdh_events.specs.Telling.{tell, event_of, ais_kinds}
+use Rattle.pdh_events.specs.Keeping.{OnesRun, CountsOnes}
+use Rattle.pdh_g706.specs.Events.{alarm_after, frames_kinds, rise, crc_kinds, ais_length, e1_bit_events}
+use Rattle.pdh_g706.specs.Machine.{Phase, Holds, Fits, Turn, no_signs, nothing, loss_after, added_kinds, still, last_bits, lost_turn, payload_from, frames_from, errs_in, each_errs, is_false_group, search_turn, framing_turn, aligned_turn, aligned_bits, group_phase, block_turn, framed_turn, framed_bits, turn}
 use Rattle.pdh_g706.specs.Machine.Phase.{Searching, Aligned, Framed}
-use Rattle.pdh_g706.specs.View.{phase_of, phase, StandsFor, Counted, Becomes, Gains, GainsPart}
+use Rattle.pdh_g706.specs.View.{phase_of, phase, is_framed, turn_events, StandsFor, Counted, Becomes, Gains, GainsPart}
 use Rattle.pdh_g706.proofs.FrameLists.{length_frames}
 use Rattle.pdh_g706.proofs.TurnLaws.{framing_turn_is, aligned_turn_is}
+use Rattle.pdh_g706.proofs.SignLaws.{signs}
 use Rattle.pdh_g706.proofs.HoldsLaws.{holds_turn, e1_far_grows}
+use Rattle.pdh_g706.proofs.EventLaws.{added_is, events_turn, alarm_turn}
+
+-- ---- answers
+
+pub on_ok : {T F : Type 0} (r : Result T F) (P Q : Type 0) → (P → Q) → OnOk r P → OnOk r Q
+on_ok (Ok x) P Q f h = f h
+on_ok (Err e) P Q f h = tt
+
+pub on_err : {T F : Type 0} (r : Result T F) (P Q : Type 0) → (P → Q) → OnErr r P → OnErr r Q
+on_err (Ok x) P Q f h = tt
+on_err (Err e) P Q f h = f h
 
 -- ---- turns
 
@@ -59,7 +79,13 @@ aligned_none bits last wrong is =
 abbrev pub begun : List Bool → ℕ → ℕ → ℕ → ℕ → Turn
 begun bits first whole blocks wrong = record {
   phase = Framed (drop (256 * (first + 16 * (whole - 1))) bits) blocks wrong;
-  gained = record { payload = payload_from (frames_of bits) first (16 * whole); multiframes = whole; blocks = blocks; errored = wrong };
+  gained = record {
+    payload = payload_from (frames_of bits) first (16 * whole);
+    multiframes = whole;
+    blocks = blocks;
+    errored = wrong;
+    signs = signs 1 0 0 (each_errs (frames_of bits) first blocks) (frames_from (frames_of bits) first (16 * whole));
+  };
 }
 
 pub framing_is : (bits : List Bool) (first whole blocks wrong : ℕ) → (length bits / 256 - first) / 16 ≡ whole → (length bits / 256 - first) / 8 - 1 ≡ blocks → wrong ≡ errs_in (frames_of bits) first blocks
@@ -73,30 +99,38 @@ framing_is bits first whole blocks wrong w_is b_is e_is =
     ∙ ap (λ m. begun bits first whole m (errs_in (frames_of bits) first m)) b
     ∙ ap (begun bits first whole blocks) (sym e_is)
 
--- what is made where a sub-multiframe ends
-abbrev pub judged_one : List Bool → List Bool → List Bool → ℕ → ℕ → ℕ → ℕ → Turn
-judged_one bits rest put group wrong whole one = record {
-  phase = group_phase bits rest group wrong;
-  gained = record { payload = put; multiframes = whole; blocks = 1; errored = one };
-}
+-- what is made where a sub-multiframe ends, and perhaps a multiframe
+abbrev pub block_with : List Bool → ℕ → ℕ → Bool → Bool → Turn
+block_with bits group wrong full bad =
+    let frames = frames_of bits in
+    let errored = wrong + bit_value bad in
+    record {
+      phase = group_phase bits (cond full (drop 4096 bits) bits) (group + 1) errored;
+      gained = record {
+        payload = cond full (payload_from frames 16 16) [];
+        multiframes = bit_value full;
+        blocks = 1;
+        errored = bit_value bad;
+        signs = signs 0 0 (bit_value (is_false_group (group + 1) errored)) (bad ∷ []) (cond full (frames_from frames 16 16) []);
+      };
+    }
 
 block_is : (bits : List Bool) (group wrong : ℕ) (full : Bool) (i : ℕ) (bad : Bool) → (length (frames_of bits) == 32) ≡ full → i ≡ length bits / 256 - 16 → bad ≡ errs (frames_of bits) i
-    → block_turn bits group wrong ≡ judged_one bits (cond full (drop 4096 bits) bits) (cond full (payload_from (frames_of bits) 16 16) []) (group + 1) (wrong + bit_value bad) (bit_value full) (bit_value bad)
+    → block_turn bits group wrong ≡ block_with bits group wrong full bad
 unfolding block_turn
 block_is bits group wrong full i bad f_is i_is b_is =
     let fs = frames_of bits in
-    let one : bit_value (errs fs (length fs - 16)) ≡ bit_value bad = ap bit_value (ap (λ n. errs fs (n - 16)) (length_frames bits) ∙ ap (errs fs) (sym i_is) ∙ sym b_is) in
-    ap (λ b. judged_one bits (cond b (drop 4096 bits) bits) (cond b (payload_from fs 16 16) []) (group + 1) (wrong + bit_value (errs fs (length fs - 16))) (bit_value b) (bit_value (errs fs (length fs - 16)))) f_is
-    ∙ ap (λ n. judged_one bits (cond full (drop 4096 bits) bits) (cond full (payload_from fs 16 16) []) (group + 1) (wrong + n) (bit_value full) n) one
+    let one : errs fs (length fs - 16) ≡ bad = ap (λ n. errs fs (n - 16)) (length_frames bits) ∙ ap (errs fs) (sym i_is) ∙ sym b_is in
+    ap (λ b. block_with bits group wrong b (errs fs (length fs - 16))) f_is ∙ ap (block_with bits group wrong full) one
 
 pub block_full : (bits : List Bool) (group wrong i : ℕ) (bad : Bool) → length bits ≡ 8192 → i ≡ length bits / 256 - 16 → bad ≡ errs (frames_of bits) i
-    → block_turn bits group wrong ≡ judged_one bits (drop 4096 bits) (payload_from (frames_of bits) 16 16) (group + 1) (wrong + bit_value bad) 1 (bit_value bad)
+    → block_turn bits group wrong ≡ block_with bits group wrong true bad
 block_full bits group wrong i bad long i_is b_is =
     let size : length (frames_of bits) ≡ 32 = length_frames bits ∙ ap (λ n. n / 256) long in
     block_is bits group wrong true i bad (eq-eqb _ _ size) i_is b_is
 
 pub block_half : (bits : List Bool) (group wrong i : ℕ) (bad : Bool) → length bits % 2048 ≡ 0 → length bits ≢ 8192 → i ≡ length bits / 256 - 16 → bad ≡ errs (frames_of bits) i
-    → block_turn bits group wrong ≡ judged_one bits bits [] (group + 1) (wrong + bit_value bad) 0 (bit_value bad)
+    → block_turn bits group wrong ≡ block_with bits group wrong false bad
 block_half bits group wrong i bad whole other i_is b_is =
     let size : length (frames_of bits) ≢ 32 = λ e. other (exact (length bits) whole (sym (length_frames bits) ∙ e)) in
     block_is bits group wrong false i bad (ne_eqb _ _ size) i_is b_is
@@ -124,9 +158,13 @@ framed_frame bits group wrong whole part =
 pub becomes : (t u : Turn) (old new : E1Align) → t ≡ u → Becomes u old new → Becomes t old new
 becomes t u old new e b = subst (λ (x : Turn). Becomes x old new) (sym e) b
 
+-- nothing else than this was gained: perhaps a loss
+abbrev pub only_lost : Phase → ℕ → Turn
+only_lost p losses = record { phase = p; gained = record nothing { signs = record no_signs { losses = losses } } }
+
 -- nothing was counted
-pub uncounted : (old new : Counts) → new ≡ old → Counted nothing old new
-uncounted old new same = record {
+pub uncounted : (p : Phase) (losses : ℕ) (old new : Counts) → new ≡ old → Counted (only_lost p losses).gained old new
+uncounted p losses old new same = record {
   multiframes_are = λ n is. ap (λ (c : Counts). c.multiframes) same ∙ is ∙ ap counted (plus_none n);
   blocks_are = λ n is. ap (λ (c : Counts). c.blocks) same ∙ is ∙ ap counted (plus_none n);
   errored_are = λ n is. ap (λ (c : Counts). c.errored) same ∙ is ∙ ap counted (plus_none n);
@@ -146,8 +184,72 @@ counted_more old new gained m b e = record {
     more : (x n g : ℕ) → x ≡ counted n → counted (x + g) ≡ counted (n + g)
     more x n g e = omega arith
 
-pub becomes_still : (t : Turn) (p : Phase) (old new : E1Align) → t ≡ still p → phase new ≡ p → new.counts ≡ old.counts → new.held.capacity ≡ old.held.capacity → Becomes t old new
-becomes_still t p old new e p_is c_is r_is = becomes t (still p) old new e (record { phase_is = p_is; counts = uncounted old.counts new.counts c_is; room = r_is })
+pub becomes_lost : (t : Turn) (p : Phase) (losses : ℕ) (old new : E1Align) → t ≡ only_lost p losses → phase new ≡ p → new.counts ≡ old.counts → new.held.capacity ≡ old.held.capacity
+    → new.bits ≡ old.bits → new.ais ≡ old.ais → new.alarm ≡ old.alarm → Becomes t old new
+becomes_lost t p losses old new e p_is c_is r_is n_is o_is a_is =
+    becomes t (only_lost p losses) old new e (record { phase_is = p_is; counts = uncounted p losses old.counts new.counts c_is; room = r_is; number = n_is; ais = o_is; alarm = a_is })
+
+pub becomes_still : (t : Turn) (p : Phase) (old new : E1Align) → t ≡ still p → phase new ≡ p → new.counts ≡ old.counts → new.held.capacity ≡ old.held.capacity
+    → new.bits ≡ old.bits → new.ais ≡ old.ais → new.alarm ≡ old.alarm → Becomes t old new
+becomes_still t p old new e p_is c_is r_is n_is o_is a_is = becomes_lost t p 0 old new e p_is c_is r_is n_is o_is a_is
+
+-- ---- what comes to the watch
+
+-- events that two steps tell
+pub tell_join : {W : Type 0} (saw : W → List Event → W → Type 0) (join : (a b c : W) (xs ys : List Event) → saw a xs b → saw b ys c → saw a (xs ++ ys) c) (n : ℕ) (xs ys : List Kind) (a b c : W)
+    → saw a (tell top n xs) b → saw b (tell top n ys) c → saw a (tell top n (xs ++ ys)) c
+tell_join saw join n xs ys a b c p q = subst (λ (x : List Event). saw a x c) (sym (map-append (event_of top n) xs ys)) (join a b c (tell top n xs) (tell top n ys) p q)
+
+pub events_of : (seen : List Event → Type 0) (old : E1Align) (t u : Turn) → t ≡ u → seen (turn_events old u) → seen (turn_events old t)
+events_of seen old t u e h = subst (λ (x : Turn). seen (turn_events old x)) (sym e) h
+
+pub ok_events : {T F : Type 0} (r : Result T F) (seen : List Event → Type 0) (old : E1Align) (t u : Turn) → t ≡ u → OnOk r (seen (turn_events old u)) → OnOk r (seen (turn_events old t))
+ok_events r seen old t u e h = on_ok r (seen (turn_events old u)) (seen (turn_events old t)) (events_of seen old t u e) h
+
+-- a turn that adds these kinds
+pub kinds_of : (seen : List Event → Type 0) (old : E1Align) (t u : Turn) (kinds : List Kind) → t ≡ u → added_kinds old.alarm u.gained.signs ≡ kinds → seen (tell top old.bits kinds) → seen (turn_events old t)
+kinds_of seen old t u kinds e is h = events_of seen old t u e (subst (λ (x : List Kind). seen (tell top old.bits x)) (sym is) h)
+
+pub still_kinds : (alarm : Bool) → added_kinds alarm no_signs ≡ []
+still_kinds alarm = added_is alarm no_signs
+
+pub loss_kinds : (alarm reached : Bool) → added_kinds alarm (loss_after reached).signs ≡ cond reached (LOST ∷ []) []
+loss_kinds alarm true = added_is alarm (loss_after true).signs
+loss_kinds alarm false = added_is alarm (loss_after false).signs
+
+-- pairs of frames
+pub pairs_half : (bits : List Bool) (k pairs : ℕ) → 256 * k + 512 * pairs ≤ length bits → pairs ≡ length (frames_from (frames_of bits) k (2 * pairs)) / 2
+pairs_half bits k pairs room = omega (arith, length-take-le (2 * pairs) (drop k (frames_of bits)) (omega (arith, length-drop k (frames_of bits), length_frames bits)))
+
+-- what delivered frames show, as they are counted by pairs
+pub pairs_kinds : (alarm : Bool) (bits : List Bool) (k pairs n : ℕ) → 256 * k + 512 * pairs ≤ length bits → n ≡ 2 * pairs
+    → frames_kinds alarm (frames_from (frames_of bits) k (2 * pairs)) 0 pairs ≡ frames_kinds alarm (frames_from (frames_of bits) k n) 0 (length (frames_from (frames_of bits) k n) / 2)
+pairs_kinds alarm bits k pairs n room is =
+    let size : length (frames_from (frames_of bits) k n) ≡ n = length-take-le n (drop k (frames_of bits)) (omega (arith, length-drop k (frames_of bits), length_frames bits)) in
+    let half : pairs ≡ length (frames_from (frames_of bits) k n) / 2 = omega arith in
+    ap (λ m. frames_kinds alarm (frames_from (frames_of bits) k m) 0 pairs) (sym is) ∙ ap (frames_kinds alarm (frames_from (frames_of bits) k n) 0) half
+
+pub block_kinds : (alarm : Bool) (bits : List Bool) (group wrong : ℕ) (bad : Bool) → added_kinds alarm (block_with bits group wrong false bad).gained.signs ≡ crc_kinds (bad ∷ []) ++ rise LOST 0 (bit_value (is_false_group (group + 1) (wrong + bit_value bad)))
+block_kinds alarm bits group wrong bad =
+    added_is alarm (block_with bits group wrong false bad).gained.signs
+    ∙ ap (λ x. x ++ rise LOST 0 (bit_value (is_false_group (group + 1) (wrong + bit_value bad)))) (append-nil (crc_kinds (bad ∷ [])))
+
+pub whole_kinds : (alarm : Bool) (bits : List Bool) (group wrong : ℕ) (bad : Bool) → length bits ≡ 8192
+    → added_kinds alarm (block_with bits group wrong true bad).gained.signs
+    ≡ crc_kinds (bad ∷ []) ++ frames_kinds alarm (frames_from (frames_of bits) 16 (2 * 8)) 0 8 ++ rise LOST 0 (bit_value (is_false_group (group + 1) (wrong + bit_value bad)))
+whole_kinds alarm bits group wrong bad long =
+    added_is alarm (block_with bits group wrong true bad).gained.signs
+    ∙ ap (λ x. crc_kinds (bad ∷ []) ++ x ++ rise LOST 0 (bit_value (is_false_group (group + 1) (wrong + bit_value bad)))) (sym (pairs_kinds alarm bits 16 8 16 (omega arith) refl))
+
+pub begun_kinds : (alarm : Bool) (bits : List Bool) (first whole blocks wrong : ℕ) → 256 * first + 512 * (8 * whole) ≤ length bits
+    → added_kinds alarm (begun bits first whole blocks wrong).gained.signs
+    ≡ (ALIGNED ∷ []) ++ crc_kinds (each_errs (frames_of bits) first blocks) ++ frames_kinds alarm (frames_from (frames_of bits) first (2 * (8 * whole))) 0 (8 * whole)
+begun_kinds alarm bits first whole blocks wrong room =
+    let crc : List Kind = (ALIGNED ∷ []) ++ crc_kinds (each_errs (frames_of bits) first blocks) in
+    let frames : List (List Bool) = frames_from (frames_of bits) first (16 * whole) in
+    added_is alarm (begun bits first whole blocks wrong).gained.signs
+    ∙ append-nil (crc ++ frames_kinds alarm frames 0 (length frames / 2))
+    ∙ ap (λ x. crc ++ x) (sym (pairs_kinds alarm bits first (8 * whole) (16 * whole) room (omega arith)))
 
 -- ---- what comes to the drain
 
@@ -159,8 +261,10 @@ part_of t u o p e h = subst (λ (x : Turn). PutsPart (for_leaf 0 x.gained.payloa
 
 -- ---- what the machine stands for
 
-pub stands_push : (old new : E1Align) (bit : Bool) (line : List Bool) → Becomes (turn (phase old) bit) old new → StandsFor old line → StandsFor new (line ++ bit ∷ [])
-stands_push old new bit line b h =
+-- what a bit leaves, with its ones counted and its number gone on
+pub stands_push : (old out : E1Align) (ones : OnesRun) (number : ℕ) (bit : Bool) (line : List Bool) → Becomes (turn (phase old) bit) (record old { ais = ones }) out
+    → number ≡ min (out.bits + 1) (2 ^ 64 - 1) → ones.long ≡ old.ais.long → (CountsOnes old.ais line → CountsOnes ones (line ++ bit ∷ [])) → StandsFor old line → StandsFor (record out { bits = number }) (line ++ bit ∷ [])
+stands_push old out ones number bit line b next long counts h =
     let facts = holds_turn (phase old) line bit h.holds in
     let grows = facts.1 in
     record {
@@ -171,7 +275,37 @@ stands_push old new bit line b h =
         errored_are = b.counts.errored_are (errors_in line) h.counts.errored_are ∙ ap counted (sym grows.errored_are);
       };
       room = b.room ∙ h.room;
+      number = omega (arith, next, b.number, h.number, length_push line bit);
+      long = ap (λ (o : OnesRun). o.long) b.ais ∙ long ∙ h.long;
+      ones = subst (λ (o : OnesRun). CountsOnes o (line ++ bit ∷ [])) (sym b.ais) (counts h.ones);
+      alarm = b.alarm ∙ ap (λ a. alarm_after a (turn (phase old) bit).gained.signs.frames) h.alarm ∙ alarm_turn (phase old) line bit h.holds;
     }
+
+-- the events of a bit: those of AIS, and then those of the turn
+pub push_events : (old : E1Align) (bit : Bool) (line : List Bool) → StandsFor old line
+    → e1_bit_events line bit ≡ tell top old.bits (ais_kinds old.ais.long line bit) ++ turn_events old (turn (phase old) bit)
+push_events old bit line h =
+    let gained : Signs = (turn (phase old) bit).gained.signs in
+    events_turn (phase old) line bit h.holds
+    ∙ ap (λ n. tell top n (ais_kinds ais_length line bit ++ added_kinds (alarm_after false (signs_in line).frames) gained)) (sym h.number)
+    ∙ ap (λ n. tell top old.bits (ais_kinds n line bit ++ added_kinds (alarm_after false (signs_in line).frames) gained)) (sym h.long)
+    ∙ ap (λ a. tell top old.bits (ais_kinds old.ais.long line bit ++ added_kinds a gained)) (sym h.alarm)
+    ∙ map-append (event_of top old.bits) (ais_kinds old.ais.long line bit) (added_kinds old.alarm gained)
+
+pub seen_push : {W : Type 0} (saw : W → List Event → W → Type 0) (join : (a b c : W) (xs ys : List Event) → saw a xs b → saw b ys c → saw a (xs ++ ys) c) (old : E1Align) (bit : Bool) (line : List Bool) (a b c : W)
+    → (CountsOnes old.ais line → saw a (tell top old.bits (ais_kinds old.ais.long line bit)) b) → saw b (turn_events old (turn (phase old) bit)) c → StandsFor old line → saw a (e1_bit_events line bit) c
+seen_push saw join old bit line a b c ais turned h = subst (λ (x : List Event). saw a x c) (sym (push_events old bit line h)) (join a b c _ _ (ais h.ones) turned)
+
+pub seen_part : {W : Type 0} (saw : W → List Event → W → Type 0) (join : (a b c : W) (xs ys : List Event) → saw a xs b → saw b ys c → saw a (xs ++ ys) c) (old : E1Align) (bit : Bool) (line : List Bool) (a b c : W)
+    → (CountsOnes old.ais line → saw a (tell top old.bits (ais_kinds old.ais.long line bit)) b) → saw b [] c → StandsFor old line → SawPart saw a (e1_bit_events line bit) c
+seen_part saw join old bit line a b c ais none h =
+    let first : List Event = tell top old.bits (ais_kinds old.ais.long line bit) in
+    let rest : List Event = turn_events old (turn (phase old) bit) in (
+      first ++ [],
+      rest,
+      push_events old bit line h ∙ ap (λ (x : List Event). x ++ rest) (sym (append-nil first)),
+      join a b c first [] (ais h.ones) none,
+    )
 
 pub gains_push : (old : E1Align) (bit : Bool) (line : List Bool) (o p : Outputs) → Puts (for_leaf 0 (turn (phase old) bit).gained.payload) o p → StandsFor old line → Gains line (line ++ bit ∷ []) o p
 gains_push old bit line o p puts h = record { more = (turn (phase old) bit).gained.payload; gained = (holds_turn (phase old) line bit h.holds).1.payload_is; puts = puts }
@@ -179,15 +313,7 @@ gains_push old bit line o p puts h = record { more = (turn (phase old) bit).gain
 pub gains_part : (old : E1Align) (bit : Bool) (line : List Bool) (o p : Outputs) → PutsPart (for_leaf 0 (turn (phase old) bit).gained.payload) o p → StandsFor old line → GainsPart line (line ++ bit ∷ []) o p
 gains_part old bit line o p puts h = record { more = (turn (phase old) bit).gained.payload; gained = (holds_turn (phase old) line bit h.holds).1.payload_is; puts = puts }
 
--- ---- answers
-
-pub on_ok : {T F : Type 0} (r : Result T F) (P Q : Type 0) → (P → Q) → OnOk r P → OnOk r Q
-on_ok (Ok x) P Q f h = f h
-on_ok (Err e) P Q f h = tt
-
-pub on_err : {T F : Type 0} (r : Result T F) (P Q : Type 0) → (P → Q) → OnErr r P → OnErr r Q
-on_err (Ok x) P Q f h = tt
-on_err (Err e) P Q f h = f h
+-- ---- calls
 
 -- what a call says of a turn, said of the same turn
 pub ok_becomes : {T F : Type 0} (r : Result T F) (t u : Turn) (old new : E1Align) → t ≡ u → OnOk r (Becomes u old new) → OnOk r (Becomes t old new)
@@ -223,41 +349,41 @@ pub turn_aligned : (a : E1Align) (bit : Bool) (bits : List Bool) → a.stage ≡
 unfolding turn
 turn_aligned a bit bits e is whole fine =
     ap (λ s. turn (phase_of s a.held.items a.group) bit) e ∙ ap (λ (x : List Bool). aligned_bits x) (sym is)
-    ∙ ends_frame bits (still (Searching (last_bits 256 bits))) (aligned_turn bits) (still (Aligned bits)) whole fine
+    ∙ ends_frame bits (lost_turn false bits) (aligned_turn bits) (still (Aligned bits)) whole fine
 
 pub turn_framed : (a : E1Align) (bit : Bool) (bits : List Bool) → a.stage ≡ stages.Framed → bits ≡ a.held.items ++ bit ∷ [] → length bits % 256 ≡ 0 → loses (frames_of bits) ≡ false
     → turn (phase a) bit ≡ framed_turn bits a.group.judged a.group.errored
 unfolding turn
 turn_framed a bit bits e is whole fine =
     ap (λ s. turn (phase_of s a.held.items a.group) bit) e ∙ ap (λ (x : List Bool). framed_bits x a.group.judged a.group.errored) (sym is)
-    ∙ ends_frame bits (still (Searching (last_bits 256 bits))) (framed_turn bits a.group.judged a.group.errored) (still (Framed bits a.group.judged a.group.errored)) whole fine
+    ∙ ends_frame bits (lost_turn true bits) (framed_turn bits a.group.judged a.group.errored) (still (Framed bits a.group.judged a.group.errored)) whole fine
 
 -- no frame ends in an alignment
 pub turn_part : (stage : Stage) (held bits : List Bool) (group : Group) (bit : Bool) → (stage ≡ stages.Searching → ⊥) → bits ≡ held ++ bit ∷ [] → length bits % 256 ≢ 0 → turn (phase_of stage held group) bit ≡ still (phase_of stage bits group)
 unfolding turn
 turn_part stages.Searching held bits group bit other is part = absurd (other refl)
 turn_part stages.Aligned held bits group bit other is part =
-    ap (λ (x : List Bool). aligned_bits x) (sym is) ∙ ends_none bits (still (Searching (last_bits 256 bits))) (aligned_turn bits) (still (Aligned bits)) part
+    ap (λ (x : List Bool). aligned_bits x) (sym is) ∙ ends_none bits (lost_turn false bits) (aligned_turn bits) (still (Aligned bits)) part
 turn_part stages.Framed held bits group bit other is part =
     ap (λ (x : List Bool). framed_bits x group.judged group.errored) (sym is)
-    ∙ ends_none bits (still (Searching (last_bits 256 bits))) (framed_turn bits group.judged group.errored) (still (Framed bits group.judged group.errored)) part
+    ∙ ends_none bits (lost_turn true bits) (framed_turn bits group.judged group.errored) (still (Framed bits group.judged group.errored)) part
 
 -- a frame completes a loss
 pub turn_lost : (stage : Stage) (held bits : List Bool) (group : Group) (bit : Bool) → (stage ≡ stages.Searching → ⊥) → bits ≡ held ++ bit ∷ [] → length bits % 256 ≡ 0 → loses (frames_of bits) ≡ true
-    → turn (phase_of stage held group) bit ≡ still (Searching (last_bits 256 bits))
+    → turn (phase_of stage held group) bit ≡ lost_turn (is_framed stage) bits
 unfolding turn
 turn_lost stages.Searching held bits group bit other is whole lost = absurd (other refl)
 turn_lost stages.Aligned held bits group bit other is whole lost =
-    ap (λ (x : List Bool). aligned_bits x) (sym is) ∙ ends_loss bits (still (Searching (last_bits 256 bits))) (aligned_turn bits) (still (Aligned bits)) whole lost
+    ap (λ (x : List Bool). aligned_bits x) (sym is) ∙ ends_loss bits (lost_turn false bits) (aligned_turn bits) (still (Aligned bits)) whole lost
 turn_lost stages.Framed held bits group bit other is whole lost =
     ap (λ (x : List Bool). framed_bits x group.judged group.errored) (sym is)
-    ∙ ends_loss bits (still (Searching (last_bits 256 bits))) (framed_turn bits group.judged group.errored) (still (Framed bits group.judged group.errored)) whole lost
+    ∙ ends_loss bits (lost_turn true bits) (framed_turn bits group.judged group.errored) (still (Framed bits group.judged group.errored)) whole lost
 
 -- the stage that is left
-pub is_framed : (stage : Stage) → (stage ≡ stages.Searching → ⊥) → (stage ≡ stages.Aligned → ⊥) → stage ≡ stages.Framed
-is_framed stages.Searching a b = absurd (a refl)
-is_framed stages.Aligned a b = absurd (b refl)
-is_framed stages.Framed a b = refl
+pub stage_left : (stage : Stage) → (stage ≡ stages.Searching → ⊥) → (stage ≡ stages.Aligned → ⊥) → stage ≡ stages.Framed
+stage_left stages.Searching a b = absurd (a refl)
+stage_left stages.Aligned a b = absurd (b refl)
+stage_left stages.Framed a b = refl
 
 pub fits_stage : (a : E1Align) (s : Stage) → a.stage ≡ s → Fits (phase a) → Fits (phase_of s a.held.items a.group)
 fits_stage a s e h = subst (λ (x : Stage). Fits (phase_of x a.held.items a.group)) e h
@@ -275,20 +401,25 @@ framing_payload bits first whole is =
     (framing_is bits first whole ((length bits / 256 - first) / 8 - 1) (errs_in (frames_of bits) first ((length bits / 256 - first) / 8 - 1)) is refl refl)
 
 -- a turn was made of what a bit was added to
-pub becomes_from : (t u : Turn) (mid old new : E1Align) → t ≡ u → mid.counts ≡ old.counts → mid.held.capacity ≡ old.held.capacity → Becomes u mid new → Becomes t old new
-becomes_from t u mid old new e c_is r_is b =
+pub becomes_from : (t u : Turn) (mid old new : E1Align) → t ≡ u → mid.counts ≡ old.counts → mid.held.capacity ≡ old.held.capacity → mid.bits ≡ old.bits → mid.ais ≡ old.ais → mid.alarm ≡ old.alarm
+    → Becomes u mid new → Becomes t old new
+becomes_from t u mid old new e c_is r_is n_is o_is a_is b =
     let same : Becomes u old new = record {
       phase_is = b.phase_is;
       counts = subst (λ (c : Counts). Counted u.gained c new.counts) c_is b.counts;
       room = b.room ∙ r_is;
+      number = b.number ∙ n_is;
+      ais = b.ais ∙ o_is;
+      alarm = b.alarm ∙ ap (λ x. alarm_after x u.gained.signs.frames) a_is;
     } in
     becomes t u old new e same
 
-pub ok_becomes_from : {T F : Type 0} (r : Result T F) (t u : Turn) (mid old new : E1Align) → t ≡ u → mid.counts ≡ old.counts → mid.held.capacity ≡ old.held.capacity → OnOk r (Becomes u mid new) → OnOk r (Becomes t old new)
-ok_becomes_from r t u mid old new e c_is r_is h = on_ok r (Becomes u mid new) (Becomes t old new) (becomes_from t u mid old new e c_is r_is) h
+pub ok_becomes_from : {T F : Type 0} (r : Result T F) (t u : Turn) (mid old new : E1Align) → t ≡ u → mid.counts ≡ old.counts → mid.held.capacity ≡ old.held.capacity → mid.bits ≡ old.bits → mid.ais ≡ old.ais
+    → mid.alarm ≡ old.alarm → OnOk r (Becomes u mid new) → OnOk r (Becomes t old new)
+ok_becomes_from r t u mid old new e c_is r_is n_is o_is a_is h = on_ok r (Becomes u mid new) (Becomes t old new) (becomes_from t u mid old new e c_is r_is n_is o_is a_is) h
 
--- a search gains no payload
-pub search_gains : (bits : List Bool) → (search_turn bits).gained.payload ≡ []
+-- a search gains nothing
+pub search_gains : (bits : List Bool) → (search_turn bits).gained ≡ nothing
 unfolding search_turn
 search_gains bits = elim (cases_Bool (ltb (length bits) 768)) [
   | inl short ↦ rw short refl

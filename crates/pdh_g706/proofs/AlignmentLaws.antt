@@ -215,6 +215,18 @@ kept_open (f ∷ fs) h =
     let kept_on : loses (f ∷ fs) ≡ false = (or_parts _ _ (or_parts _ _ (sym (ends_is (f ∷ fs)) ∙ fails)).0).0 in
     kept_is (f ∷ fs) ∙ ap (λ b. cond b (take (end_of (f ∷ fs)) (f ∷ fs)) (up_to_end (f ∷ fs))) (ap loses up ∙ kept_on) ∙ up
 
+-- nor does it end with a loss, or is false
+pub open_loses : (fs : List (List Bool)) → is_ended fs ≡ false → loses (up_to_end fs) ≡ false
+open_loses [] h = loses_short (up_to_end []) (omega arith)
+open_loses (f ∷ fs) h =
+    let all : end_of (f ∷ fs) ≡ length (f ∷ fs) = end_of_is (f ∷ fs) ∙ open_end (f ∷ fs) h in
+    let up : up_to_end (f ∷ fs) ≡ f ∷ fs = take_all (suc (end_of (f ∷ fs))) (f ∷ fs) (omega arith) in
+    let fails : ends (f ∷ fs) ≡ false = first_fails ends (f ∷ fs) (open_end (f ∷ fs) h) (omega arith) in
+    ap loses up ∙ (or_parts _ _ (or_parts _ _ (sym (ends_is (f ∷ fs)) ∙ fails)).0).0
+
+pub open_true : (fs : List (List Bool)) → is_ended fs ≡ false → 0 < length fs → is_false fs ≡ false
+open_true fs h some = (or_parts _ _ (sym (ends_is fs) ∙ first_fails ends fs (open_end fs h) some)).1
+
 -- one more frame, with which the alignment ends
 pub end_yes : (fs : List (List Bool)) (f : List Bool) → is_ended fs ≡ false → ends (fs ++ f ∷ []) ≡ true
     → (is_ended (fs ++ f ∷ []) ≡ true) × (end_of (fs ++ f ∷ []) ≡ length fs) × (up_to_end (fs ++ f ∷ []) ≡ fs ++ f ∷ [])
@@ -252,3 +264,10 @@ end_other fs f h fine passes =
       kept_is (fs ++ f ∷ []) ∙ ap (λ b. cond b (take (end_of (fs ++ f ∷ [])) (fs ++ f ∷ [])) (up_to_end (fs ++ f ∷ []))) fine' ∙ e.2,
       resumes_is (fs ++ f ∷ []) ∙ ap (λ b. cond b (256 * end_of (fs ++ f ∷ [])) (256 * end_of (fs ++ f ∷ []) + 1)) fine' ∙ ap (λ n. 256 * n + 1) e.1,
     )
+
+-- whether an alignment that ends is lost
+pub end_by_loss : (fs : List (List Bool)) (f : List Bool) (lost : Bool) → is_ended fs ≡ false → ends (fs ++ f ∷ []) ≡ true → loses (fs ++ f ∷ []) ≡ lost → loses (up_to_end (fs ++ f ∷ [])) ≡ lost
+end_by_loss fs f lost h passes is = ap loses (end_yes fs f h passes).2 ∙ is
+
+pub lost_ends : (fs : List (List Bool)) → loses fs ≡ true → ends fs ≡ true
+lost_ends fs lost = ends_is fs ∙ or_left _ _ (or_left _ _ lost)

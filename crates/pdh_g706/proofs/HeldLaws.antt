@@ -1,5 +1,5 @@
 -- What the bits that are held say, by their places.
-use Rattle.std.proofs.Common.{◌≡◌, ◌≢◌, ℕ, zero, suc, ◌+◌, ◌-◌, ◌*◌, ◌/◌, ◌%◌, ◌<◌, ◌≤◌, Bool, true, false, ◌&&◌, not, List, [], ◌∷◌, ◌++◌, length, map, get_or, set, take, drop, refl, sym, ap, ◌∙◌, inl, inr, arith, add-one, length-drop}
+use Rattle.std.proofs.Common.{◌≡◌, ◌≢◌, ℕ, zero, suc, ◌+◌, ◌-◌, ◌*◌, ◌/◌, ◌%◌, ◌<◌, ◌≤◌, Bool, true, false, ◌&&◌, not, List, [], ◌∷◌, ◌++◌, length, map, get_or, set, take, drop, cond, refl, sym, ap, ◌∙◌, inl, inr, arith, add-one, length-drop}
 use Rattle.std.specs.Prelude.{◌==◌, flat_map, nat_le, nat_lt}
 use Rattle.std.specs.Bool.{beq}
 use Rattle.std.specs.List.{range_with_len, list_all}
@@ -17,7 +17,12 @@ use Rattle.pdh_edge.specs.Ports.{IsPrefix}
 use Rattle.pdh_line.proofs.Ranges.{range_push, range_append, list_all-at, count_push}
 use Rattle.pdh_g706.specs.Frames.{bit_of, alignment_signal, has_signal, is_confirmed, frame_of, frames_of}
 use Rattle.pdh_g706.specs.Alignment.{frame, loses, multiframe_signal, has_multi, earlier, reaches, eight, sent_check, errs}
-use Rattle.pdh_g706.specs.Machine.{payload_from, errs_in}
+use Rattle.pdh_g706.specs.Machine.{payload_from, frames_from, errs_in, each_errs}
+use Rattle.pdh_g706.specs.Events.{odd_frame, has_alarm, alarm_before, tells_error, odd_kinds, frames_kinds, crc_kinds}
+use Rattle.pdh_watch.specs.declared.kind.Kind.{Kind}
+use Rattle.pdh_watch.specs.declared.kind.TheConstants.Kind.{ALARM_ON, ALARM_OFF, CRC, EBIT}
+use Rattle.pdh_events.specs.Telling.{changed}
+use Rattle.pdh_g706.proofs.EventLaws.{odd_kinds_is}
 use Rattle.pdh_line.specs.Least.{least_below}
 use Rattle.pdh_line.proofs.LeastLaws.{least_below-le, least_below_yes, least_below_none, least_below_more}
 use Rattle.pdh_g706.proofs.FrameLists.{frames_of_is, length_frames, frame_at}
@@ -305,3 +310,35 @@ errs_more fs k n before now bad b_is bad_is is =
 pub bool_le : (b : Bool) → bool_byte b ≤ 1
 bool_le true = omega arith
 bool_le false = omega arith
+
+-- ---- what is told
+
+-- one more block
+pub crc_more : (fs : List (List Bool)) (k n : ℕ) (bad : Bool) → bad ≡ errs fs (k + 8 * n) → crc_kinds (each_errs fs k n) ++ crc_kinds (bad ∷ []) ≡ crc_kinds (each_errs fs k (n + 1))
+crc_more fs k n bad is =
+    let f : ℕ → Bool = λ b. errs fs (k + 8 * b) in
+    let more : each_errs fs k (n + 1) ≡ each_errs fs k n ++ bad ∷ [] =
+    ap (λ m. map f (range_with_len 0 m)) (add-one n) ∙ ap (map f) (range_push 0 n) ∙ map-append f (range_with_len 0 n) ((0 + n) ∷ []) ∙ ap (λ b. map f (range_with_len 0 n) ++ b ∷ []) (ap f (omega arith) ∙ sym is) in
+    sym (flat_map-append (λ errored. cond errored (CRC ∷ []) []) (each_errs fs k n) (bad ∷ [])) ∙ ap crc_kinds (sym more)
+
+-- an odd frame of some from a frame on
+pub odd_bit : (bits : List Bool) (k pairs i place bit : ℕ) → 256 * k + 512 * pairs ≤ length bits → i < pairs → bit < 256 → 256 * (k + 2 * i + 1) + bit ≡ place
+    → bit_of (odd_frame (frames_from (frames_of bits) k (2 * pairs)) i) bit ≡ get_or bits place false
+odd_bit bits k pairs i place bit room lt few e =
+    let xs : List (List Bool) = drop k (frames_of bits) in
+    let place_is : k + (2 * i + 1) ≡ k + 2 * i + 1 = omega arith in
+    let at : odd_frame (frames_from (frames_of bits) k (2 * pairs)) i ≡ frame (frames_of bits) (k + 2 * i + 1) =
+    get_or-take (2 * pairs) xs (2 * i + 1) [] (omega arith) ∙ get_or-drop k (frames_of bits) (2 * i + 1) [] ∙ ap (frame (frames_of bits)) place_is in
+    ap (λ (x : List Bool). bit_of x bit) at ∙ bit_of_frame bits (k + 2 * i + 1) bit place few (omega arith) e
+
+-- what one more shows
+pub frames_more : (alarm : Bool) (fs : List (List Bool)) (i : ℕ) (was is tells : Bool) → was ≡ alarm_before alarm fs i → is ≡ has_alarm (odd_frame fs i) → tells ≡ tells_error fs i
+    → frames_kinds alarm fs 0 i ++ (changed ALARM_ON ALARM_OFF was is ++ cond tells (EBIT ∷ []) []) ≡ frames_kinds alarm fs 0 (i + 1)
+frames_more alarm fs i was is tells w_is i_is t_is =
+    let f : ℕ → List Kind = odd_kinds alarm fs in
+    let here : f i ≡ changed ALARM_ON ALARM_OFF was is ++ cond tells (EBIT ∷ []) [] =
+    odd_kinds_is alarm fs i ∙ ap (λ b. changed ALARM_ON ALARM_OFF b (has_alarm (odd_frame fs i)) ++ cond (tells_error fs i) (EBIT ∷ []) []) (sym w_is)
+    ∙ ap (λ b. changed ALARM_ON ALARM_OFF was b ++ cond (tells_error fs i) (EBIT ∷ []) []) (sym i_is)
+    ∙ ap (λ b. changed ALARM_ON ALARM_OFF was is ++ cond b (EBIT ∷ []) []) (sym t_is) in
+    sym (ap (λ m. flat_map f (range_with_len 0 m)) (add-one i) ∙ ap (flat_map f) (range_push 0 i) ∙ flat_map-append f (range_with_len 0 i) ((0 + i) ∷ [])
+    ∙ ap (λ x. flat_map f (range_with_len 0 i) ++ x) (flat_map-cons f (0 + i) [] ∙ append-nil (f (0 + i)) ∙ ap f (omega arith) ∙ here))

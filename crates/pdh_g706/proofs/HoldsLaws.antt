@@ -7,15 +7,25 @@ use Rattle.std.proofs.lemmas.List.Sums.{sum_by-append, sum_by-cons}
 use Rattle.std.proofs.lemmas.Grind.{flat_map-append}
 use Rattle.pdh_edge.specs.Ports.{IsPrefix}
 use Rattle.pdh_g706.specs.Frames.{is_found}
-use Rattle.pdh_g706.specs.Tracking.{Share, is_over, one_search, after_search, track, e1_far, multiframes_in, blocks_in, errors_in, counted}
-use Rattle.pdh_g706.specs.Machine.{Phase, Describes, Holds, Grows, nothing, turn}
+use Rattle.pdh_g706.specs.Tracking.{Signs, Share, is_over, one_search, after_search, track, e1_far, multiframes_in, blocks_in, errors_in, signs_in, counted}
+use Rattle.pdh_g706.specs.Machine.{Phase, Describes, Holds, Grows, no_signs, nothing, add_signs, turn}
 use Rattle.pdh_g706.specs.Machine.Phase.{Searching, Aligned, Framed}
-use Rattle.pdh_g706.proofs.GrowthLaws.{add}
+use Rattle.pdh_g706.proofs.GrowthLaws.{add, share_same}
+use Rattle.pdh_g706.proofs.SignLaws.{signs_same, add_signs_assoc}
 use Rattle.pdh_g706.proofs.SearchLaws.{short_search}
 use Rattle.pdh_g706.proofs.TrackLaws.{not_over, track_open, track_over-append}
-use Rattle.pdh_g706.proofs.TurnLaws.{turn_next, one_search_none, describes_short, add_nothing, share_same}
+use Rattle.pdh_g706.proofs.TurnLaws.{turn_next, one_search_none, describes_short, add_nothing}
 
 -- ---- totals
+
+abbrev totals_shown : List Share → Signs
+totals_shown shares = record {
+  alignments = sum_by (λ (s : Share). s.signs.alignments) shares;
+  losses = sum_by (λ (s : Share). s.signs.losses) shares;
+  false_alignments = sum_by (λ (s : Share). s.signs.false_alignments) shares;
+  verdicts = flat_map (λ (s : Share). s.signs.verdicts) shares;
+  frames = flat_map (λ (s : Share). s.signs.frames) shares;
+}
 
 abbrev totals : List Share → Share
 totals shares = record {
@@ -23,34 +33,46 @@ totals shares = record {
   multiframes = sum_by (λ (s : Share). s.multiframes) shares;
   blocks = sum_by (λ (s : Share). s.blocks) shares;
   errored = sum_by (λ (s : Share). s.errored) shares;
+  signs = totals_shown shares;
 }
 
 -- one more share
 total_more : (field : Share → ℕ) (xs : List Share) (s : Share) → sum_by field (xs ++ s ∷ []) ≡ sum_by field xs + field s
 total_more field xs s = sum_by-append field xs (s ∷ []) ∙ ap (λ n. sum_by field xs + n) (sum_by-cons field s [] ∙ omega arith)
 
+list_more : {X : Type 0} (field : Share → List X) (xs : List Share) (s : Share) → flat_map field (xs ++ s ∷ []) ≡ flat_map field xs ++ field s
+list_more field xs s = flat_map-append field xs (s ∷ []) ∙ ap (λ x. flat_map field xs ++ x) (append-nil (field s))
+
+shown_more : (xs : List Share) (s : Share) → totals_shown (xs ++ s ∷ []) ≡ add_signs (totals_shown xs) s.signs
+shown_more xs s =
+    signs_same _ _ _ _ _ _ (flat_map (λ (s : Share). s.signs.verdicts) (xs ++ s ∷ [])) (flat_map (λ (s : Share). s.signs.verdicts) xs ++ s.signs.verdicts)
+    (flat_map (λ (s : Share). s.signs.frames) (xs ++ s ∷ [])) (flat_map (λ (s : Share). s.signs.frames) xs ++ s.signs.frames)
+    (total_more (λ (s : Share). s.signs.alignments) xs s) (total_more (λ (s : Share). s.signs.losses) xs s) (total_more (λ (s : Share). s.signs.false_alignments) xs s)
+    (list_more (λ (s : Share). s.signs.verdicts) xs s) (list_more (λ (s : Share). s.signs.frames) xs s)
+
 totals_more : (xs : List Share) (s : Share) → totals (xs ++ s ∷ []) ≡ add (totals xs) s
 totals_more xs s =
-    share_same (flat_map (λ (s : Share). s.payload) (xs ++ s ∷ [])) (flat_map (λ (s : Share). s.payload) xs ++ s.payload) _ _ _ _ _ _
-    (flat_map-append (λ (s : Share). s.payload) xs (s ∷ []) ∙ ap (λ (x : List Bool). flat_map (λ (s : Share). s.payload) xs ++ x) (append-nil s.payload))
-    (total_more (λ (s : Share). s.multiframes) xs s) (total_more (λ (s : Share). s.blocks) xs s) (total_more (λ (s : Share). s.errored) xs s)
+    share_same (flat_map (λ (s : Share). s.payload) (xs ++ s ∷ [])) (flat_map (λ (s : Share). s.payload) xs ++ s.payload) _ _ _ _ _ _ (totals_shown (xs ++ s ∷ [])) (add_signs (totals_shown xs) s.signs)
+    (list_more (λ (s : Share). s.payload) xs s)
+    (total_more (λ (s : Share). s.multiframes) xs s) (total_more (λ (s : Share). s.blocks) xs s) (total_more (λ (s : Share). s.errored) xs s) (shown_more xs s)
 
 add_assoc : (a b c : Share) → add (add a b) c ≡ add a (add b c)
 add_assoc a b c =
-    share_same ((a.payload ++ b.payload) ++ c.payload) (a.payload ++ (b.payload ++ c.payload)) _ _ _ _ _ _ (append_assoc a.payload b.payload c.payload)
-    (sums a.multiframes b.multiframes c.multiframes) (sums a.blocks b.blocks c.blocks) (sums a.errored b.errored c.errored)
+    share_same ((a.payload ++ b.payload) ++ c.payload) (a.payload ++ (b.payload ++ c.payload)) _ _ _ _ _ _ (add_signs (add_signs a.signs b.signs) c.signs) (add_signs a.signs (add_signs b.signs c.signs)) (append_assoc a.payload b.payload c.payload)
+    (sums a.multiframes b.multiframes c.multiframes) (sums a.blocks b.blocks c.blocks) (sums a.errored b.errored c.errored) (add_signs_assoc a.signs b.signs c.signs)
   where
     sums : (x y z : ℕ) → x + y + z ≡ x + (y + z)
     sums x y z = omega arith
 
 -- shares that grow by what was gained
 grows_from : (before after : List Bool) (g : Share) → totals (track after) ≡ add (totals (track before)) g → Grows g before after
-unfolding e1_far multiframes_in blocks_in errors_in
+unfolding e1_far multiframes_in blocks_in errors_in signs_in
 grows_from before after g e = record {
   payload_is = ap (λ (s : Share). s.payload) e;
   multiframes_are = ap (λ (s : Share). s.multiframes) e;
   blocks_are = ap (λ (s : Share). s.blocks) e;
   errored_are = ap (λ (s : Share). s.errored) e;
+  signs_are = ap (λ (s : Share). s.signs) e;
 }
 
 -- ---- the settled searches and the last one
@@ -124,6 +146,13 @@ empty_counts =
       sym (ap (λ (x : List Share). counted (sum_by (λ (s : Share). s.blocks) x)) none),
       sym (ap (λ (x : List Share). counted (sum_by (λ (s : Share). s.errored) x)) none),
     )
+
+-- nothing is shown by no bits
+pub empty_signs : signs_in [] ≡ no_signs
+unfolding signs_in
+empty_signs =
+    let none : track [] ≡ nothing ∷ [] = track_open [] (not_over [] (short_search [] (omega arith))) ∙ ap (λ (x : Share). x ∷ []) (one_search_none [] (short_search [] (omega arith))) in
+    ap totals_shown none
 
 -- ---- what a longer line gives begins with what the shorter one gave
 

@@ -2,9 +2,11 @@ pub mod FrameLists
 pub mod SearchLaws
 pub mod FirstLaws
 pub mod AlignmentLaws
+pub mod SignLaws
 pub mod GrowthLaws
 pub mod TrackLaws
 pub mod TurnLaws
 pub mod HoldsLaws
+pub mod EventLaws
 pub mod HeldLaws
 pub mod AlignSteps

@@ -7,7 +7,7 @@ use Rattle.pdh_g706.specs.Alignment.{loses, end_of, is_ended, up_to_end, kept, r
 use Rattle.pdh_g706.specs.Tracking.{Share, share_of, found_frames, is_over, one_search, after_search, track_within, track}
 use Rattle.pdh_g706.proofs.FrameLists.{length_frames, frames_grow}
 use Rattle.pdh_g706.proofs.SearchLaws.{is_found-append, aligned-append, aligned_long, aligned_le}
-use Rattle.pdh_g706.proofs.AlignmentLaws.{is_ended-append, kept-append, resumes-append, resumes_is, loses_short}
+use Rattle.pdh_g706.proofs.AlignmentLaws.{is_ended-append, up_to_end-append, kept-append, resumes-append, resumes_is, loses_short}
 
 pub found_frames_is : (l : List Bool) → is_found l ≡ true → found_frames l ≡ frames_of (aligned l)
 unfolding found_frames
@@ -17,7 +17,7 @@ pub found_frames_none : (l : List Bool) → is_found l ≡ false → found_frame
 unfolding found_frames
 found_frames_none l found = rw found refl
 
-pub one_search_is : (l : List Bool) → one_search l ≡ share_of (kept (found_frames l))
+pub one_search_is : (l : List Bool) → one_search l ≡ share_of (loses (up_to_end (found_frames l))) (kept (found_frames l))
 unfolding one_search
 one_search_is l = refl
 
@@ -51,7 +51,9 @@ is_over-append l m over =
 pub one_search-append : (l m : List Bool) → is_over l ≡ true → one_search (l ++ m) ≡ one_search l
 one_search-append l m over =
     let more = found_frames-append l m (over_found l over) in
-    one_search_is (l ++ m) ∙ ap (λ (x : List (List Bool)). share_of (kept x)) more.1 ∙ ap share_of (kept-append (found_frames l) more.0 over) ∙ sym (one_search_is l)
+    one_search_is (l ++ m) ∙ ap (λ (x : List (List Bool)). share_of (loses (up_to_end x)) (kept x)) more.1
+    ∙ ap (λ (x : List (List Bool)). share_of (loses x) (kept (found_frames l ++ more.0))) (up_to_end-append (found_frames l) more.0 over)
+    ∙ ap (share_of (loses (up_to_end (found_frames l)))) (kept-append (found_frames l) more.0 over) ∙ sym (one_search_is l)
 
 -- where the next search begins
 pub record Resumes (l : List Bool) : Type 0 where

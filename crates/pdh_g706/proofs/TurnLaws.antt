@@ -10,14 +10,15 @@ use Rattle.std.proofs.lemmas.List.Sums.{count_by-le-length}
 use Rattle.pdh_line.proofs.Ranges.{length-range, count-range_same}
 use Rattle.pdh_line.proofs.LeastLaws.{least_below_none}
 use Rattle.pdh_g706.specs.Frames.{frame_of, frames_of, is_confirmed, positions, is_found, aligned}
-use Rattle.pdh_g706.specs.Alignment.{loses, earlier, reaches, is_reached, begin, framed, multiframes, errs, is_errored, judged, errored_in, is_false, ends, is_ended, kept, resumes}
+use Rattle.pdh_g706.specs.Alignment.{loses, earlier, reaches, is_reached, begin, framed, multiframes, errs, is_errored, judged, errored_in, is_false, ends, is_ended, up_to_end, kept, resumes}
 use Rattle.pdh_g706.specs.Tracking.{Share, share_of, found_frames, is_over, one_search, after_search}
-use Rattle.pdh_g706.specs.Machine.{Phase, Fits, last_begin, IsSearching, IsAligned, InGroup, Describes, Turn, nothing, still, last_bits, payload_from, errs_in, search_turn, framing_turn, aligned_turn, group_phase, block_turn, framed_turn, unless_lost, turn}
+use Rattle.pdh_g706.specs.Machine.{Phase, Fits, last_begin, IsSearching, IsAligned, InGroup, Describes, Turn, no_signs, nothing, loss_after, add_signs, still, last_bits, lost_turn, payload_from, frames_from, errs_in, each_errs, is_false_group, search_turn, framing_turn, aligned_turn, group_phase, block_turn, framed_turn, unless_lost, turn}
 use Rattle.pdh_g706.specs.Machine.Phase.{Searching, Aligned, Framed}
 use Rattle.pdh_g706.proofs.FrameLists.{length_frames, frames_part, frames_whole, frames-drop}
 use Rattle.pdh_g706.proofs.SearchLaws.{is_found-append, aligned-append, short_search, search_short, search_long, search_confirmed, search_rejected}
-use Rattle.pdh_g706.proofs.AlignmentLaws.{second_of, reach_is, reach_yes, reach_no, end_of_is, ends_is, loses_short, kept_open, end_no, end_lost, end_other}
-use Rattle.pdh_g706.proofs.GrowthLaws.{add, judged_is, multiframes_is, is_errored_is, last_begin_is, share_none, share_framing, window, share_part, block_gain, block_of, share_block, errored_in-append, is_false_part, is_false_none, group_next, loses-drop}
+use Rattle.pdh_g706.proofs.AlignmentLaws.{second_of, reach_is, reach_yes, reach_no, end_of_is, ends_is, loses_short, open_loses, open_true, end_by_loss, lost_ends, kept_open, end_no, end_lost, end_other}
+use Rattle.pdh_g706.proofs.GrowthLaws.{add, share_same, share_lost, judged_is, multiframes_is, is_errored_is, last_begin_is, share_none, share_framing, window, share_part, block_gain, block_of, share_block, errored_in-append, is_false_part, is_false_none, group_next, loses-drop}
+use Rattle.pdh_g706.proofs.SignLaws.{add_no_signs, no_signs_add}
 use Rattle.pdh_g706.proofs.TrackLaws.{found_frames_is, found_frames_none, one_search_is, after_search_is, not_over}
 
 -- the search goes on, and the machine describes it
@@ -66,11 +67,12 @@ few_open fs h =
 -- a search that found nothing gives nothing
 pub one_search_none : (l : List Bool) → is_found l ≡ false → one_search l ≡ nothing
 one_search_none l found =
-    one_search_is l ∙ ap (λ (x : List (List Bool)). share_of (kept x)) (found_frames_none l found) ∙ ap share_of (kept_open [] (few_open [] (omega arith))) ∙ share_none [] (few_unreached [] (omega arith))
+    one_search_is l ∙ ap (λ (x : List (List Bool)). share_of (loses (up_to_end x)) (kept x)) (found_frames_none l found)
+    ∙ ap (share_of (loses (up_to_end []))) (kept_open [] (few_open [] (omega arith))) ∙ share_none (loses (up_to_end [])) [] (few_unreached [] (omega arith))
 
 -- one that goes on gives the share of all its frames
-one_search_open : (l : List Bool) → is_over l ≡ false → one_search l ≡ share_of (found_frames l)
-one_search_open l h = one_search_is l ∙ ap share_of (kept_open (found_frames l) h)
+one_search_open : (l : List Bool) → is_over l ≡ false → one_search l ≡ share_of false (found_frames l)
+one_search_open l h = one_search_is l ∙ ap (λ b. share_of b (kept (found_frames l))) (open_loses (found_frames l) h) ∙ ap (share_of false) (kept_open (found_frames l) h)
 
 -- bits that are too few for a position
 pub describes_short : (l : List Bool) → length l < 768 → IsSearching l l
@@ -115,7 +117,7 @@ confirms since held bit h long right =
     record {
       fits = omega arith;
       way = inl (on, (record { found = facts.0; kept_on = on; reached_is = unreached }, sym now));
-      grows = one_search_open (since ++ bit ∷ []) on ∙ share_none (found_frames (since ++ bit ∷ [])) unreached ∙ sym (ap (λ (x : Share). add x nothing) (one_search_none since h.found));
+      grows = one_search_open (since ++ bit ∷ []) on ∙ share_none false (found_frames (since ++ bit ∷ [])) unreached ∙ sym (ap (λ (x : Share). add x nothing) (one_search_none since h.found));
     }
 
 search_next : (since held : List Bool) (bit : Bool) → IsSearching held since → Next since bit (search_turn (held ++ bit ∷ []))
@@ -162,19 +164,15 @@ whole_push since bit found whole =
 
 -- ---- shares that gain nothing, or all
 
-abbrev pub record_of : List Bool → ℕ → ℕ → ℕ → Share
-record_of p a b c = record { payload = p; multiframes = a; blocks = b; errored = c }
-
-pub share_same : (p q : List Bool) (a b c d e f : ℕ) → p ≡ q → a ≡ b → c ≡ d → e ≡ f
-    → record_of p a c e ≡ record_of q b d f
-share_same p q a b c d e f g h i j =
-    ap (λ (x : List Bool). record_of x a c e) g ∙ ap (λ n. record_of q n c e) h ∙ ap (λ n. record_of q b n e) i ∙ ap (record_of q b d) j
-
 pub add_nothing : (s : Share) → add s nothing ≡ s
-add_nothing s = share_same (s.payload ++ []) s.payload (s.multiframes + 0) s.multiframes (s.blocks + 0) s.blocks (s.errored + 0) s.errored (append-nil s.payload) (omega arith) (omega arith) (omega arith)
+add_nothing s =
+    share_same (s.payload ++ []) s.payload (s.multiframes + 0) s.multiframes (s.blocks + 0) s.blocks (s.errored + 0) s.errored (add_signs s.signs no_signs) s.signs
+    (append-nil s.payload) (omega arith) (omega arith) (omega arith) (add_no_signs s.signs)
 
 nothing_add : (s : Share) → add nothing s ≡ s
-nothing_add s = share_same s.payload s.payload (0 + s.multiframes) s.multiframes (0 + s.blocks) s.blocks (0 + s.errored) s.errored refl (omega arith) (omega arith) (omega arith)
+nothing_add s =
+    share_same s.payload s.payload (0 + s.multiframes) s.multiframes (0 + s.blocks) s.blocks (0 + s.errored) s.errored (add_signs no_signs s.signs) s.signs
+    refl (omega arith) (omega arith) (omega arith) (no_signs_add s.signs)
 
 -- ---- the ways of a frame that ends
 
@@ -200,39 +198,48 @@ next_search since now bit o n w over place few is room gained =
 
 -- basic alignment is lost
 lost_next : (since now : List Bool) (bit : Bool) (o : ℕ) (reached : Bool) → IsAligned reached since → (w : Whole since bit) → loses (found_frames (since ++ bit ∷ [])) ≡ true
-    → now ≡ drop o (aligned since ++ bit ∷ []) → o + 256 ≤ length (aligned since ++ bit ∷ []) → Next since bit (still (Searching (last_bits 256 now)))
+    → now ≡ drop o (aligned since ++ bit ∷ []) → o + 256 ≤ length (aligned since ++ bit ∷ []) → Next since bit (lost_turn reached now)
 lost_next since now bit o reached h w lost is room =
     let fs : List (List Bool) = found_frames since in
-    let facts = end_lost fs w.newest h.kept_on (ap loses (sym w.frames) ∙ lost) in
+    let g : List (List Bool) = fs ++ w.newest ∷ [] in
+    let lost' : loses g ≡ true = ap loses (sym w.frames) ∙ lost in
+    let facts = end_lost fs w.newest h.kept_on lost' in
+    let by_loss : loses (up_to_end g) ≡ true = end_by_loss fs w.newest true h.kept_on (lost_ends g lost') lost' in
     let over : is_over (since ++ bit ∷ []) ≡ true = ap is_ended w.frames ∙ facts.0 in
     let place : resumes (found_frames (since ++ bit ∷ [])) ≡ 256 * length fs = ap resumes w.frames ∙ facts.2 in
-    let next = next_search since now bit o 256 w over (omega (arith, w.long)) (omega arith) is room nothing in
+    let next = next_search since now bit o 256 w over (omega (arith, w.long)) (omega arith) is room (loss_after reached) in
     record {
       fits = next.1;
       way = inr next.0;
-      grows = one_search_is (since ++ bit ∷ []) ∙ ap (λ (x : List (List Bool)). share_of (kept x)) w.frames ∙ ap share_of facts.1 ∙ sym (add_nothing (share_of fs)) ∙ ap (λ (x : Share). add x nothing) (sym (one_search_open since h.kept_on));
+      grows = one_search_is (since ++ bit ∷ []) ∙ ap (λ (x : List (List Bool)). share_of (loses (up_to_end x)) (kept x)) w.frames ∙ ap (λ b. share_of b (kept g)) by_loss
+          ∙ ap (share_of true) facts.1 ∙ share_lost fs reached h.reached_is ∙ ap (λ (x : Share). add x (loss_after reached)) (sym (one_search_open since h.kept_on));
     }
 
 -- the alignment ends otherwise
 other_next : (since now : List Bool) (bit : Bool) (o : ℕ) (reached : Bool) (gained : Share) → IsAligned reached since → (w : Whole since bit)
-    → loses (found_frames (since ++ bit ∷ [])) ≡ false → ends (found_frames (since ++ bit ∷ [])) ≡ true → share_of (found_frames (since ++ bit ∷ [])) ≡ add (share_of (found_frames since)) gained
+    → loses (found_frames (since ++ bit ∷ [])) ≡ false → ends (found_frames (since ++ bit ∷ [])) ≡ true → share_of false (found_frames (since ++ bit ∷ [])) ≡ add (share_of false (found_frames since)) gained
     → now ≡ drop o (aligned since ++ bit ∷ []) → o + 255 ≤ length (aligned since ++ bit ∷ []) → Next since bit (record { phase = Searching (last_bits 255 now); gained = gained })
 other_next since now bit o reached gained h w fine passes grown is room =
     let fs : List (List Bool) = found_frames since in
-    let facts = end_other fs w.newest h.kept_on (ap loses (sym w.frames) ∙ fine) (ap ends (sym w.frames) ∙ passes) in
+    let g : List (List Bool) = fs ++ w.newest ∷ [] in
+    let fine' : loses g ≡ false = ap loses (sym w.frames) ∙ fine in
+    let passes' : ends g ≡ true = ap ends (sym w.frames) ∙ passes in
+    let facts = end_other fs w.newest h.kept_on fine' passes' in
+    let no_loss : loses (up_to_end g) ≡ false = end_by_loss fs w.newest false h.kept_on passes' fine' in
     let over : is_over (since ++ bit ∷ []) ≡ true = ap is_ended w.frames ∙ facts.0 in
     let place : resumes (found_frames (since ++ bit ∷ [])) ≡ 256 * length fs + 1 = ap resumes w.frames ∙ facts.2 in
     let next = next_search since now bit o 255 w over (omega (arith, w.long)) (omega arith) is room gained in
     record {
       fits = next.1;
       way = inr next.0;
-      grows = one_search_is (since ++ bit ∷ []) ∙ ap (λ (x : List (List Bool)). share_of (kept x)) w.frames ∙ ap share_of (facts.1 ∙ sym w.frames) ∙ grown
+      grows = one_search_is (since ++ bit ∷ []) ∙ ap (λ (x : List (List Bool)). share_of (loses (up_to_end x)) (kept x)) w.frames ∙ ap (λ b. share_of b (kept g)) no_loss
+          ∙ ap (share_of false) (facts.1 ∙ sym w.frames) ∙ grown
           ∙ ap (λ (x : Share). add x gained) (sym (one_search_open since h.kept_on));
     }
 
 -- the alignment goes on
 goes_next : (since : List Bool) (bit : Bool) (reached : Bool) (t : Turn) → IsAligned reached since → (w : Whole since bit) → ends (found_frames (since ++ bit ∷ [])) ≡ false
-    → share_of (found_frames (since ++ bit ∷ [])) ≡ add (share_of (found_frames since)) t.gained → Fits t.phase → (is_over (since ++ bit ∷ []) ≡ false → Describes t.phase (since ++ bit ∷ [])) → Next since bit t
+    → share_of false (found_frames (since ++ bit ∷ [])) ≡ add (share_of false (found_frames since)) t.gained → Fits t.phase → (is_over (since ++ bit ∷ []) ≡ false → Describes t.phase (since ++ bit ∷ [])) → Next since bit t
 goes_next since bit reached t h w fails grown fits describes =
     let fs : List (List Bool) = found_frames since in
     let on : is_over (since ++ bit ∷ []) ≡ false = ap is_ended w.frames ∙ end_no fs w.newest h.kept_on (ap ends (sym w.frames) ∙ fails) in
@@ -254,7 +261,13 @@ framing bits frames k =
     let wrong = errs_in frames k blocks in
     record {
       phase = Framed (drop (256 * (k + 16 * (whole - 1))) bits) blocks wrong;
-      gained = record { payload = payload_from frames k (16 * whole); multiframes = whole; blocks = blocks; errored = wrong };
+      gained = record {
+        payload = payload_from frames k (16 * whole);
+        multiframes = whole;
+        blocks = blocks;
+        errored = wrong;
+        signs = record { alignments = 1; losses = 0; false_alignments = 0; verdicts = each_errs frames k blocks; frames = frames_from frames k (16 * whole) };
+      };
     }
 
 pub framing_turn_is : (bits : List Bool) (fs : List (List Bool)) (k : ℕ) → frames_of bits ≡ fs → framing_turn bits k ≡ framing bits fs k
@@ -295,9 +308,9 @@ frames_next since bit h w fine right =
     let wholes : multiframes fs' ≡ whole = multiframes_is fs' reached ∙ ap (λ i. (n - i) / 16) b in
     let part : framed fs' % 8 ≢ 0 = λ e. size.part (ap (λ i. (n - i) % 8) (sym b) ∙ e) in
     let fails : ends fs' ≡ false = ends_is fs' ∙ or_from _ _ (or_from _ _ fine (and_right _ _ (not_from_true _ reached))) (is_false_part fs' part) in
-    let grown : share_of fs' ≡ add (share_of fs) (framing bits fs' k).gained =
-    share_framing fs' k whole blocks reached b refl refl
-    ∙ sym (nothing_add (framing bits fs' k).gained) ∙ ap (λ (x : Share). add x (framing bits fs' k).gained) (sym (share_none fs h.reached_is)) in
+    let grown : share_of false fs' ≡ add (share_of false fs) (framing bits fs' k).gained =
+    share_framing fs' k whole blocks reached (is_false_part fs' part) b refl refl
+    ∙ sym (nothing_add (framing bits fs' k).gained) ∙ ap (λ (x : Share). add x (framing bits fs' k).gained) (sym (share_none false fs h.reached_is)) in
     let long : length bits ≡ 256 * n = omega (arith, w.long, ap length w.frames, length_push fs w.newest) in
     let held : length (drop (256 * (k + 16 * (whole - 1))) bits) ≡ 7168 = omega (arith, length-drop (256 * (k + 16 * (whole - 1))) bits, size.held) in
     let start : last_begin fs' ≡ k + 16 * (whole - 1) = last_begin_is fs' ∙ ap (λ i. i + 16 * (multiframes fs' - 1)) b ∙ ap (λ i. k + 16 * (i - 1)) wholes in
@@ -321,7 +334,7 @@ gives_up since bit h w fine wrong last =
     let fs' : List (List Bool) = found_frames (since ++ bit ∷ []) in
     let unreached : is_reached fs' ≡ false = ap is_reached w.frames ∙ reach_no fs w.newest h.reached_is (ap reaches (sym w.frames) ∙ wrong) in
     let passes : ends fs' ≡ true = ends_is fs' ∙ or_left _ _ (or_right _ _ (and_from _ _ (eq-eqb _ _ last) (not_from_false _ unreached))) in
-    let grown : share_of fs' ≡ add (share_of fs) nothing = share_none fs' unreached ∙ sym (share_none fs h.reached_is) ∙ sym (add_nothing (share_of fs)) in
+    let grown : share_of false fs' ≡ add (share_of false fs) nothing = share_none false fs' unreached ∙ sym (share_none false fs h.reached_is) ∙ sym (add_nothing (share_of false fs)) in
     other_next since (aligned since ++ bit ∷ []) bit 0 false nothing h w fine passes grown refl (omega (arith, w.long))
 
 -- or another frame does
@@ -333,7 +346,7 @@ goes_on since bit h w fine wrong more short =
     let fs' : List (List Bool) = found_frames (since ++ bit ∷ []) in
     let unreached : is_reached fs' ≡ false = ap is_reached w.frames ∙ reach_no fs w.newest h.reached_is (ap reaches (sym w.frames) ∙ wrong) in
     let fails : ends fs' ≡ false = ends_is fs' ∙ or_from _ _ (or_from _ _ fine (and_left _ _ (ne_eqb _ _ more))) (is_false_none fs' unreached) in
-    let grown : share_of fs' ≡ add (share_of fs) nothing = share_none fs' unreached ∙ sym (share_none fs h.reached_is) ∙ sym (add_nothing (share_of fs)) in
+    let grown : share_of false fs' ≡ add (share_of false fs) nothing = share_none false fs' unreached ∙ sym (share_none false fs h.reached_is) ∙ sym (add_nothing (share_of false fs)) in
     let count : length fs' ≡ length fs + 1 = ap length w.frames ∙ length_push fs w.newest in
     let other : length bits ≢ 16384 = λ e. more (omega (arith, w.long)) in
     let longer : length bits ≡ length (aligned since) + 1 = length_push (aligned since) bit in
@@ -374,7 +387,7 @@ aligned_part since bit h short part =
     record {
       fits = omega arith;
       way = inl (on, (record { found = is_found-append since (bit ∷ []) h.found; kept_on = on; reached_is = ap is_reached same ∙ h.reached_is }, sym (aligned-append since (bit ∷ []) h.found)));
-      grows = one_search_open (since ++ bit ∷ []) on ∙ ap share_of same ∙ sym (one_search_open since h.kept_on) ∙ sym (add_nothing (one_search since));
+      grows = one_search_open (since ++ bit ∷ []) on ∙ ap (share_of false) same ∙ sym (one_search_open since h.kept_on) ∙ sym (add_nothing (one_search since));
     }
 
 aligned_next : (since held : List Bool) (bit : Bool) → Describes (Aligned held) since → Fits (Aligned held) → Next since bit (turn (Aligned held) bit)
@@ -410,7 +423,7 @@ aligned_next since held bit d fits =
     short = subst (λ (x : List Bool). length x < 16384) d.1 fits
 
     way : List Bool → Turn
-    way x = cond (length x % 256 == 0) (unless_lost x (aligned_turn x)) (still (Aligned x))
+    way x = cond (length x % 256 == 0) (unless_lost false x (aligned_turn x)) (still (Aligned x))
 
 -- ---- an alignment whose multiframes are found
 
@@ -442,7 +455,8 @@ frame_only since bit bits group wrong h w fine is in_group few no_more part =
     let j : judged g ≡ judged fs = omega arith in
     let fails : ends (found_frames (since ++ bit ∷ [])) ≡ false =
     ends_is (found_frames (since ++ bit ∷ [])) ∙ or_from _ _ (or_from _ _ fine (and_right _ _ (not_from_true _ (ap is_reached w.frames ∙ facts.reached)))) (ap is_false w.frames ∙ is_false_part g odd) in
-    let grown : share_of (found_frames (since ++ bit ∷ [])) ≡ add (share_of fs) nothing = ap share_of w.frames ∙ share_part fs w.newest h.reached_is part ∙ sym (add_nothing (share_of fs)) in
+    let grown : share_of false (found_frames (since ++ bit ∷ [])) ≡ add (share_of false fs) nothing =
+    ap (share_of false) w.frames ∙ share_part fs w.newest h.reached_is (open_true fs h.kept_on (omega arith)) part ∙ sym (add_nothing (share_of false fs)) in
     let start' : last_begin g ≡ last_begin fs = last_begin_is g ∙ ap (λ b. b + 16 * (multiframes g - 1)) facts.begin_same ∙ ap (λ n. begin fs + 16 * (n - 1)) m ∙ sym (last_begin_is fs) in
     let group_is : group ≡ judged fs % 1000 = in_group.group_is in
     let held : length bits ≡ length (aligned since ++ bit ∷ []) - 256 * last_begin fs = ap length is ∙ length-drop (256 * last_begin fs) (aligned since ++ bit ∷ []) in
@@ -493,7 +507,7 @@ rest_of since bit bits h w is ended =
 abbrev pub block_way : List Bool → List (List Bool) → ℕ → ℕ → Turn
 block_way bits w group wrong = record {
   phase = group_phase bits (cond (length w == 32) (drop 4096 bits) bits) (group + 1) (wrong + bit_value (errs w (length w - 16)));
-  gained = block_gain w;
+  gained = block_gain w (is_false_group (group + 1) (wrong + bit_value (errs w (length w - 16))));
 }
 
 block_next : (since : List Bool) (bit : Bool) (bits : List Bool) (group wrong : ℕ) → IsAligned true since → (w : Whole since bit) → loses (found_frames (since ++ bit ∷ [])) ≡ false
@@ -509,8 +523,10 @@ block_next since bit bits group wrong h w fine is in_group few no_more ended =
     let kept_bits : List Bool = cond (length v == 32) (drop 4096 bits) bits in
     let errors : ℕ = wrong + bit_value (errs v (length v - 16)) in
     let next = group_next fs w.newest group wrong h.reached_is ended in_group in
-    let grown : share_of (found_frames (since ++ bit ∷ [])) ≡ add (share_of fs) (block_gain v) = ap share_of w.frames ∙ share_block fs w.newest h.reached_is ended in
     let is_false' : is_false (found_frames (since ++ bit ∷ [])) ≡ ((group + 1 == 1000) && nat_le 915 errors) = ap is_false w.frames ∙ next.false_is in
+    let least : begin fs + 28 ≤ length fs = facts.least in
+    let grown : (over : Bool) → is_false (found_frames (since ++ bit ∷ [])) ≡ over → share_of false (found_frames (since ++ bit ∷ [])) ≡ add (share_of false fs) (block_gain v over) = λ over now.
+    ap (share_of false) w.frames ∙ share_block fs w.newest over h.reached_is (open_true fs h.kept_on (omega arith)) (sym (ap is_false w.frames) ∙ now) ended in
     let reached' : not (is_reached (found_frames (since ++ bit ∷ []))) ≡ false = not_from_true _ (ap is_reached w.frames ∙ facts.reached) in
     let ends' : ends (found_frames (since ++ bit ∷ [])) ≡ is_false (found_frames (since ++ bit ∷ [])) =
     ends_is (found_frames (since ++ bit ∷ [])) ∙ ap (λ b. b || is_false (found_frames (since ++ bit ∷ []))) (or_from _ _ fine (and_right _ _ reached')) in
@@ -520,22 +536,21 @@ block_next since bit bits group wrong h w fine is in_group few no_more ended =
         | inl bad ↦
             let start : last_begin fs ≡ begin fs + 16 * (multiframes fs - 1) = facts.start in
             let whole : multiframes fs ≡ (length fs - begin fs) / 16 = facts.whole in
-            let least : begin fs + 28 ≤ length fs = facts.least in
-            let t : Turn = record { phase = Searching (last_bits 255 bits); gained = block_gain v } in
-            let it : Next since bit t = other_next since bits bit (256 * last_begin fs) true (block_gain v) h w fine (ends' ∙ is_false' ∙ and_from _ _ full bad) grown is (omega (arith, w.long)) in
+            let t : Turn = record { phase = Searching (last_bits 255 bits); gained = block_gain v true } in
+            let it : Next since bit t = other_next since bits bit (256 * last_begin fs) true (block_gain v true) h w fine (ends' ∙ is_false' ∙ and_from _ _ full bad) (grown true (is_false' ∙ and_from _ _ full bad)) is (omega (arith, w.long)) in
             rw (full, bad) it
         | inr good ↦
             let fails : ends (found_frames (since ++ bit ∷ [])) ≡ false = ends' ∙ is_false' ∙ and_right _ _ good in
-            let t : Turn = record { phase = Framed kept_bits 0 0; gained = block_gain v } in
-            let it : Next since bit t = goes_next since bit true t h w fails grown (rest.least, rest.most, omega arith, omega arith)
+            let t : Turn = record { phase = Framed kept_bits 0 0; gained = block_gain v false } in
+            let it : Next since bit t = goes_next since bit true t h w fails (grown false (is_false' ∙ and_right _ _ good)) (rest.least, rest.most, omega arith, omega arith)
             (λ on. framed_describes since bit kept_bits 0 0 w on facts.reached rest.rest_is (next.begins (eqb-true _ _ full))) in
             rw (full, good) it
       ]
       | inr part ↦
           let fails : ends (found_frames (since ++ bit ∷ [])) ≡ false = ends' ∙ is_false' ∙ and_left _ _ part in
           let other : group + 1 ≢ 1000 = eqb-false _ _ part in
-          let t : Turn = record { phase = Framed kept_bits (group + 1) errors; gained = block_gain v } in
-          let it : Next since bit t = goes_next since bit true t h w fails grown (rest.least, rest.most, omega arith, omega arith)
+          let t : Turn = record { phase = Framed kept_bits (group + 1) errors; gained = block_gain v false } in
+          let it : Next since bit t = goes_next since bit true t h w fails (grown false (is_false' ∙ and_left _ _ part)) (rest.least, rest.most, omega arith, omega arith)
           (λ on. framed_describes since bit kept_bits (group + 1) errors w on facts.reached rest.rest_is (next.goes_on other)) in
           rw part it
     ]
@@ -587,7 +602,7 @@ framed_part since bit bits group wrong h is in_group fits part =
           subst (InGroup group wrong) (sym same) in_group,
         ),
       );
-      grows = one_search_open (since ++ bit ∷ []) on ∙ ap share_of same ∙ sym (one_search_open since h.kept_on) ∙ sym (add_nothing (one_search since));
+      grows = one_search_open (since ++ bit ∷ []) on ∙ ap (share_of false) same ∙ sym (one_search_open since h.kept_on) ∙ sym (add_nothing (one_search since));
     }
 
 framed_next : (since held : List Bool) (bit : Bool) (group wrong : ℕ) → Describes (Framed held group wrong) since → Fits (Framed held group wrong) → Next since bit (turn (Framed held group wrong) bit)

@@ -1,10 +1,13 @@
 -- What an alignment machine holds, what it stands for, and what one more bit does to it.
-use Rattle.std.specs.Prelude.{◌≡◌, ◌<◌, ◌≤◌, ℕ, ◌+◌, ◌-◌, ◌*◌, ◌/◌, ◌%◌, Bool, true, false, nat_lt, nat_le, ◌==◌, if◌then◌else◌, List, [], ◌∷◌, ◌++◌, length, take, drop, flat_map, count_by}
+use Rattle.std.specs.Prelude.{◌≡◌, ◌<◌, ◌≤◌, ℕ, ◌+◌, ◌-◌, ◌*◌, ◌/◌, ◌%◌, Bool, true, false, nat_lt, nat_le, ◌==◌, if◌then◌else◌, List, [], ◌∷◌, ◌++◌, ◌&&◌, length, map, take, drop, flat_map, count_by}
 use Rattle.std.specs.List.{range_with_len}
 use Rattle.pdh_bits.specs.Bits.{bit_value}
 use Rattle.pdh_g706.specs.Frames.{frames_of, is_confirmed, positions, is_found, aligned}
 use Rattle.pdh_g706.specs.Alignment.{loses, earlier, reaches, is_reached, begin, multiframes, errs, judged, errored_in}
-use Rattle.pdh_g706.specs.Tracking.{Share, found_frames, is_over, track, e1_far, multiframes_in, blocks_in, errors_in}
+use Rattle.pdh_g706.specs.Tracking.{Signs, Share, found_frames, is_over, track, e1_far, multiframes_in, blocks_in, errors_in, signs_in}
+use Rattle.pdh_g706.specs.Events.{rise, crc_kinds, frames_kinds}
+use Rattle.pdh_watch.specs.declared.kind.Kind.{Kind}
+use Rattle.pdh_watch.specs.declared.kind.TheConstants.Kind.{ALIGNED, LOST}
 
 -- what it holds
 pub data Phase : Type 0 where
@@ -65,8 +68,15 @@ pub record Turn : Type 0 where
   pub phase : Phase
   pub gained : Share
 
+abbrev pub no_signs : Signs
+no_signs = record { alignments = 0; losses = 0; false_alignments = 0; verdicts = []; frames = [] }
+
 abbrev pub nothing : Share
-nothing = record { payload = []; multiframes = 0; blocks = 0; errored = 0 }
+nothing = record { payload = []; multiframes = 0; blocks = 0; errored = 0; signs = no_signs }
+
+-- that basic alignment is lost, where multiframe alignment was reached
+abbrev pub loss_after : Bool → Share
+loss_after reached = record nothing { signs = record no_signs { losses = bit_value reached } }
 
 abbrev pub still : Phase → Turn
 still phase = record { phase = phase; gained = nothing }
@@ -75,16 +85,36 @@ still phase = record { phase = phase; gained = nothing }
 abbrev pub last_bits : ℕ → List Bool → List Bool
 last_bits n bits = drop (length bits - n) bits
 
+-- signs with what was shown in addition
+abbrev pub add_signs : Signs → Signs → Signs
+add_signs s g = record {
+  alignments = s.alignments + g.alignments;
+  losses = s.losses + g.losses;
+  false_alignments = s.false_alignments + g.false_alignments;
+  verdicts = s.verdicts ++ g.verdicts;
+  frames = s.frames ++ g.frames;
+}
+
+-- what such an addition shows, after an alarm or none
+unfoldable pub added_kinds : Bool → Signs → List Kind
+added_kinds alarm g =
+    rise LOST 0 g.losses ++ rise ALIGNED 0 g.alignments ++ crc_kinds g.verdicts ++ frames_kinds alarm g.frames 0 (length g.frames / 2) ++ rise LOST 0 g.false_alignments
+
 -- a share was gained by what was received after a line
 pub record Grows (gained : Share) (line now : List Bool) : Type 0 where
   pub payload_is : e1_far now ≡ e1_far line ++ gained.payload
   pub multiframes_are : multiframes_in now ≡ multiframes_in line + gained.multiframes
   pub blocks_are : blocks_in now ≡ blocks_in line + gained.blocks
   pub errored_are : errors_in now ≡ errors_in line + gained.errored
+  pub signs_are : signs_in now ≡ add_signs (signs_in line) gained.signs
 
 -- the payload of n frames from frame k on
 abbrev pub payload_from : List (List Bool) → ℕ → ℕ → List Bool
 payload_from frames k n = flat_map (drop 8) (take n (drop k frames))
+
+-- n frames from frame k on
+abbrev pub frames_from : List (List Bool) → ℕ → ℕ → List (List Bool)
+frames_from frames k n = take n (drop k frames)
 
 -- in a search
 unfoldable pub search_turn : List Bool → Turn
@@ -95,6 +125,10 @@ search_turn bits =
 abbrev pub errs_in : List (List Bool) → ℕ → ℕ → ℕ
 errs_in frames k count = count_by (λ b. errs frames (k + 8 * b)) (range_with_len 0 count)
 
+-- and each of them, errored or not
+abbrev pub each_errs : List (List Bool) → ℕ → ℕ → List Bool
+each_errs frames k count = map (λ b. errs frames (k + 8 * b)) (range_with_len 0 count)
+
 -- where multiframes are found from frame k on
 unfoldable pub framing_turn : List Bool → ℕ → Turn
 framing_turn bits k =
@@ -104,7 +138,13 @@ framing_turn bits k =
     let wrong = errs_in frames k blocks in
     record {
       phase = Framed (drop (256 * (k + 16 * (whole - 1))) bits) blocks wrong;
-      gained = record { payload = payload_from frames k (16 * whole); multiframes = whole; blocks = blocks; errored = wrong };
+      gained = record {
+        payload = payload_from frames k (16 * whole);
+        multiframes = whole;
+        blocks = blocks;
+        errored = wrong;
+        signs = record { alignments = 1; losses = 0; false_alignments = 0; verdicts = each_errs frames k blocks; frames = frames_from frames k (16 * whole) };
+      };
     }
 
 -- at the end of a frame without a loss, where the multiframes aren't found yet
@@ -113,6 +153,10 @@ aligned_turn bits =
     let frames = frames_of bits in
     (if reaches frames then framing_turn bits (earlier frames (length frames - 12))
     else (if length frames == 64 then still (Searching (last_bits 255 bits)) else still (Aligned bits)))
+
+-- a group of so many blocks is whole, and so many errored ones in it tell of a false alignment
+abbrev pub is_false_group : ℕ → ℕ → Bool
+is_false_group group wrong = (group == 1000) && nat_le 915 wrong
 
 -- what is held once a block more is judged
 abbrev pub group_phase : List Bool → List Bool → ℕ → ℕ → Phase
@@ -123,11 +167,24 @@ group_phase bits rest group wrong =
 unfoldable pub block_turn : List Bool → ℕ → ℕ → Turn
 block_turn bits group wrong =
     let frames = frames_of bits in
-    let one = bit_value (errs frames (length frames - 16)) in
+    let bad = errs frames (length frames - 16) in
+    let one = bit_value bad in
     let whole = length frames == 32 in
     record {
       phase = group_phase bits (if whole then drop 4096 bits else bits) (group + 1) (wrong + one);
-      gained = record { payload = (if whole then payload_from frames 16 16 else []); multiframes = bit_value whole; blocks = 1; errored = one };
+      gained = record {
+        payload = (if whole then payload_from frames 16 16 else []);
+        multiframes = bit_value whole;
+        blocks = 1;
+        errored = one;
+        signs = record {
+          alignments = 0;
+          losses = 0;
+          false_alignments = bit_value (is_false_group (group + 1) (wrong + one));
+          verdicts = bad ∷ [];
+          frames = (if whole then frames_from frames 16 16 else []);
+        };
+      };
     }
 
 -- at the end of a frame without a loss, where the multiframes are found
@@ -135,17 +192,21 @@ unfoldable pub framed_turn : List Bool → ℕ → ℕ → Turn
 framed_turn bits group wrong =
     (if length (frames_of bits) % 8 == 0 then block_turn bits group wrong else still (Framed bits group wrong))
 
+-- what is done where basic alignment is lost, after multiframe alignment was reached or before
+abbrev pub lost_turn : Bool → List Bool → Turn
+lost_turn reached bits = record { phase = Searching (last_bits 256 bits); gained = loss_after reached }
+
 -- the bits at the end of a frame are what a search takes over where it completes a loss, else this turn comes
-abbrev pub unless_lost : List Bool → Turn → Turn
-unless_lost bits turn = (if loses (frames_of bits) then still (Searching (last_bits 256 bits)) else turn)
+abbrev pub unless_lost : Bool → List Bool → Turn → Turn
+unless_lost reached bits turn = (if loses (frames_of bits) then lost_turn reached bits else turn)
 
 -- one more bit where the multiframes aren't found yet
 abbrev pub aligned_bits : List Bool → Turn
-aligned_bits bits = (if length bits % 256 == 0 then unless_lost bits (aligned_turn bits) else still (Aligned bits))
+aligned_bits bits = (if length bits % 256 == 0 then unless_lost false bits (aligned_turn bits) else still (Aligned bits))
 
 -- and where they are
 abbrev pub framed_bits : List Bool → ℕ → ℕ → Turn
-framed_bits bits group wrong = (if length bits % 256 == 0 then unless_lost bits (framed_turn bits group wrong) else still (Framed bits group wrong))
+framed_bits bits group wrong = (if length bits % 256 == 0 then unless_lost true bits (framed_turn bits group wrong) else still (Framed bits group wrong))
 
 unfoldable pub turn : Phase → Bool → Turn
 turn (Searching held) bit = search_turn (held ++ bit ∷ [])

@@ -1,8 +1,32 @@
 -- The alignments of a whole received line, what they give in all, and their counts.
-use Rattle.std.specs.Prelude.{ℕ, zero, suc, ◌-◌, ◌^◌, min, Bool, if◌then◌else◌, List, [], ◌∷◌, length, drop, flat_map}
-use Rattle.std.specs.List.{sum_by}
+use Rattle.std.specs.Prelude.{ℕ, zero, suc, ◌-◌, ◌*◌, ◌^◌, min, Bool, ◌&&◌, if◌then◌else◌, List, [], ◌∷◌, length, map, take, drop, flat_map}
+use Rattle.std.specs.List.{range_with_len, sum_by}
+use Rattle.pdh_bits.specs.Bits.{bit_value}
 use Rattle.pdh_g706.specs.Frames.{frames_of, is_found, aligned}
-use Rattle.pdh_g706.specs.Alignment.{multiframes, payload, judged, errored_in, is_ended, kept, resumes}
+use Rattle.pdh_g706.specs.Alignment.{loses, is_reached, begin, multiframes, payload, is_errored, judged, errored_in, is_false, is_ended, up_to_end, kept, resumes}
+
+-- what the frames that count of an alignment show
+pub record Signs : Type 0 where
+  -- how often multiframe alignment is reached
+  pub alignments : ℕ
+  -- how often basic alignment is lost after that
+  pub losses : ℕ
+  -- how often the alignment is false
+  pub false_alignments : ℕ
+  -- the judged blocks in order, each errored or not
+  pub verdicts : List Bool
+  -- the frames of the delivered multiframes in order
+  pub frames : List (List Bool)
+
+-- by these frames, and whether basic alignment is lost with the frame after them
+unfoldable pub signs_of : Bool → List (List Bool) → Signs
+signs_of lost frames = record {
+  alignments = bit_value (is_reached frames);
+  losses = bit_value (lost && is_reached frames);
+  false_alignments = bit_value (is_false frames);
+  verdicts = map (is_errored frames) (range_with_len 0 (judged frames));
+  frames = take (16 * multiframes frames) (drop (begin frames) frames);
+}
 
 -- what the frames that count of an alignment give
 pub record Share : Type 0 where
@@ -10,9 +34,17 @@ pub record Share : Type 0 where
   pub multiframes : ℕ
   pub blocks : ℕ
   pub errored : ℕ
+  pub signs : Signs
 
-unfoldable pub share_of : List (List Bool) → Share
-share_of frames = record { payload = payload frames; multiframes = multiframes frames; blocks = judged frames; errored = errored_in frames 0 (judged frames) }
+-- by these frames, and whether basic alignment is lost with the frame after them
+unfoldable pub share_of : Bool → List (List Bool) → Share
+share_of lost frames = record {
+  payload = payload frames;
+  multiframes = multiframes frames;
+  blocks = judged frames;
+  errored = errored_in frames 0 (judged frames);
+  signs = signs_of lost frames;
+}
 
 -- the frames from the position that a search finds, or none
 unfoldable pub found_frames : List Bool → List (List Bool)
@@ -24,7 +56,7 @@ is_over line = is_ended (found_frames line)
 
 -- what one search gives
 unfoldable pub one_search : List Bool → Share
-one_search line = share_of (kept (found_frames line))
+one_search line = share_of (loses (up_to_end (found_frames line))) (kept (found_frames line))
 
 -- the line from the bit at which the next search begins
 unfoldable pub after_search : List Bool → List Bool
@@ -56,6 +88,16 @@ blocks_in line = sum_by (λ (s : Share). s.blocks) (track line)
 -- those of them that are errored
 unfoldable pub errors_in : List Bool → ℕ
 errors_in line = sum_by (λ (s : Share). s.errored) (track line)
+
+-- what a line shows
+unfoldable pub signs_in : List Bool → Signs
+signs_in line = record {
+  alignments = sum_by (λ (s : Share). s.signs.alignments) (track line);
+  losses = sum_by (λ (s : Share). s.signs.losses) (track line);
+  false_alignments = sum_by (λ (s : Share). s.signs.false_alignments) (track line);
+  verdicts = flat_map (λ (s : Share). s.signs.verdicts) (track line);
+  frames = flat_map (λ (s : Share). s.signs.frames) (track line);
+}
 
 -- a count that reaches its type's end stands there
 abbrev pub counted : ℕ → ℕ

@@ -1,13 +1,18 @@
 -- What the fields of an alignment machine stand for.
-use Rattle.std.specs.Prelude.{◌≡◌, ◌+◌, ℕ, Bool, List, ◌++◌}
+use Rattle.std.specs.Prelude.{◌≡◌, ◌+◌, ℕ, Bool, true, false, List, ◌++◌}
 use Rattle.pdh_edge.specs.Ports.{Outputs, Puts, PutsPart, for_leaf}
 use Rattle.pdh_g706.specs.declared.align.E1Align.{E1Align}
 use Rattle.pdh_g706.specs.declared.counts.Counts.{Counts}
 use Rattle.pdh_g706.specs.declared.counts.Group.{Group}
 use Rattle.pdh_g706.specs.declared.stage.Stage.{Stage}
 use Rattle.pdh_g706.specs.declared.stage.Stage.TheVariants as stages
-use Rattle.pdh_g706.specs.Tracking.{Share, e1_far, multiframes_in, blocks_in, errors_in, counted}
-use Rattle.pdh_g706.specs.Machine.{Phase, Holds, Turn, aligned_turn, framed_turn, block_turn}
+use Rattle.pdh_g706.specs.Tracking.{Share, e1_far, multiframes_in, blocks_in, errors_in, signs_in, counted}
+use Rattle.pdh_watch.specs.declared.event.Event.{Event}
+use Rattle.pdh_line.specs.Paths.{top}
+use Rattle.pdh_events.specs.Telling.{next_bit, tell}
+use Rattle.pdh_events.specs.Keeping.{CountsOnes}
+use Rattle.pdh_g706.specs.Events.{alarm_after, ais_length}
+use Rattle.pdh_g706.specs.Machine.{Phase, Holds, Turn, added_kinds, aligned_turn, framed_turn, block_turn}
 use Rattle.pdh_g706.specs.Machine.Phase.{Searching, Aligned, Framed}
 
 -- what is held in a stage
@@ -18,6 +23,11 @@ phase_of stages.Framed held group = Framed held group.judged group.errored
 
 abbrev pub phase : E1Align → Phase
 phase align = phase_of align.stage align.held.items align.group
+
+-- multiframe alignment was reached
+abbrev pub is_framed : Stage → Bool
+is_framed stages.Framed = true
+is_framed _ = false
 
 -- what is done with the bits that are held at the end of a frame without a loss, in either stage of an alignment, and at the
 -- end of a sub-multiframe
@@ -41,6 +51,10 @@ pub record StandsFor (align : E1Align) (line : List Bool) : Type 0 where
   pub holds : Holds (phase align) line
   pub counts : AreCounts align.counts line
   pub room : align.held.capacity ≡ 16384
+  pub number : align.bits ≡ next_bit line
+  pub long : align.ais.long ≡ ais_length
+  pub ones : CountsOnes align.ais line
+  pub alarm : align.alarm ≡ alarm_after false (signs_in line).frames
 
 -- so much was counted in addition
 pub record Counted (gained : Share) (old new : Counts) : Type 0 where
@@ -53,6 +67,13 @@ pub record Becomes (turn : Turn) (old new : E1Align) : Type 0 where
   pub phase_is : phase new ≡ turn.phase
   pub counts : Counted turn.gained old.counts new.counts
   pub room : new.held.capacity ≡ old.held.capacity
+  pub number : new.bits ≡ old.bits
+  pub ais : new.ais ≡ old.ais
+  pub alarm : new.alarm ≡ alarm_after old.alarm turn.gained.signs.frames
+
+-- the events that a turn tells
+abbrev pub turn_events : E1Align → Turn → List Event
+turn_events old turn = tell top old.bits (added_kinds old.alarm turn.gained.signs)
 
 -- what a line gives has grown, and what came was put to leaf 0
 pub record Gains (line now : List Bool) (old new : Outputs) : Type 0 where

@@ -5,7 +5,7 @@ ghost use Rattle.std.specs.List.{slice_index_or};
 ghost use Rattle.pdh_edge.specs.Ports.{Puts, PutsPart, HasCause, for_leaf};
 ghost use Rattle.pdh_g706.specs.Frames.{frames_of, has_signal as has_signal_in, is_confirmed as is_confirmed_in};
 ghost use Rattle.pdh_g706.specs.Alignment.{loses as loses_in, has_multi as has_multi_in, earlier as earlier_in, reaches, sent_check as sent_check_in, errs as errs_in};
-ghost use Rattle.pdh_g706.specs.Machine.{payload_from, errs_in as errs_all};
+ghost use Rattle.pdh_g706.specs.Machine.{payload_from};
 
 use circular_buffer::HeapCircularBuffer;
 use pdh_e1::crc4;
@@ -17,8 +17,8 @@ const ALIGNMENT_SIGNAL: [bool; 7] = [false, false, true, true, false, true, true
 /// The multiframe alignment signal (G.704, table 5B).
 const MULTIFRAME_SIGNAL: [bool; 6] = [false, false, true, false, true, true];
 
-// A bit of those that are held, counted from the oldest.
-fn bit_at(held: &HeapCircularBuffer<bool>, index: usize) -> bool
+/// A bit of those that are held, counted from the oldest.
+pub(crate) fn bit_at(held: &HeapCircularBuffer<bool>, index: usize) -> bool
     requires { index < length held.now.items }
     ensures { result ≡ slice_index_or held.now.items index false }
 {
@@ -174,21 +174,6 @@ pub(crate) fn errs(held: &HeapCircularBuffer<bool>, frame: usize) -> bool
     bits[1024] = false;
     bits[1536] = false;
     sent_check(held, 256 * frame + 2048) != crc4(&bits)
-}
-
-/// How many of so many sub-multiframes from this frame on are errored.
-pub(crate) fn errored(held: &HeapCircularBuffer<bool>, frame: usize, count: usize) -> usize
-    requires { 256 * frame + 2048 * count + 2048 ≤ length held.now.items }
-    ensures count { result ≡ errs_all (frames_of held.now.items) frame count }
-    ensures most { result ≤ count }
-{
-    // a buffer's length is bounded, and so is each place in it
-    let _held = held.len();
-    let mut errored = 0;
-    for number in 0..count {
-        errored += usize::from(errs(held, frame + 8 * number));
-    }
-    errored
 }
 
 /// Puts the payload of so many frames from this frame on to the drain: all their bits but the first eight of each.

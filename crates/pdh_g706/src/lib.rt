@@ -6,6 +6,7 @@ mod align;
 mod counts;
 mod held;
 mod stage;
+mod tell;
 #[cfg(test)]
 mod tests;
 

@@ -7,7 +7,8 @@ use crate::E1Align;
 use pdh_bits::{bits_of, bytes_of};
 use pdh_e1::pack;
 use pdh_edge::{Drain, Failed, MemPort};
-use pdh_watch::Quiet;
+use pdh_shape::TOP;
+use pdh_watch::{Event, Kind, Quiet, Watch};
 use std::alloc::{AllocError, Global};
 use std::test::Fail;
 
@@ -30,14 +31,19 @@ fn take_all<D: Drain>(align: &mut E1Align, bits: &[bool], drain: &mut D) -> Resu
 }
 
 // Takes bits one by one.
-fn push_all<D: Drain>(align: &mut E1Align, bits: &[bool], drain: &mut D) -> Result<(), Failed>
+fn push_all<D: Drain, W: Watch>(
+    align: &mut E1Align,
+    bits: &[bool],
+    drain: &mut D,
+    watch: &mut W,
+) -> Result<(), Failed>
     requires stands { (line : List Bool) × StandsFor align.old line }
     requires list { IsTrue ((D.outputs drain.old).holds 0) }
     ensures stands { OnOk result ((line : List Bool) × StandsFor align.new line) }
     ensures holds { (D.outputs drain.new).holds ≡ (D.outputs drain.old).holds }
 {
     for bit in bits {
-        align.push(*bit, drain, &mut Quiet)?;
+        align.push(*bit, drain, watch)?;
     }
     Ok(())
 }
@@ -108,7 +114,7 @@ fn lines_are_cut_at_each_octet(rt: HostRuntime) -> Result<(), Fail> {
     let mut align = E1Align::open(rt.alloc())?;
     for place in 0..line.len() {
         let bits = bits_of(rt.alloc(), &line[place..place + 1])?;
-        push_all(&mut align, &bits, &mut port)?;
+        push_all(&mut align, &bits, &mut port, &mut Quiet)?;
         let counts = [align.multiframes(), align.blocks(), align.errored()];
         if place < 895 {
             assert_eq!(rt; counts, [0, 0, 0]);
@@ -233,5 +239,71 @@ fn errors_of_two_groups_do_not_add_up(rt: HostRuntime) -> Result<(), Fail> {
     let line = with_errors(rt.alloc(), 86, 915)?;
     let (counts, _) = found(rt.alloc(), &line)?;
     assert_eq!(rt; counts, [520, 1039, 915]);
+    Ok(())
+}
+
+// Keeps the first eight events.
+#[derive(Drop)]
+struct Recorder {
+    events: [Option<Event>; 8],
+    count: usize,
+}
+
+impl Watch for Recorder {
+    ghost use Rattle.std.specs.Prelude.{⊤};
+
+    ghost saw = { λ a xs b. ⊤ };
+
+    ghost saw_nothing = { λ a. tt };
+
+    ghost saw_join = { λ a b c xs ys p q. tt };
+
+    fn note(&mut self, event: &Event) {
+        if let Some(place) = self.events.get_mut(self.count) {
+            *place = Some(*event);
+            self.count += 1;
+        }
+    }
+
+    fn ignores(&self) -> bool {
+        false
+    }
+}
+
+#[test]
+fn events_come_in_order(rt: HostRuntime) -> Result<(), Fail> {
+    let mut line = vec![in rt.alloc(); 255u8; 72]?;
+    line.extend_from_slice(&zeros(rt.alloc(), 2)?)?;
+    if let Some(octet) = line.get_mut(488) {
+        *octet = 0x7F; // frame 13 has an alarm, and its E bit is 0
+    }
+    let bits = bits_of(rt.alloc(), &line)?;
+    let mut port = port_for(rt.alloc(), bits.len())?;
+    let mut align = E1Align::open(rt.alloc())?;
+    let mut watch = Recorder {
+        events: [None; 8],
+        count: 0,
+    };
+    push_all(&mut align, &bits, &mut port, &mut watch)?;
+    let told = [
+        (Kind::AIS_ON, 511),
+        (Kind::AIS_OFF, 576),
+        (Kind::ALIGNED, 7743),
+        (Kind::CRC, 7743),
+        (Kind::ALARM_ON, 7743),
+        (Kind::EBIT, 7743),
+        (Kind::ALARM_OFF, 7743),
+    ];
+    for number in 0..7 {
+        let (kind, bit) = told[number];
+        let event = Event {
+            kind,
+            path: TOP,
+            bit,
+            value: 0,
+        };
+        assert_eq!(rt; watch.events[number], Some(event));
+    }
+    assert_eq!(rt; watch.count, 7);
     Ok(())
 }

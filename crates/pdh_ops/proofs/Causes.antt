@@ -5,7 +5,9 @@ use Rattle.pdh_edge.specs.Files.{ShelfState, Counts, SinkState, Looks, Rose}
 use Rattle.pdh_ops.specs.Answer.{Answer}
 use Rattle.pdh_ops.specs.Schedules.{Files}
 use Rattle.pdh_ops.specs.Commands.{AreTold, comes_to}
-use Rattle.pdh_ops.specs.Run.{HasCause, ChangesOnly, IsCounted, IsTold, Runs, Completes}
+use Rattle.pdh_watch.specs.Monitors.{State}
+use Rattle.pdh_ops.specs.Lines.{IsTold}
+use Rattle.pdh_ops.specs.Run.{HasCause, ChangesOnly, IsCounted, Runs, Completes}
 use Rattle.pdh_words.specs.declared.commands.Command.{Command}
 use Rattle.pdh_ops.specs.declared.answer.Stop.TheVariants.{Memory, Usage, Read, Write, Missing, LongSchedule, BadRow, UnknownNode, CountOver, ShortNode, Short, Overflow, Underflow, ManyFrames, NoAlignment, NotWhole}
 use Rattle.pdh_ops.proofs.Touching.{looks_same}
@@ -39,10 +41,10 @@ exact command a b (Err (Underflow p)) files cause counted told reads writes = in
 exact command a b (Err (ManyFrames n)) files cause counted told reads writes = inr (cause files told)
 
 -- and the run tells it
-pub completes : (command : Option Command) (a b : ShelfState) (k l : SinkState) (status : ℕ) → Runs command a b k l status → Completes command a b k l status
-completes None a b k l status runs = tt
-completes (Some command) a b k l status runs = λ files told reads writes.
+pub completes : (command : Option Command) (a b : ShelfState) (k l : SinkState) (v w : List State) (status : ℕ) → Runs command a b k l v w status → Completes command a b k l w status
+completes None a b k l v w status runs = tt
+completes (Some command) a b k l v w status runs = λ files told reads writes.
     elim (exact command a b runs.answer files runs.does.cause runs.does.counted told reads writes) [
-      | inl e ↦ inl (subst (λ answer. IsTold answer k l status) e runs.told)
-      | inr e ↦ inr (subst (λ answer. IsTold answer k l status) e runs.told)
+      | inl e ↦ inl (subst (λ answer. IsTold w answer k l status) e runs.told)
+      | inr e ↦ inr (subst (λ answer. IsTold w answer k l status) e runs.told)
     ]

@@ -7,16 +7,17 @@ use Rattle.pdh_bits.specs.Bits.{bits_of}
 use Rattle.pdh_e1.specs.Codec.{IsPacked}
 use Rattle.pdh_g706.specs.Tracking.{multiframes_in, counted}
 use Rattle.pdh_edge.specs.Files.{ShelfState, Looks, Touches, Starts, Appends, Holds, SinkState}
-use Rattle.pdh_edge.specs.Files.Told.{Known}
 use Rattle.pdh_words.specs.declared.commands.Command.{Command}
-use Rattle.pdh_words.specs.declared.commands.Command.TheVariants.{Demux, Mux, ClockCheck, ClockMake, E1Pack, E1Unpack}
+use Rattle.pdh_words.specs.declared.commands.Command.TheVariants.{Demux, Mux, ClockCheck, ClockMake, Inspect, InspectE1, Show, E1Pack, E1Unpack}
 use Rattle.pdh_ops.specs.Names.{payload_name, e1_name, payload_out_name}
 use Rattle.pdh_ops.specs.E1.{payload_of, e1_packed, packed_line, frames_filled, framed_of, frames_framed, e1_unpacked, unpacked_payload, counts_of}
 use Rattle.pdh_ops.specs.Reading.{HasLength, IsSizeStop, IsReadStop}
-use Rattle.pdh_ops.specs.Schedules.{Files, bytes_in}
+use Rattle.pdh_ops.specs.Schedules.{bytes_in}
 use Rattle.pdh_ops.specs.Writing.{IsStartStop, IsAppendStop}
-use Rattle.pdh_ops.specs.Commands.{AreTold, reaches_outputs, IsOutput}
-use Rattle.pdh_ops.specs.Run.{Performs, IsTold, Runs}
+use Rattle.pdh_ops.specs.Commands.{reaches_outputs}
+use Rattle.pdh_watch.specs.Monitors.{State}
+use Rattle.pdh_ops.specs.Lines.{IsTold}
+use Rattle.pdh_ops.specs.Run.{Performs, Runs}
 use Rattle.pdh_ops.specs.Refusing.{Refuses}
 use Rattle.pdh_ops.specs.Answer.{Answer, and_then}
 use Rattle.pdh_ops.specs.Packs.{Packs}
@@ -127,21 +128,24 @@ payload_whole (Some payload) done e = elim (cases_eq (length payload % 496) 0) [
   ]
 ]
 
-answer_packs : (a b : ShelfState) (k l : SinkState) (status : ℕ) (answer : Answer) → Performs E1Pack a b answer → IsTold answer k l status → Packs (Some E1Pack) a b status
-answer_packs a b k l status (Err stop) performs tells files line told now status_is = absurd (omega (arith, tells.0, stop_status stop))
-answer_packs a b k l status (Ok done) performs tells files line told now status_is =
+answer_packs : (a b : ShelfState) (k l : SinkState) (v : List State) (status : ℕ) (answer : Answer) → Performs E1Pack a b answer → IsTold v answer k l status → Packs (Some E1Pack) a b status
+answer_packs a b k l v status (Err stop) performs tells files line told now status_is = absurd (omega (arith, tells.0, stop_status stop))
+answer_packs a b k l v status (Ok done) performs tells files line told now status_is =
     let same : Some line ≡ Some (packed_line (bytes_in files payload_name)) = performs.outputs 0 (lit< tt) files told (Some line) now in
     let is : line ≡ packed_line (bytes_in files payload_name) = cc in
     subst (IsPacked (bytes_in files payload_name)) (sym is) (line_is_packed (bytes_in files payload_name) (payload_whole (files payload_name) done (performs.cause files told)))
 
-pub packs : (command : Option Command) (a b : ShelfState) (k l : SinkState) (status : ℕ) → Runs command a b k l status → Packs command a b status
-packs None a b k l status runs = tt
-packs (Some (Demux chain)) a b k l status runs = tt
-packs (Some (Mux chain feac)) a b k l status runs = tt
-packs (Some (ClockCheck chain)) a b k l status runs = tt
-packs (Some (ClockMake chain frames bias)) a b k l status runs = tt
-packs (Some E1Unpack) a b k l status runs = tt
-packs (Some E1Pack) a b k l status runs = answer_packs a b k l status runs.answer runs.does runs.told
+pub packs : (command : Option Command) (a b : ShelfState) (k l : SinkState) (v w : List State) (status : ℕ) → Runs command a b k l v w status → Packs command a b status
+packs None a b k l v w status runs = tt
+packs (Some (Demux chain)) a b k l v w status runs = tt
+packs (Some (Mux chain feac)) a b k l v w status runs = tt
+packs (Some (ClockCheck chain)) a b k l v w status runs = tt
+packs (Some (ClockMake chain frames bias)) a b k l v w status runs = tt
+packs (Some E1Unpack) a b k l v w status runs = tt
+packs (Some (Inspect chain)) a b k l v w status runs = tt
+packs (Some InspectE1) a b k l v w status runs = tt
+packs (Some (Show chain frame)) a b k l v w status runs = tt
+packs (Some E1Pack) a b k l v w status runs = answer_packs a b k l w status runs.answer runs.does runs.told
 
 -- ---- the line that `e1unpack` reads
 
@@ -162,7 +166,7 @@ unpacked_reaches line = elim (cases_eq (multiframes_in (bits_of line)) 0) [
 unpack_begins : BeginsWith E1Unpack E1Line framed_of e1_unpacked
 unpack_begins = record { some = lit< tt; first = refl; missing = refl; comes = λ files. refl; due = λ files on. on; reaches = unpacked_reaches }
 
-long_framed : (octets : ℕ) → most_frames < octets / 32 → RefusesAll framed_of octets (ManyFrames (octets / 32))
+pub long_framed : (octets : ℕ) → most_frames < octets / 32 → RefusesAll framed_of octets (ManyFrames (octets / 32))
 long_framed octets many content long =
     let same : frames_framed content ≡ octets / 32 = ap (λ (n : ℕ). n / 32) long in
     let test : nat_lt most_frames (frames_framed content) ≡ true = grind (arith, nat_tests) in

@@ -1,5 +1,5 @@
 -- What an alignment machine leaves of a whole line.
-use Rattle.std.proofs.Common.{◌≡◌, ℕ, Bool, List, [], ◌∷◌, ◌++◌, Option, Some, length, refl, ap, sym, ◌∙◌, arith}
+use Rattle.std.proofs.Common.{◌≡◌, ℕ, Bool, List, [], ◌∷◌, ◌++◌, Some, ap, sym, ◌∙◌, arith}
 use Rattle.std.specs.Prelude.{flat_map}
 use Rattle.pdh_bits.specs.Bits.{bits_of, bytes_of}
 use Rattle.pdh_edge.specs.Ports.{Outputs, after}
@@ -11,7 +11,6 @@ use Rattle.pdh_g706.specs.View.{StandsFor, Gains}
 use Rattle.pdh_g706.proofs.SearchLaws.{short_search}
 use Rattle.pdh_g706.proofs.TrackLaws.{not_over, track_open}
 use Rattle.pdh_g706.proofs.TurnLaws.{one_search_none}
-use Rattle.pdh_ops.specs.declared.answer.E1Counts.{E1Counts}
 use Rattle.pdh_ops.specs.declared.e1.Unpacked.{Unpacked}
 use Rattle.pdh_ops.specs.E1.{unpacked_payload, counts_of}
 use Rattle.pdh_ops.specs.E1Steps.{IsUnpacked}

@@ -31,11 +31,13 @@ use Rattle.pdh_ops.specs.Answer.{Answer, and_then, status_of}
 use Rattle.pdh_ops.specs.Schedules.{Files, bytes_in, rows_of, rows_or_stop, rows_in, frames_in}
 use Rattle.pdh_ops.specs.Mux.{mux_inputs, all_held, line_len, short_node, leaf_bits, bits_held, bits_needed, short_leaf, event_of, stop_of_event, stop_of_shortage, muxed, frames_made, mux_line, line_bytes}
 use Rattle.pdh_ops.specs.Commands.{comes_to}
-use Rattle.pdh_ops.specs.Run.{Performs, IsTold, Runs}
+use Rattle.pdh_watch.specs.Monitors.{State}
+use Rattle.pdh_ops.specs.Lines.{IsTold}
+use Rattle.pdh_ops.specs.Run.{Performs, Runs}
 use Rattle.pdh_edge.specs.Ports.{IsPrefix}
 use Rattle.pdh_ops.specs.GivesBack.{GivesBack}
 use Rattle.pdh_words.specs.declared.commands.Command.{Command}
-use Rattle.pdh_words.specs.declared.commands.Command.TheVariants.{Demux, Mux, ClockCheck, ClockMake, E1Pack, E1Unpack}
+use Rattle.pdh_words.specs.declared.commands.Command.TheVariants.{Demux, Mux, ClockCheck, ClockMake, Inspect, InspectE1, Show, E1Pack, E1Unpack}
 use Rattle.pdh_ops.specs.declared.answer.Done.{Done}
 use Rattle.pdh_ops.specs.declared.answer.Done.TheVariants.{Muxed}
 use Rattle.pdh_ops.specs.declared.answer.Stop.{Stop}
@@ -163,18 +165,21 @@ gives chain feac files line leaf n did is low few =
 
 -- ---- the run
 
-answer_gives_back : (chain : Chain) (feac : Option ℕ) (a b : ShelfState) (k l : SinkState) (status : ℕ) (answer : Answer) → Performs (Mux chain feac) a b answer → IsTold answer k l status → GivesBack (Some (Mux chain feac)) a b status
-answer_gives_back chain feac a b k l status (Err stop) performs tells files line leaf n told now status_is low few = absurd (omega (arith, tells.0, stop_status stop))
-answer_gives_back chain feac a b k l status (Ok done) performs tells files line leaf n told now status_is low few =
+answer_gives_back : (chain : Chain) (feac : Option ℕ) (a b : ShelfState) (k l : SinkState) (v : List State) (status : ℕ) (answer : Answer) → Performs (Mux chain feac) a b answer → IsTold v answer k l status → GivesBack (Some (Mux chain feac)) a b status
+answer_gives_back chain feac a b k l v status (Err stop) performs tells files line leaf n told now status_is low few = absurd (omega (arith, tells.0, stop_status stop))
+answer_gives_back chain feac a b k l v status (Ok done) performs tells files line leaf n told now status_is low few =
     let same : Some line ≡ Some (line_bytes chain feac files (rows_in chain files)) = performs.outputs 0 (lit< tt) files told (Some line) now in
     let is : line ≡ line_bytes chain feac files (rows_in chain files) = cc in
     gives chain feac files line leaf n (mux_done chain feac files done (performs.cause files told)) is low few
 
-pub gives_back : (command : Option Command) (a b : ShelfState) (k l : SinkState) (status : ℕ) → Runs command a b k l status → GivesBack command a b status
-gives_back None a b k l status runs = tt
-gives_back (Some (Demux chain)) a b k l status runs = tt
-gives_back (Some (ClockCheck chain)) a b k l status runs = tt
-gives_back (Some (ClockMake chain frames bias)) a b k l status runs = tt
-gives_back (Some E1Pack) a b k l status runs = tt
-gives_back (Some E1Unpack) a b k l status runs = tt
-gives_back (Some (Mux chain feac)) a b k l status runs = answer_gives_back chain feac a b k l status runs.answer runs.does runs.told
+pub gives_back : (command : Option Command) (a b : ShelfState) (k l : SinkState) (v w : List State) (status : ℕ) → Runs command a b k l v w status → GivesBack command a b status
+gives_back None a b k l v w status runs = tt
+gives_back (Some (Demux chain)) a b k l v w status runs = tt
+gives_back (Some (ClockCheck chain)) a b k l v w status runs = tt
+gives_back (Some (ClockMake chain frames bias)) a b k l v w status runs = tt
+gives_back (Some (Inspect chain)) a b k l v w status runs = tt
+gives_back (Some InspectE1) a b k l v w status runs = tt
+gives_back (Some (Show chain frame)) a b k l v w status runs = tt
+gives_back (Some E1Pack) a b k l v w status runs = tt
+gives_back (Some E1Unpack) a b k l v w status runs = tt
+gives_back (Some (Mux chain feac)) a b k l v w status runs = answer_gives_back chain feac a b k l w status runs.answer runs.does runs.told

@@ -28,10 +28,12 @@ use Rattle.pdh_ops.specs.Answer.{Answer, and_then, status_of}
 use Rattle.pdh_ops.specs.Schedules.{Files, bytes_in, rows_of, rows_or_stop, rows_in, frames_in, stop_of_fault}
 use Rattle.pdh_ops.specs.Mux.{mux_inputs, line_len, short_node, stop_of_shortage, leaf_bits, bits_held, bits_needed, short_leaf, event_of, stop_of_event, muxed, line_bytes}
 use Rattle.pdh_ops.specs.Commands.{AreTold, comes_to}
-use Rattle.pdh_ops.specs.Run.{IsCause, Performs, IsTold, Runs}
+use Rattle.pdh_watch.specs.Monitors.{State}
+use Rattle.pdh_ops.specs.Lines.{IsTold}
+use Rattle.pdh_ops.specs.Run.{IsCause, Performs, Runs}
 use Rattle.pdh_ops.specs.Tolerated.{AreWithin, HasNoEvent, IsDelayed}
 use Rattle.pdh_words.specs.declared.commands.Command.{Command}
-use Rattle.pdh_words.specs.declared.commands.Command.TheVariants.{Demux, Mux, ClockCheck, ClockMake, E1Pack, E1Unpack}
+use Rattle.pdh_words.specs.declared.commands.Command.TheVariants.{Demux, Mux, ClockCheck, ClockMake, Inspect, InspectE1, Show, E1Pack, E1Unpack}
 use Rattle.pdh_ops.specs.declared.file.File.{File}
 use Rattle.pdh_ops.specs.declared.file.File.TheVariants.{Leaf}
 use Rattle.pdh_ops.specs.declared.answer.Done.TheVariants.{Muxed}
@@ -112,19 +114,22 @@ no_eight chain feac a b (ManyFrames n) files eight cause told none = absurd (ome
 no_eight chain feac a b (NoAlignment n) files eight cause told none = absurd (omega arith)
 no_eight chain feac a b (NotWhole n) files eight cause told none = absurd (omega arith)
 
-answer_no_event : (chain : Chain) (feac : Option ℕ) (a b : ShelfState) (k l : SinkState) (status : ℕ) (answer : Answer) → Performs (Mux chain feac) a b answer → IsTold answer k l status → HasNoEvent (Some (Mux chain feac)) a status
-answer_no_event chain feac a b k l status (Ok done) performs tells files told within eight = elim tells [ inl sent ↦ absurd (omega (arith, sent.0, eight)) | inr failed ↦ absurd (omega (arith, failed.0, eight)) ]
-answer_no_event chain feac a b k l status (Err stop) performs tells files told within eight =
+answer_no_event : (chain : Chain) (feac : Option ℕ) (a b : ShelfState) (k l : SinkState) (v : List State) (status : ℕ) (answer : Answer) → Performs (Mux chain feac) a b answer → IsTold v answer k l status → HasNoEvent (Some (Mux chain feac)) a status
+answer_no_event chain feac a b k l v status (Ok done) performs tells files told within eight = elim tells.2 [ inl sent ↦ absurd (omega (arith, sent.0, eight)) | inr failed ↦ absurd (omega (arith, failed.0, eight)) ]
+answer_no_event chain feac a b k l v status (Err stop) performs tells files told within eight =
     no_eight chain feac a b stop files (sym tells.0 ∙ eight) performs.cause told (comes_none chain feac files (λ none. within_none chain files none within))
 
-pub has_no_event : (command : Option Command) (a b : ShelfState) (k l : SinkState) (status : ℕ) → Runs command a b k l status → HasNoEvent command a status
-has_no_event None a b k l status runs = tt
-has_no_event (Some (Demux chain)) a b k l status runs = tt
-has_no_event (Some (ClockCheck chain)) a b k l status runs = tt
-has_no_event (Some (ClockMake chain frames bias)) a b k l status runs = tt
-has_no_event (Some E1Pack) a b k l status runs = tt
-has_no_event (Some E1Unpack) a b k l status runs = tt
-has_no_event (Some (Mux chain feac)) a b k l status runs = answer_no_event chain feac a b k l status runs.answer runs.does runs.told
+pub has_no_event : (command : Option Command) (a b : ShelfState) (k l : SinkState) (v w : List State) (status : ℕ) → Runs command a b k l v w status → HasNoEvent command a status
+has_no_event None a b k l v w status runs = tt
+has_no_event (Some (Demux chain)) a b k l v w status runs = tt
+has_no_event (Some (ClockCheck chain)) a b k l v w status runs = tt
+has_no_event (Some (ClockMake chain frames bias)) a b k l v w status runs = tt
+has_no_event (Some (Inspect chain)) a b k l v w status runs = tt
+has_no_event (Some InspectE1) a b k l v w status runs = tt
+has_no_event (Some (Show chain frame)) a b k l v w status runs = tt
+has_no_event (Some E1Pack) a b k l v w status runs = tt
+has_no_event (Some E1Unpack) a b k l v w status runs = tt
+has_no_event (Some (Mux chain feac)) a b k l v w status runs = answer_no_event chain feac a b k l w status runs.answer runs.does runs.told
 
 -- ---- the delay
 
@@ -144,18 +149,21 @@ behind chain feac files line leaf n did is low few within =
     let short = delayed (shapes_of chain) (counts rows) n leaf (are_frames chain) (scheduled-within (shapes_of chain) (counts rows) (frame_count rows) [] x scheduled within) known in
     subst (λ k. entered_below (shapes_of chain) (counts rows) [] x leaf ≤ k + delay_of chain) (sym got) short
 
-answer_delayed : (chain : Chain) (feac : Option ℕ) (a b : ShelfState) (k l : SinkState) (status : ℕ) (answer : Answer) → Performs (Mux chain feac) a b answer → IsTold answer k l status → IsDelayed (Some (Mux chain feac)) a b status
-answer_delayed chain feac a b k l status (Err stop) performs tells files line leaf n told within now status_is low few = absurd (omega (arith, tells.0, stop_status stop))
-answer_delayed chain feac a b k l status (Ok done) performs tells files line leaf n told within now status_is low few =
+answer_delayed : (chain : Chain) (feac : Option ℕ) (a b : ShelfState) (k l : SinkState) (v : List State) (status : ℕ) (answer : Answer) → Performs (Mux chain feac) a b answer → IsTold v answer k l status → IsDelayed (Some (Mux chain feac)) a b status
+answer_delayed chain feac a b k l v status (Err stop) performs tells files line leaf n told within now status_is low few = absurd (omega (arith, tells.0, stop_status stop))
+answer_delayed chain feac a b k l v status (Ok done) performs tells files line leaf n told within now status_is low few =
     let same : Some line ≡ Some (line_bytes chain feac files (rows_in chain files)) = performs.outputs 0 (lit< tt) files told (Some line) now in
     let is : line ≡ line_bytes chain feac files (rows_in chain files) = cc in
     behind chain feac files line leaf n (mux_done chain feac files done (performs.cause files told)) is low few within
 
-pub is_delayed : (command : Option Command) (a b : ShelfState) (k l : SinkState) (status : ℕ) → Runs command a b k l status → IsDelayed command a b status
-is_delayed None a b k l status runs = tt
-is_delayed (Some (Demux chain)) a b k l status runs = tt
-is_delayed (Some (ClockCheck chain)) a b k l status runs = tt
-is_delayed (Some (ClockMake chain frames bias)) a b k l status runs = tt
-is_delayed (Some E1Pack) a b k l status runs = tt
-is_delayed (Some E1Unpack) a b k l status runs = tt
-is_delayed (Some (Mux chain feac)) a b k l status runs = answer_delayed chain feac a b k l status runs.answer runs.does runs.told
+pub is_delayed : (command : Option Command) (a b : ShelfState) (k l : SinkState) (v w : List State) (status : ℕ) → Runs command a b k l v w status → IsDelayed command a b status
+is_delayed None a b k l v w status runs = tt
+is_delayed (Some (Demux chain)) a b k l v w status runs = tt
+is_delayed (Some (ClockCheck chain)) a b k l v w status runs = tt
+is_delayed (Some (ClockMake chain frames bias)) a b k l v w status runs = tt
+is_delayed (Some (Inspect chain)) a b k l v w status runs = tt
+is_delayed (Some InspectE1) a b k l v w status runs = tt
+is_delayed (Some (Show chain frame)) a b k l v w status runs = tt
+is_delayed (Some E1Pack) a b k l v w status runs = tt
+is_delayed (Some E1Unpack) a b k l v w status runs = tt
+is_delayed (Some (Mux chain feac)) a b k l v w status runs = answer_delayed chain feac a b k l w status runs.answer runs.does runs.told

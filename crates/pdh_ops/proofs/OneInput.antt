@@ -2,7 +2,7 @@
 use Rattle.std.proofs.Common.{◌≡◌, ℕ, ◌<◌, List, Option, None, Some, Result, Ok, Err, true, length, refl, ap, sym, subst, ◌∙◌, arith}
 use Rattle.std.specs.Prelude.{IfErr}
 use Rattle.std.specs.Option.{option_map}
-use Rattle.pdh_edge.specs.Files.{ShelfState, Looks, Holds, WhereTold}
+use Rattle.pdh_edge.specs.Files.{ShelfState, Holds}
 use Rattle.pdh_edge.specs.Files.Told.{Known}
 use Rattle.pdh_words.specs.declared.commands.Command.{Command}
 use Rattle.pdh_ops.specs.Names.{name_of}
@@ -15,8 +15,7 @@ use Rattle.pdh_ops.specs.Refusing.{Refuses}
 use Rattle.pdh_ops.specs.declared.file.File.{File}
 use Rattle.pdh_ops.specs.declared.answer.Stop.{Stop}
 use Rattle.pdh_ops.specs.declared.answer.Stop.TheVariants.{Missing}
-use Rattle.pdh_ops.proofs.Touching.{looks_same}
-use Rattle.pdh_ops.proofs.Refusing.{refuses_since, size_refuses, read_refuses, of_inputs_before}
+use Rattle.pdh_ops.proofs.Refusing.{size_refuses, read_refuses}
 
 -- the bytes that are held, or why they are refused
 abbrev pub Judge : Type 0

@@ -1,6 +1,6 @@
 -- What taking a line apart gives.
 use Rattle.std.proofs.Common.{◌≡◌, ℕ, zero, suc, ◌/◌, ◌<◌, nat_lt, List, [], ◌∷◌, ◌++◌, Bool, true, Option, None, Some, length, take, replicate, refl, ap, sym, ◌∙◌, subst, arith}
-use Rattle.std.specs.Prelude.{IsTrue, slice_get}
+use Rattle.std.specs.Prelude.{⊤, IsTrue, slice_get}
 use Rattle.std.proofs.Math.Seq.{take-length, take-append_seam}
 use Rattle.std.proofs.lemmas.Bool.{lt-ltb, ltb-true}
 use Rattle.std.proofs.lemmas.List.{length-replicate}
@@ -9,6 +9,7 @@ use Rattle.pdh_edge.specs.Ports.{Inputs, Outputs, before, after}
 use Rattle.pdh_edge.specs.MemLists.{inputs_of, outputs_of, length_of, bits_held}
 use Rattle.pdh_nesting.specs.Chains.{width}
 use Rattle.pdh_nesting.specs.Receiving.{far}
+use Rattle.pdh_watch.specs.declared.event.Event.{Event}
 use Rattle.pdh_chain.specs.declared.chain.Chain.{Chain}
 use Rattle.pdh_chain.specs.Chains.{shapes_of, leaves_of}
 use Rattle.pdh_chain.specs.Demuxes.{Demuxes, DemuxesPart, received_of, top_delivered}
@@ -31,14 +32,14 @@ empty_list (suc n) zero low = refl
 empty_list (suc n) (suc k) low = empty_list n k (omega arith)
 
 -- it has room for a leaf's share of the line
-pub shares_in_room : (chain : Chain) (bits k : ℕ) (room : ℕ → ℕ) (inputs inputs_now : Inputs) (outputs outputs_now : Outputs) → outputs ≡ outputs_of (replicate (leaves_of chain) []) → outputs_now.holds ≡ outputs.holds
-    → ((k : ℕ) → k < leaves_of chain → bits / leaves_of chain < room k) → DemuxesPart (shapes_of chain) bits inputs inputs_now outputs outputs_now → IsTrue (outputs_now.holds k) → bits_held outputs_now k < room k
-shares_in_room chain bits k room inputs inputs_now outputs outputs_now opened holds enough put held =
+pub shares_in_room : (chain : Chain) (sees : List Event → Type 0) (bits k : ℕ) (room : ℕ → ℕ) (inputs inputs_now : Inputs) (outputs outputs_now : Outputs) → outputs ≡ outputs_of (replicate (leaves_of chain) []) → outputs_now.holds ≡ outputs.holds
+    → ((k : ℕ) → k < leaves_of chain → bits / leaves_of chain < room k) → DemuxesPart (shapes_of chain) sees bits inputs inputs_now outputs outputs_now → IsTrue (outputs_now.holds k) → bits_held outputs_now k < room k
+shares_in_room chain sees bits k room inputs inputs_now outputs outputs_now opened holds enough put held =
     let is : IsTrue (nat_lt k (length (replicate (leaves_of chain) []))) = subst IsTrue (ap (λ h. h k) holds ∙ ap (λ (o : Outputs). o.holds k) opened) held in
     let less : k < length (replicate {A = List Bool} (leaves_of chain) []) = ltb-true _ _ is in
     let low : k < leaves_of chain = omega (arith, less, length-replicate {A = List Bool} (leaves_of chain) []) in
     let empty : bits_held outputs k ≡ 0 = ap (λ (o : Outputs). bits_held o k) opened ∙ ap length_of (empty_list (leaves_of chain) k low) in
-    let most = demux_short (shapes_of chain) bits inputs inputs_now outputs outputs_now (are_frames chain) put k in
+    let most = demux_short (shapes_of chain) sees bits inputs inputs_now outputs outputs_now (are_frames chain) put k in
     omega (arith, most, empty, enough k low)
 
 -- ---- the line
@@ -59,11 +60,16 @@ list_put chain given k outputs outputs_now low empty put =
     let bits : received_of (shapes_of chain) given k ≡ far (shapes_of chain) given k = rw known refl in
     put ∙ ap (after (received_of (shapes_of chain) given k)) empty ∙ ap Some bits
 
+-- whatever was seen
+pub whatever_seen : (chain : Chain) (sees : List Event → Type 0) (bits frames : ℕ) (inputs inputs_now : Inputs) (outputs outputs_now : Outputs) → Demuxes (shapes_of chain) sees bits frames inputs inputs_now outputs outputs_now
+    → Demuxes (shapes_of chain) (λ events. ⊤) bits frames inputs inputs_now outputs outputs_now
+whatever_seen chain sees bits frames inputs inputs_now outputs outputs_now d = record { given = d.given; count = d.count; line = d.line; seen = tt; frames_are = d.frames_are }
+
 -- a line that was taken apart whole, and the bytes of what was put
-pub is_received : (chain : Chain) (line : List ℕ) (bits : List Bool) (count leaves : ℕ) (inputs inputs_now : Inputs) (outputs outputs_now : Outputs) (result : Received) → bits ≡ bits_of line → count ≡ length bits → leaves ≡ leaves_of chain →
-    inputs ≡ inputs_of (bits ∷ []) → outputs ≡ outputs_of (replicate leaves []) → Demuxes (shapes_of chain) count result.frames inputs inputs_now outputs outputs_now → AreBytes outputs_now leaves result.outputs.items → IsReceived chain line result
+pub is_received : (chain : Chain) (sees : List Event → Type 0) (line : List ℕ) (bits : List Bool) (count leaves : ℕ) (inputs inputs_now : Inputs) (outputs outputs_now : Outputs) (result : Received) → bits ≡ bits_of line → count ≡ length bits → leaves ≡ leaves_of chain →
+    inputs ≡ inputs_of (bits ∷ []) → outputs ≡ outputs_of (replicate leaves []) → Demuxes (shapes_of chain) sees count result.frames inputs inputs_now outputs outputs_now → AreBytes outputs_now leaves result.outputs.items → IsReceived chain line result
 unfolding output_of
-is_received chain line bits count leaves inputs inputs_now outputs outputs_now result made long all inputs_are outputs_are demuxes bytes =
+is_received chain sees line bits count leaves inputs inputs_now outputs outputs_now result made long all inputs_are outputs_are demuxes bytes =
     let told : Some bits ≡ before demuxes.given (inputs_now.told 0) = sym (ap (λ (i : Inputs). i.told 0) inputs_are) ∙ demuxes.line.takes.bits 0 in
     let same : demuxes.given ≡ bits_of line = all_given (inputs_now.told 0) demuxes.given bits told (demuxes.count ∙ long) ∙ made in
     record {

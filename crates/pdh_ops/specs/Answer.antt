@@ -5,7 +5,7 @@ use Rattle.pdh_line.specs.Paths.{steps_of, path_text}
 use Rattle.pdh_chain.specs.Chains.{name_of as name_of_chain}
 use Rattle.pdh_ops.specs.Names.{name_of}
 use Rattle.pdh_ops.specs.declared.answer.Done.{Done}
-use Rattle.pdh_ops.specs.declared.answer.Done.TheVariants.{Demuxed, Muxed, ClockInside, ClockOutside, ClockMade, E1Packed, E1Unpacked}
+use Rattle.pdh_ops.specs.declared.answer.Done.TheVariants.{Demuxed, Muxed, ClockInside, ClockOutside, ClockMade, E1Packed, E1Unpacked, Inspected, E1Inspected, Shown}
 use Rattle.pdh_ops.specs.declared.answer.E1Counts.{E1Counts}
 use Rattle.pdh_ops.specs.declared.answer.OutOfTolerance.{OutOfTolerance}
 use Rattle.pdh_ops.specs.declared.answer.Stop.{Stop}
@@ -52,7 +52,7 @@ outside_text out =
 abbrev pub counts_text : E1Counts → List ℕ
 counts_text found = decimal found.multiframes ++ codes " blocks " ++ decimal found.blocks ++ codes " errored " ++ decimal found.errored
 
--- each text is one line
+-- Each text is one line, but for that of a frame. What an inspection did stands behind the lines of the monitors.
 abbrev pub done_text : Done → List ℕ
 done_text (Demuxed chain frames) = codes "demux " ++ name_of_chain chain ++ codes ": frames " ++ decimal frames ++ codes "\n"
 done_text (Muxed chain frames) = codes "mux " ++ name_of_chain chain ++ codes ": frames " ++ decimal frames ++ codes "\n"
@@ -61,6 +61,9 @@ done_text (ClockOutside chain out) = codes "clock " ++ name_of_chain chain ++ co
 done_text (ClockMade chain rows) = codes "clock " ++ name_of_chain chain ++ codes ": rows " ++ decimal rows ++ codes "\n"
 done_text (E1Packed multiframes) = codes "e1pack: multiframes " ++ decimal multiframes ++ codes "\n"
 done_text (E1Unpacked found) = codes "e1unpack: multiframes " ++ counts_text found ++ codes "\n"
+done_text (Inspected chain frames events) = codes "inspect " ++ name_of_chain chain ++ codes ": frames " ++ decimal frames ++ codes " events " ++ decimal events ++ codes "\n"
+done_text (E1Inspected multiframes events) = codes "inspect e1: multiframes " ++ decimal multiframes ++ codes " events " ++ decimal events ++ codes "\n"
+done_text (Shown text) = text
 
 abbrev pub stop_text : Stop → List ℕ
 stop_text Memory = codes "memory\n"
@@ -79,7 +82,3 @@ stop_text (Underflow place) = codes "underflow: " ++ place_text place ++ codes "
 stop_text (ManyFrames frames) = codes "too many frames: " ++ decimal frames ++ codes "\n"
 stop_text (NoAlignment bits) = codes "no alignment: " ++ decimal bits ++ codes " bits\n"
 stop_text (NotWhole octets) = codes "not a whole multiframe: " ++ decimal octets ++ codes " octets\n"
-
-abbrev pub text_of : Answer → List ℕ
-text_of (Ok done) = done_text done
-text_of (Err stop) = stop_text stop

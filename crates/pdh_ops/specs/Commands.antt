@@ -11,8 +11,9 @@ use Rattle.pdh_ops.specs.Schedules.{Files, bytes_in, rows_of, rows_in}
 use Rattle.pdh_ops.specs.Mux.{mux_inputs, all_held, muxed, line_bytes}
 use Rattle.pdh_ops.specs.Clock.{check_inputs, checked, made_text, clock_made}
 use Rattle.pdh_ops.specs.E1.{payload_of, e1_packed, packed_line, framed_of, e1_unpacked, unpacked_payload}
+use Rattle.pdh_ops.specs.Inspect.{inspected, e1_inspected, line_to_show, frame_shown}
 use Rattle.pdh_words.specs.declared.commands.Command.{Command}
-use Rattle.pdh_words.specs.declared.commands.Command.TheVariants.{Demux, Mux, ClockCheck, ClockMake, E1Pack, E1Unpack}
+use Rattle.pdh_words.specs.declared.commands.Command.TheVariants.{Demux, Mux, ClockCheck, ClockMake, Inspect, InspectE1, Show, E1Pack, E1Unpack}
 use Rattle.pdh_ops.specs.declared.file.File.{File}
 use Rattle.pdh_ops.specs.declared.file.File.TheVariants.{Schedule}
 use Rattle.pdh_ops.specs.declared.answer.Stop.TheVariants.{Overflow, Underflow, NoAlignment}
@@ -34,6 +35,9 @@ inputs (Demux chain) = record { count = 1; name = λ _. line_name }
 inputs (Mux chain feac) = record { count = suc (leaves_of chain); name = mux_input }
 inputs (ClockCheck chain) = record { count = 1; name = λ _. schedule_name }
 inputs (ClockMake chain frames bias) = record { count = 0; name = λ _. schedule_name }
+inputs (Inspect chain) = record { count = 1; name = λ _. line_name }
+inputs InspectE1 = record { count = 1; name = λ _. e1_name }
+inputs (Show chain frame) = record { count = 1; name = λ _. line_name }
 inputs E1Pack = record { count = 1; name = λ _. payload_name }
 inputs E1Unpack = record { count = 1; name = λ _. e1_name }
 
@@ -43,6 +47,9 @@ outputs (Demux chain) = record { count = leaves_of chain; name = output_name }
 outputs (Mux chain feac) = record { count = 1; name = λ _. line_name }
 outputs (ClockCheck chain) = record { count = 0; name = λ _. schedule_name }
 outputs (ClockMake chain frames bias) = record { count = 1; name = λ _. schedule_name }
+outputs (Inspect chain) = record { count = 0; name = λ _. line_name }
+outputs InspectE1 = record { count = 0; name = λ _. e1_name }
+outputs (Show chain frame) = record { count = 0; name = λ _. line_name }
 outputs E1Pack = record { count = 1; name = λ _. e1_name }
 outputs E1Unpack = record { count = 1; name = λ _. payload_out_name }
 
@@ -52,6 +59,9 @@ output_bytes (Demux chain) files leaf = output_of chain (bytes_in files line_nam
 output_bytes (Mux chain feac) files _ = line_bytes chain feac files (rows_in chain files)
 output_bytes (ClockCheck chain) files _ = []
 output_bytes (ClockMake chain frames bias) files _ = made_text chain frames bias
+output_bytes (Inspect chain) files _ = []
+output_bytes InspectE1 files _ = []
+output_bytes (Show chain frame) files _ = []
 output_bytes E1Pack files _ = packed_line (bytes_in files payload_name)
 output_bytes E1Unpack files _ = unpacked_payload (bytes_in files e1_name)
 
@@ -61,6 +71,9 @@ comes_to (Demux chain) files = and_then (line_of chain (files line_name)) (demux
 comes_to (Mux chain feac) files = and_then (all_held (mux_inputs chain) files) (λ _. and_then (rows_of chain (bytes_in files schedule_name)) (muxed chain files))
 comes_to (ClockCheck chain) files = and_then (all_held check_inputs files) (λ _. and_then (rows_of chain (bytes_in files schedule_name)) (λ rows. Ok (checked chain rows)))
 comes_to (ClockMake chain frames bias) files = clock_made chain frames bias
+comes_to (Inspect chain) files = and_then (line_of chain (files line_name)) (inspected chain)
+comes_to InspectE1 files = and_then (framed_of (files e1_name)) e1_inspected
+comes_to (Show chain frame) files = and_then (line_to_show chain frame (files line_name)) (frame_shown chain frame)
 comes_to E1Pack files = and_then (payload_of (files payload_name)) e1_packed
 comes_to E1Unpack files = and_then (framed_of (files e1_name)) e1_unpacked
 

@@ -5,7 +5,9 @@ pub mod Schedules
 pub mod Mux
 pub mod Clock
 pub mod E1
+pub mod Inspect
 pub mod Commands
+pub mod Lines
 pub mod Run
 pub mod Reading
 pub mod Refusing

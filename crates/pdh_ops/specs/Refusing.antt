@@ -2,6 +2,7 @@
 use Rattle.std.specs.Prelude.{⊤, Err}
 use Rattle.pdh_edge.specs.Files.{ShelfState}
 use Rattle.pdh_words.specs.declared.commands.Command.{Command}
+use Rattle.pdh_words.specs.declared.commands.Command.TheVariants.{InspectE1, E1Unpack}
 use Rattle.pdh_ops.specs.Run.{Comes, FailsInTurn}
 use Rattle.pdh_ops.specs.declared.answer.Stop.{Stop}
 use Rattle.pdh_ops.specs.declared.answer.Stop.TheVariants.{Memory, Usage, Read, Write, Overflow, Underflow, NoAlignment}
@@ -16,3 +17,7 @@ Refuses command old new (Overflow place) = ⊥
 Refuses command old new (Underflow place) = ⊥
 Refuses command old new (NoAlignment bits) = ⊥
 Refuses command old new stop = Comes command old (Err stop)
+
+-- the framed line is refused, whichever command reads it
+abbrev pub RefusesFramed : ShelfState → ShelfState → Stop → Type 0
+RefusesFramed old new stop = Refuses E1Unpack old new stop × Refuses InspectE1 old new stop

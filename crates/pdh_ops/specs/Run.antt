@@ -1,13 +1,18 @@
 -- What a run does, whatever its command.
 use Rattle.std.specs.Prelude.{◌≡◌, ◌⊎◌, ℕ, ◌<◌, List, [], ⊤, true, Option, Some, None, Result, Ok, Err}
-use Rattle.pdh_edge.specs.Files.{ShelfState, Counts, with_read_fault, with_write_fault, with_miss, SinkState, Rose, FailsToRead, FailsToWrite, Holds, HoldsPrefix, Sends, FailsToSend}
+use Rattle.pdh_edge.specs.Files.{ShelfState, Counts, with_read_fault, with_write_fault, with_miss, SinkState, Rose, FailsToRead, FailsToWrite, Holds, HoldsPrefix}
 use Rattle.pdh_edge.specs.Files.Told.{Known}
 use Rattle.pdh_edge.specs.declared.shelf.Call.TheVariants.{Size as SizeCall, Read as ReadCall, Start as StartCall, Append as AppendCall}
-use Rattle.pdh_ops.specs.Names.{name_of}
-use Rattle.pdh_ops.specs.Schedules.{Files}
-use Rattle.pdh_ops.specs.Answer.{Answer, status_of, done_text, stop_text}
+use Rattle.pdh_watch.specs.declared.event.Event.{Event}
+use Rattle.pdh_watch.specs.Monitors.{State, SawEach}
+use Rattle.pdh_inspect.specs.Seen.{line_events, framed_events}
+use Rattle.pdh_ops.specs.Names.{name_of, line_name, e1_name}
+use Rattle.pdh_ops.specs.Schedules.{Files, bytes_in}
+use Rattle.pdh_ops.specs.Answer.{Answer}
+use Rattle.pdh_ops.specs.Lines.{IsTold}
 use Rattle.pdh_ops.specs.Commands.{inputs, outputs, output_bytes, comes_to, AreTold, OfInputs, IsOutput, reaches_outputs, AreHeld, IsReadDue}
 use Rattle.pdh_words.specs.declared.commands.Command.{Command}
+use Rattle.pdh_words.specs.declared.commands.Command.TheVariants.{Inspect, InspectE1}
 use Rattle.pdh_ops.specs.declared.file.File.{File}
 use Rattle.pdh_ops.specs.declared.answer.Stop.{Stop}
 use Rattle.pdh_ops.specs.declared.answer.Stop.TheVariants.{Memory, Usage, Read, Write, Missing, Overflow, Underflow, NoAlignment}
@@ -130,23 +135,30 @@ abbrev pub Does : Option Command → ShelfState → ShelfState → Answer → Ty
 Does None old new answer = (answer ≡ Err Usage) × (new ≡ old)
 Does (Some command) old new answer = Performs command old new answer
 
+-- ---- what the monitors see
+
+-- the monitors saw the events of the command's input, each of them all, in order
+abbrev pub SeeEvents : Command → ShelfState → (Files → List Event) → List State → List State → Type 0
+SeeEvents command old events_of before after = (events : List Event) × SawEach before events after × OfInputs command old (λ files. events ≡ events_of files)
+
+-- An inspection that did its work showed the monitors the events of its line; every other run leaves them as they were.
+abbrev pub Watches : Option Command → ShelfState → Answer → List State → List State → Type 0
+Watches (Some (Inspect chain)) old (Ok done) before after = SeeEvents (Inspect chain) old (λ files. line_events chain (bytes_in files line_name)) before after
+Watches (Some InspectE1) old (Ok done) before after = SeeEvents InspectE1 old (λ files. framed_events (bytes_in files e1_name)) before after
+Watches command old answer before after = after ≡ before
+
 -- ---- what it tells
 
--- An answer is told by its status and its text. Where the sink failed, it got a prefix of the text; the status of what
--- was done is 4 then, and any other status stays.
-abbrev pub IsTold : Answer → SinkState → SinkState → ℕ → Type 0
-IsTold (Ok done) old new status = ((status ≡ 0) × Sends (done_text done) old new) ⊎ ((status ≡ 4) × FailsToSend (done_text done) old new)
-IsTold (Err stop) old new status = (status ≡ status_of stop) × (Sends (stop_text stop) old new ⊎ FailsToSend (stop_text stop) old new)
-
--- what a run does with the command of its words, to the shelf and to the sink
-pub record Runs (command : Option Command) (old new : ShelfState) (before after : SinkState) (status : ℕ) : Type 0 where
+-- what a run does with the command of its words, to the shelf, to the monitors and to the sink
+pub record Runs (command : Option Command) (old new : ShelfState) (before after : SinkState) (seen_before seen_after : List State) (status : ℕ) : Type 0 where
   pub answer : Answer
   pub does : Does command old new answer
-  pub told : IsTold answer before after status
+  pub watches : Watches command old answer seen_before seen_after
+  pub told : IsTold seen_after answer before after status
 
 -- where the inputs are told and no fault of the shelf rose, a run tells exactly what they come to, or want of memory
-abbrev pub Completes : Option Command → ShelfState → ShelfState → SinkState → SinkState → ℕ → Type 0
-Completes None old new before after status = ⊤
-Completes (Some command) old new before after status =
+abbrev pub Completes : Option Command → ShelfState → ShelfState → SinkState → SinkState → List State → ℕ → Type 0
+Completes None old new before after seen_after status = ⊤
+Completes (Some command) old new before after seen_after status =
     (files : Files) → AreTold command old.told files → ¬ Rose old.counts.read_faults new.counts.read_faults → ¬ Rose old.counts.write_faults new.counts.write_faults
-    → IsTold (Err Memory) before after status ⊎ IsTold (comes_to command files) before after status
+    → IsTold seen_after (Err Memory) before after status ⊎ IsTold seen_after (comes_to command files) before after status

@@ -3,6 +3,7 @@ use pdh_chain::Chain;
 use pdh_clock::{Outside, ScheduleFault};
 use pdh_shape::{Path, Place};
 use std::alloc::AllocError;
+use std::marker::Model;
 
 /// A tributary that isn't within the tolerance.
 #[derive(Clone, Copy, Debug, PartialEq, Eq)]
@@ -26,8 +27,40 @@ pub struct E1Counts {
     pub errored: u64,
 }
 
+/// The text that shows a frame.
+#[derive(Drop)]
+pub struct FrameText {
+    bytes: Vec<u8>,
+}
+
+impl Model for FrameText {
+    ghost use Rattle.std.specs.Prelude.{List, ℕ};
+
+    ghost Value = { List ℕ };
+
+    ghost view = { λ t. t.bytes.items };
+}
+
+impl FrameText {
+    ghost use Rattle.std.specs.Prelude.{◌≡◌};
+
+    /// Of these bytes.
+    pub fn new(bytes: Vec<u8>) -> FrameText
+        ensures { result ≡ bytes.items }
+    {
+        FrameText { bytes }
+    }
+
+    /// Its bytes.
+    pub fn bytes(&self) -> &[u8]
+        ensures { result.now ≡ self.now }
+    {
+        &self.bytes
+    }
+}
+
 /// What a command did, with the numbers of its text.
-#[derive(Clone, Copy, Debug, PartialEq, Eq)]
+#[derive(Drop)]
 pub enum Done {
     /// `demux`, with the whole frames of the line.
     Demuxed(Chain, u64),
@@ -43,6 +76,12 @@ pub enum Done {
     E1Packed(u64),
     /// `e1unpack`, with what was found in the line.
     E1Unpacked(E1Counts),
+    /// `inspect` of a chain, with the delivered frames of the line and its events.
+    Inspected(Chain, u64, u64),
+    /// `inspect e1`, with the delivered multiframes of the line and its events.
+    E1Inspected(u64, u64),
+    /// `show`, with its text.
+    Shown(FrameText),
 }
 
 /// Why a command ended early. Lines of a text are counted from 1.

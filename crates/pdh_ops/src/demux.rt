@@ -1,4 +1,4 @@
-ghost use Rattle.std.specs.Prelude.{◌≡◌, ◌<◌, ◌/◌, ◌^◌, ℕ, [], ◌∷◌, length, replicate, IsTrue, IfOk, OnOk, OnErr, IfErr, Some, Ok, Vec, slice_index_or};
+ghost use Rattle.std.specs.Prelude.{◌≡◌, ⊤, ◌<◌, ◌/◌, ◌^◌, ℕ, [], ◌∷◌, length, replicate, IsTrue, IfOk, OnOk, OnErr, IfErr, Some, Ok, Vec, slice_index_or};
 ghost use Rattle.std.specs.declared.alloc.Global.{Global};
 ghost use Rattle.pdh_edge.specs.Files.{TouchesOnly, Holds, HoldsPrefix};
 ghost use Rattle.pdh_edge.specs.MemLists.{inputs_of, outputs_of, room_of};
@@ -74,7 +74,7 @@ fn deliver(alloc: Global, chain: Chain, bits: u64, port: &mut MemPort) -> Result
     requires fresh { ⟦<MemPort as Port>⟧.fresh port.old }
     requires faults { ⟦<MemPort as Drain>⟧.drain_faults port.old ≡ 0 }
     requires room { (k : ℕ) → k < leaves_of chain → bits / leaves_of chain < room_of port.old k }
-    ensures ok { IfOk result (λ frames. Demuxes (shapes_of chain) bits frames (⟦<MemPort as Feed>⟧.inputs port.old) (⟦<MemPort as Feed>⟧.inputs port.new) (⟦<MemPort as Drain>⟧.outputs port.old) (⟦<MemPort as Drain>⟧.outputs port.new)) }
+    ensures ok { IfOk result (λ frames. Demuxes (shapes_of chain) (λ events. ⊤) bits frames (⟦<MemPort as Feed>⟧.inputs port.old) (⟦<MemPort as Feed>⟧.inputs port.new) (⟦<MemPort as Drain>⟧.outputs port.old) (⟦<MemPort as Drain>⟧.outputs port.new)) }
     ensures err { OnErr result (⟦<MemPort as Port>⟧.fresh port.new) }
     ensures leaves { (k : ℕ) → k < leaves_of chain → IsTrue ((⟦<MemPort as Drain>⟧.outputs port.new).holds k) }
 {

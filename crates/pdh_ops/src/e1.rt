@@ -6,7 +6,7 @@ ghost use Rattle.pdh_words.specs.declared.commands.Command.TheVariants.{E1Pack, 
 ghost use Rattle.pdh_ops.specs.Names.{payload_name, e1_name};
 ghost use Rattle.pdh_ops.specs.E1.{payload_of, packed_line, framed_of};
 ghost use Rattle.pdh_ops.specs.E1Steps.{IsUnpacked};
-ghost use Rattle.pdh_ops.specs.Refusing.{Refuses};
+ghost use Rattle.pdh_ops.specs.Refusing.{Refuses, RefusesFramed};
 ghost use Rattle.pdh_ops.specs.Run.{IsCounted, Performs};
 ghost use Rattle.pdh_ops.specs.declared.answer.Stop.TheVariants.{Memory};
 ghost use Rattle.pdh_shape.specs.OwnNumbers.{most_frames};
@@ -73,12 +73,12 @@ pub fn e1pack<S: Shelf>(alloc: Global, shelf: &mut S) -> Result<Done, Stop>
 }
 
 // The framed line, if it has no more frames than a line may have.
-fn read_framed<S: Shelf>(alloc: Global, shelf: &mut S) -> Result<Vec<u8>, Stop>
+pub fn read_framed<S: Shelf>(alloc: Global, shelf: &mut S) -> Result<Vec<u8>, Stop>
     ensures looks { Looks (S.state shelf.old) (S.state shelf.new) }
     ensures line { IfOk result (λ line. Holds ((S.state shelf.old).told e1_name) line.items) }
     ensures served { IfOk result (λ line. framed_of (Some line.items) ≡ Ok line.items) }
     ensures few { IfOk result (λ line. length line.items / 32 ≤ most_frames) }
-    ensures err { IfErr result (Refuses E1Unpack (S.state shelf.old) (S.state shelf.new)) }
+    ensures err { IfErr result (RefusesFramed (S.state shelf.old) (S.state shelf.new)) }
     ensures counted { IsCounted (S.state shelf.old) (S.state shelf.new) result }
 {
     let octets = size(shelf, File::E1Line)?;

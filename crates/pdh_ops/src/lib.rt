@@ -7,11 +7,13 @@ mod demux;
 mod e1;
 mod file;
 mod files;
+mod inspect;
 mod leaf;
 mod line;
 mod mux;
 mod program;
 mod report;
 mod schedule;
+mod show;
 
 pub use program::{Ran, run};

@@ -1,7 +1,7 @@
 ghost use Rattle.std.specs.Prelude.{◌≡◌, map};
 ghost use Rattle.std.specs.String.{string_bytes};
-ghost use Rattle.pdh_words.specs.Commands.{command_of, HasCode};
-ghost use Rattle.pdh_ops.specs.Run.{Performs, Does, Runs, Completes};
+ghost use Rattle.pdh_words.specs.Commands.{command_of};
+ghost use Rattle.pdh_ops.specs.Run.{Does, Watches, Runs, Completes};
 ghost use Rattle.pdh_ops.specs.GivesBack.{GivesBack};
 ghost use Rattle.pdh_ops.specs.Packs.{Packs};
 ghost use Rattle.pdh_ops.specs.Tolerated.{HasNoEvent, IsDelayed};
@@ -10,9 +10,12 @@ use crate::answer::{Done, Stop};
 use crate::clock::{check, make};
 use crate::demux::demux;
 use crate::e1::{e1pack, e1unpack};
+use crate::inspect::{inspect, inspect_e1};
 use crate::mux::mux;
 use crate::report::report;
+use crate::show::show;
 use pdh_edge::{Shelf, Sink};
+use pdh_watch::Monitor;
 use pdh_words::{Command, command};
 use std::alloc::Global;
 
@@ -24,10 +27,19 @@ pub struct Ran<S, K> {
     pub out: K,
 }
 
-fn perform<S: Shelf>(alloc: Global, command: Command, shelf: &mut S) -> Result<Done, Stop>
-    requires code { HasCode command }
-    ensures { Performs command (S.state shelf.old) (S.state shelf.new) result }
+// Does what the words command.
+fn answer<S: Shelf>(
+    alloc: Global,
+    words: &[String],
+    shelf: &mut S,
+    monitors: &mut Vec<Box<dyn Monitor>>,
+) -> Result<Done, Stop>
+    ensures does { Does (command_of (map string_bytes words.now)) (S.state shelf.old) (S.state shelf.new) result }
+    ensures watches { Watches (command_of (map string_bytes words.now)) (S.state shelf.old) result (map ⟦<Box<dyn Monitor> as Monitor>⟧.state monitors.old.items) (map ⟦<Box<dyn Monitor> as Monitor>⟧.state monitors.new.items) }
 {
+    let Some(command) = command(words) else {
+        return Err(Stop::Usage);
+    };
     match command {
         Command::Demux { chain } => demux(alloc, chain, shelf),
         Command::Mux { chain, feac } => mux(alloc, chain, feac, shelf),
@@ -37,27 +49,23 @@ fn perform<S: Shelf>(alloc: Global, command: Command, shelf: &mut S) -> Result<D
             frames,
             bias,
         } => make(alloc, chain, frames, bias, shelf),
+        Command::Inspect { chain } => inspect(alloc, chain, shelf, monitors),
+        Command::InspectE1 => inspect_e1(alloc, shelf, monitors),
+        Command::Show { chain, frame } => show(alloc, chain, frame, shelf),
         Command::E1Pack => e1pack(alloc, shelf),
         Command::E1Unpack => e1unpack(alloc, shelf),
     }
 }
 
-fn answer<S: Shelf>(alloc: Global, words: &[String], shelf: &mut S) -> Result<Done, Stop>
-    ensures { Does (command_of (map string_bytes words.now)) (S.state shelf.old) (S.state shelf.new) result }
-{
-    match command(words) {
-        Some(command) => perform(alloc, command, shelf),
-        None => Err(Stop::Usage),
-    }
-}
-
 /// Does all that the program does with its words (without its own name), over a shelf of files and
-/// a sink for its text, and hands both back on every path.
+/// a sink for its text, and hands both back on every path. `inspect` shows the events of its line to
+/// the monitors, and writes what each of them says; other commands leave them.
 ///
 /// The statuses: 0, the command did its work; 1, memory was wanting; 2, the words are no row of the
 /// table; 3, a call of the shelf failed to read; 4, a call of the shelf failed to write, or the
 /// sink failed to take the text of status 0; 5, an input isn't held; 6, the schedule's text has a
-/// fault; 7, the schedule has too few frames of a node below the top, or a leaf's file too few bits; 8,
+/// fault; 7, the schedule has too few frames of a node below the top, a leaf's file too few bits, or the
+/// line no such frame to show; 8,
 /// an elastic store overflows or underflows, and the line ends before the frame in whose making that
 /// happens; 10, the line, or the schedule that is asked for, has too many frames; 11, no frame of the
 /// line, or in `e1unpack` no multiframe, was delivered, and the outputs hold what the search gives; 12, the payload doesn't fill
@@ -67,8 +75,9 @@ pub fn run<S: Shelf, K: Sink>(
     words: &[String],
     mut shelf: S,
     mut out: K,
+    monitors: &mut Vec<Box<dyn Monitor>>,
 ) -> Ran<S, K>
-    ensures runs { Runs (command_of (map string_bytes words.now)) (S.state shelf) (S.state result.shelf) (K.state out) (K.state result.out) result.status }
+    ensures runs { Runs (command_of (map string_bytes words.now)) (S.state shelf) (S.state result.shelf) (K.state out) (K.state result.out) (map ⟦<Box<dyn Monitor> as Monitor>⟧.state monitors.old.items) (map ⟦<Box<dyn Monitor> as Monitor>⟧.state monitors.new.items) result.status }
     // What `mux` wrote, `demux` gives back in order.
     ensures gives_back { GivesBack (command_of (map string_bytes words.now)) (S.state shelf) (S.state result.shelf) result.status }
     // What `e1pack` wrote is the packed line of its payload.
@@ -78,9 +87,9 @@ pub fn run<S: Shelf, K: Sink>(
     ensures no_event { HasNoEvent (command_of (map string_bytes words.now)) (S.state shelf) result.status }
     ensures delay { IsDelayed (command_of (map string_bytes words.now)) (S.state shelf) (S.state result.shelf) result.status }
     // The same as the first, said of inputs that are told and of a shelf without faults.
-    ensures completes { Completes (command_of (map string_bytes words.now)) (S.state shelf) (S.state result.shelf) (K.state out) (K.state result.out) result.status }
+    ensures completes { Completes (command_of (map string_bytes words.now)) (S.state shelf) (S.state result.shelf) (K.state out) (K.state result.out) (map ⟦<Box<dyn Monitor> as Monitor>⟧.state monitors.new.items) result.status }
 {
-    let answer = answer(alloc, words, &mut shelf);
-    let status = report(&mut out, answer);
+    let answer = answer(alloc, words, &mut shelf, monitors);
+    let status = report(&mut out, answer, monitors);
     Ran { status, shelf, out }
 }

@@ -1,15 +1,18 @@
-ghost use Rattle.std.specs.Prelude.{◌≡◌, ◌≤◌, ◌++◌, length, decimal, codes};
+ghost use Rattle.std.specs.Prelude.{◌≡◌, ◌≤◌, ◌++◌, ℕ, List, length, map, decimal, codes, OnOk, OnErr};
+ghost use Rattle.pdh_watch.specs.Monitors.{Says};
 ghost use Rattle.pdh_chain.specs.Chains.{name_of as name_of_chain};
 ghost use Rattle.pdh_line.specs.Paths.{steps_of, path_text};
 ghost use Rattle.pdh_ops.specs.Names.{name_of};
-ghost use Rattle.pdh_ops.specs.Answer.{text_of, done_text as done_of, stop_text as stop_of, place_text as place_of, outside_text as outside_of, counts_text};
-ghost use Rattle.pdh_ops.specs.Run.{IsTold};
+ghost use Rattle.pdh_ops.specs.Answer.{done_text as done_of, stop_text as stop_of, place_text as place_of, outside_text as outside_of, counts_text};
+ghost use Rattle.pdh_edge.specs.Files.{Sends, FailsToSend};
+ghost use Rattle.pdh_ops.specs.Lines.{AreLines, IsText, IsTold};
 
 use crate::answer::{Done, E1Counts, OutOfTolerance, Stop};
 use crate::file::File;
 use pdh_chain::Chain;
-use pdh_edge::Sink;
+use pdh_edge::{Failed, Sink};
 use pdh_shape::{Path, Place};
+use pdh_watch::Monitor;
 use pdh_words::Text;
 
 // A line of a part and a number.
@@ -218,18 +221,34 @@ fn short_node(node: Path, have: u64, need: u64) -> Text
     text
 }
 
-fn done_text(done: Done) -> Text
-    ensures { result ≡ done_of done }
+// The line of what an inspection of a chain's line found.
+#[tactic(auto, using(crate::proofs::Texts::digits))]
+fn inspected(chain: Chain, frames: u64, events: u64) -> Text
+    ensures { result ≡ codes "inspect " ++ name_of_chain chain ++ codes ": frames " ++ decimal frames ++ codes " events " ++ decimal events ++ codes "\n" }
 {
-    match done {
-        Done::Demuxed(chain, frames) => chain_counted("demux ", chain, ": frames ", frames),
-        Done::Muxed(chain, frames) => chain_counted("mux ", chain, ": frames ", frames),
-        Done::ClockInside(chain) => inside(chain),
-        Done::ClockOutside(chain, out) => outside(chain, out),
-        Done::ClockMade(chain, rows) => chain_counted("clock ", chain, ": rows ", rows),
-        Done::E1Packed(multiframes) => counted("e1pack: multiframes ", multiframes),
-        Done::E1Unpacked(found) => unpacked(found),
-    }
+    let mut text = Text::new();
+    text.text("inspect ");
+    text.text(chain.name());
+    text.text(": frames ");
+    text.number(frames);
+    text.text(" events ");
+    text.number(events);
+    text.text("\n");
+    text
+}
+
+// The line of what an inspection of a framed 2048 kbit/s line found.
+#[tactic(auto, using(crate::proofs::Texts::digits))]
+fn e1_inspected(multiframes: u64, events: u64) -> Text
+    ensures { result ≡ codes "inspect e1: multiframes " ++ decimal multiframes ++ codes " events " ++ decimal events ++ codes "\n" }
+{
+    let mut text = Text::new();
+    text.text("inspect e1: multiframes ");
+    text.number(multiframes);
+    text.text(" events ");
+    text.number(events);
+    text.text("\n");
+    text
 }
 
 fn stop_text(stop: Stop) -> Text
@@ -257,23 +276,74 @@ fn stop_text(stop: Stop) -> Text
     }
 }
 
-// The text of an answer, which is one line.
-fn text(answer: Result<Done, Stop>) -> Text
-    ensures { result ≡ text_of answer }
+// Writes what a monitor says, as a line.
+fn write_line<K: Sink>(out: &mut K, monitor: &Box<dyn Monitor>) -> Result<(), Failed>
+    ensures ok { OnOk result ((line : List ℕ) × Says (⟦<Box<dyn Monitor> as Monitor>⟧.state monitor.now) line × Sends (line ++ codes "\n") (K.state out.old) (K.state out.new)) }
+    ensures err { OnErr result ((line : List ℕ) × Says (⟦<Box<dyn Monitor> as Monitor>⟧.state monitor.now) line × FailsToSend (line ++ codes "\n") (K.state out.old) (K.state out.new)) }
 {
-    match answer {
-        Ok(done) => done_text(done),
-        Err(stop) => stop_text(stop),
-    }
+    let mut room = [0u8; 161];
+    let len = monitor.line(&mut room[..160]);
+    room[len] = b'\n';
+    out.write(&room[..len + 1])
 }
 
-/// Writes the text of an answer, and answers the status.
-pub fn report<K: Sink>(out: &mut K, answer: Result<Done, Stop>) -> u8
-    ensures { IsTold answer (K.state out.old) (K.state out.new) result }
+// Writes what each monitor says, a line each, and then a last line. A line that can't be written ends it.
+fn write_lines<K: Sink>(
+    out: &mut K,
+    monitors: &[Box<dyn Monitor>],
+    last: &[u8],
+) -> Result<(), Failed>
+    ensures ok { OnOk result ((lines : List ℕ) × AreLines (map ⟦<Box<dyn Monitor> as Monitor>⟧.state monitors.now) lines × Sends (lines ++ last.now) (K.state out.old) (K.state out.new)) }
+    ensures err { OnErr result ((lines : List ℕ) × AreLines (map ⟦<Box<dyn Monitor> as Monitor>⟧.state monitors.now) lines × FailsToSend (lines ++ last.now) (K.state out.old) (K.state out.new)) }
 {
-    match (answer, out.write(text(answer).bytes())) {
-        (Ok(_), Ok(())) => 0,
-        (Ok(_), Err(_)) => 4,
-        (Err(stop), _) => stop.status(),
+    for place in 0..monitors.len() {
+        write_line(out, &monitors[place])?;
+    }
+    out.write(last)
+}
+
+// Writes the text of what was done.
+fn write_done<K: Sink>(
+    out: &mut K,
+    monitors: &[Box<dyn Monitor>],
+    done: &Done,
+) -> Result<(), Failed>
+    ensures ok { OnOk result ((text : List ℕ) × IsText (map ⟦<Box<dyn Monitor> as Monitor>⟧.state monitors.now) done.now text × Sends text (K.state out.old) (K.state out.new)) }
+    ensures err { OnErr result ((text : List ℕ) × IsText (map ⟦<Box<dyn Monitor> as Monitor>⟧.state monitors.now) done.now text × FailsToSend text (K.state out.old) (K.state out.new)) }
+{
+    let text = match done {
+        Done::Inspected(chain, frames, events) => {
+            let last = inspected(*chain, *frames, *events);
+            return write_lines(out, monitors, last.bytes());
+        }
+        Done::E1Inspected(multiframes, events) => {
+            let last = e1_inspected(*multiframes, *events);
+            return write_lines(out, monitors, last.bytes());
+        }
+        Done::Shown(text) => return out.write(text.bytes()),
+        Done::Demuxed(chain, frames) => chain_counted("demux ", *chain, ": frames ", *frames),
+        Done::Muxed(chain, frames) => chain_counted("mux ", *chain, ": frames ", *frames),
+        Done::ClockInside(chain) => inside(*chain),
+        Done::ClockOutside(chain, out) => outside(*chain, *out),
+        Done::ClockMade(chain, rows) => chain_counted("clock ", *chain, ": rows ", *rows),
+        Done::E1Packed(multiframes) => counted("e1pack: multiframes ", *multiframes),
+        Done::E1Unpacked(found) => unpacked(*found),
+    };
+    out.write(text.bytes())
+}
+
+/// Writes the text of an answer, that of an inspection behind the lines of the monitors, and answers the status.
+pub fn report<K: Sink>(out: &mut K, answer: Result<Done, Stop>, monitors: &[Box<dyn Monitor>]) -> u8
+    ensures { IsTold (map ⟦<Box<dyn Monitor> as Monitor>⟧.state monitors.now) answer (K.state out.old) (K.state out.new) result }
+{
+    match answer {
+        Ok(done) => match write_done(out, monitors, &done) {
+            Ok(()) => 0,
+            Err(_) => 4,
+        },
+        Err(stop) => {
+            let _ = out.write(stop_text(stop).bytes());
+            stop.status()
+        }
     }
 }

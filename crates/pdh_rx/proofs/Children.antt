@@ -1,10 +1,11 @@
--- Bits for one child: what all the children then stand for, and what leaves have got.
+-- Bits for one child: what all the children then stand for, what leaves have got, and what is noted.
 use Rattle.std.proofs.Common.{◌≡◌, ◌⊎◌, inl, inr, ℕ, zero, suc, Bool, true, false, IsTrue, ◌||◌, List, [], ◌∷◌, ◌++◌, cond, refl, sym, ◌∙◌, ap, subst, arith, Some, slice_get, slice_set, eq-eqb}
 use Rattle.std.proofs.lemmas.List.{append-nil}
 use Rattle.std.proofs.lemmas.Bool.{cases_Bool, cases_eq, ne_eqb}
 use Rattle.pdh_edge.specs.Ports.{Outputs, for_leaf}
 use Rattle.pdh_rx.specs.Meaning.{Meaning, IsSound, Gains, GainsPart}
-use Rattle.pdh_rx.specs.Node.{EachStands, IsDisjoint, any_leaf, got_by, with_more}
+use Rattle.pdh_events.specs.Acts.{with_more}
+use Rattle.pdh_rx.specs.Node.{EachStands, IsDisjoint, any_leaf, got_by, child_notes}
 use Rattle.pdh_rx.specs.laws.NodeLaws.{got_by_same}
 
 -- what lies at j after a write at i
@@ -60,6 +61,15 @@ leaf_of_all (x ∷ ms) (suc t) m k e h = right (x.leaves k) (any_leaf ms k) (lea
     right : (a b : Bool) → IsTrue b → IsTrue (a || b)
     right true b h = refl
     right false b h = h
+
+-- what a bit for a child brings is what the child notes
+pub child_notes_at : (ms : List Meaning) (j : ℕ) (m : Meaning) (line : List Bool) (bit : Bool) → slice_get ms j ≡ Some m → child_notes ms j line bit ≡ m.notes line bit
+child_notes_at [] j m line bit e = absurd (no e)
+  where
+    no : slice_get {X = Meaning} [] j ≡ Some m → ⊥
+    no h = cc
+child_notes_at (x ∷ ms) zero m line bit e = let same : x ≡ m = cc in ap (λ v. v.notes line bit) same
+child_notes_at (x ∷ ms) (suc j) m line bit e = child_notes_at ms j m line bit e
 
 cond_step : (b : Bool) (x y x' y' more : List Bool) → (b ≡ true → x ≡ x' ++ more) → (b ≡ false → y ≡ y' ++ more) → cond b x y ≡ cond b x' y' ++ more
 cond_step true x y x' y' more f g = f refl

@@ -4,12 +4,21 @@ use Rattle.std.proofs.lemmas.List.{append-nil}
 use Rattle.pdh_edge.specs.Files.{Rose}
 use Rattle.pdh_edge.specs.Ports.{Outputs, PrefixOf, IsPrefix, HasCause, after, nothing}
 use Rattle.pdh_rx.specs.Meaning.{Meaning, Gains, GainsPart}
-use Rattle.pdh_rx.specs.Node.{EachStands, got_by, with_more, Gives, GivesPart}
+use Rattle.pdh_events.specs.Acts.{with_more}
+use Rattle.pdh_rx.specs.Node.{EachStands, got_by, Gives, GivesPart}
 use Rattle.pdh_rx.specs.laws.NodeLaws.{AllSound, got_by_same, got_by_grows}
 
 pub on_err_from : {T E : Type 0} (P : Type 0) (r : Result T E) → P → OnErr r P
 on_err_from P (Ok x) p = tt
 on_err_from P (Err e) p = p
+
+pub on_ok_from : {T E : Type 0} (P : Type 0) (r : Result T E) → P → OnOk r P
+on_ok_from P (Ok x) p = p
+on_ok_from P (Err e) p = tt
+
+pub on_err_both : {T E : Type 0} (P Q : Type 0) (r : Result T E) → OnErr r P → OnErr r Q → OnErr r (P × Q)
+on_err_both P Q (Ok x) p q = tt
+on_err_both P Q (Err e) p q = (p, q)
 
 pub on_ok_both : {T E : Type 0} (P Q : Type 0) (r : Result T E) → OnOk r P → OnOk r Q → OnOk r (P × Q)
 on_ok_both P Q (Ok x) p q = (p, q)
@@ -115,6 +124,11 @@ module _ {C : Type 0} (stands : C → List Bool → Type 0) (ms : List Meaning) 
   pub part_same : (more more' : ℕ → List Bool) (xs : List C) (o p : Outputs) → ((j : ℕ) → more' j ≡ more j) → GivesPart stands ms more xs o p → GivesPart stands ms more' xs o p
   part_same more more' xs o p h g = record {
     gains = λ lines each. part_is _ _ _ o p (λ k. got_by_same ms _ _ (λ j. ap (λ v. lines j ++ v) (h j)) k) (g.gains lines each);
+  }
+
+  pub part_below : (more more' : ℕ → List Bool) (xs : List C) (o p : Outputs) → ((j : ℕ) → j < length ms → more' j ≡ more j) → GivesPart stands ms more xs o p → GivesPart stands ms more' xs o p
+  part_below more more' xs o p h g = record {
+    gains = λ lines each. part_is _ _ _ o p (λ k. got_by_below ms _ _ (λ j lt. ap (λ v. lines j ++ v) (h j lt)) k) (g.gains lines each);
   }
 
   -- these bits and then those

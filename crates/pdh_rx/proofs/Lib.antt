@@ -1,9 +1,12 @@
 pub mod Tails
 pub mod Children
 pub mod Gains
-pub mod SlotBits
-pub mod Ones
-pub mod NodeSteps
+pub mod Playing
+pub mod SlotActs
+pub mod FrameBits
 pub mod StepBits
+pub mod StepActs
+pub mod NodeSteps
+pub mod NodePlays
 mod Shares
 mod FourTails

@@ -17,7 +17,8 @@ use Rattle.pdh_align.specs.declared.step.Step.{Step}
 use Rattle.pdh_align.specs.declared.step.Step.TheVariants.{Nothing, Rejected, Aligned, Frame, Lost}
 use Rattle.pdh_align.specs.Aligning.{Held, StandsFor, Grows, Tracks, Waits, Passes, frames_gained}
 use Rattle.pdh_rx.specs.Meaning.{Meaning, Gains, GainsPart, TakesBits, TakesPart}
-use Rattle.pdh_rx.specs.Node.{EachStands, IsDisjoint, received_lines, node_meaning, with_more, Gives, GivesPart, frames_bits, gap_after, gap_passed, frames_after, step_bits, IsGap, frames_counted, NodeStands}
+use Rattle.pdh_events.specs.Acts.{with_more}
+use Rattle.pdh_rx.specs.Node.{EachStands, IsDisjoint, received_lines, node_meaning, Gives, GivesPart, frames_bits, gap_after, gap_passed, frames_after, step_bits, IsGap, frames_counted, NodeStands}
 use Rattle.pdh_rx.specs.laws.NodeLaws.{got_by_same}
 use Rattle.pdh_line.proofs.DeliveredLaws.{count_append, count_frames, count_gap, frames_delivered-le}
 use Rattle.pdh_line.proofs.RightLines.{piece_bits_gap, track-short, received-short}
@@ -78,10 +79,10 @@ pieces_gain s j Rejected ready before after gap shape is g =
 pieces_gain s j Aligned ready before after gap shape is g =
     ap (flat_map (piece_bits s j)) g.4 ∙ flat_map-append (piece_bits s j) before (map Delivered ready) ∙ ap (λ v. flat_map (piece_bits s j) before ++ v) (frames_are s j ready)
 pieces_gain s j Frame ready before after gap shape is g =
-    ap (flat_map (piece_bits s j)) g.1 ∙ flat_map-append (piece_bits s j) before (map Delivered ready) ∙ ap (λ v. flat_map (piece_bits s j) before ++ v) (frames_are s j ready)
+    ap (flat_map (piece_bits s j)) g.4 ∙ flat_map-append (piece_bits s j) before (map Delivered ready) ∙ ap (λ v. flat_map (piece_bits s j) before ++ v) (frames_are s j ready)
 pieces_gain s j Lost ready before after gap shape is g =
     let none : 0 / s.len * s.low ≡ 0 = ap (λ v. v * s.low) (zero-div s.len) ∙ omega arith in
-    ap (flat_map (piece_bits s j)) g.1 ∙ flat_map-append (piece_bits s j) before (Gap 0 ∷ [])
+    ap (flat_map (piece_bits s j)) g.4 ∙ flat_map-append (piece_bits s j) before (Gap 0 ∷ [])
     ∙ ap (λ v. flat_map (piece_bits s j) before ++ v) (append-nil (piece_bits s j (Gap 0)) ∙ piece_bits_gap s j 0 ∙ ap (λ v. replicate v true) none)
 
 -- ---- the state after a step
@@ -137,9 +138,9 @@ gap_goes s Rejected ready before after gap shape is g others n e =
     let same : Gap (suc g.1) ≡ Gap n = same_last g.0 others (Gap (suc g.1)) (Gap n) (sym g.4 ∙ e) in
     mod_next s g.1 gap shape (is g.0 g.1 g.3) ∙ ap (λ p. gap_number p % s.len) same
 gap_goes s Aligned ready before after gap shape is g others n e = absurd (ends_delivered ready before others n (omega (arith, g.2)) (sym g.4 ∙ e))
-gap_goes s Frame ready before after gap shape is g others n e = absurd (ends_delivered ready before others n (omega (arith, g.0)) (sym g.1 ∙ e))
+gap_goes s Frame ready before after gap shape is g others n e = absurd (ends_delivered ready before others n (omega (arith, g.2)) (sym g.4 ∙ e))
 gap_goes s Lost ready before after gap shape is g others n e =
-    let same : Gap 0 ≡ Gap n = same_last before others (Gap 0) (Gap n) (sym g.1 ∙ e) in
+    let same : Gap 0 ≡ Gap n = same_last before others (Gap 0) (Gap n) (sym g.4 ∙ e) in
     let none : 0 ≡ 0 % s.len = omega (arith, shape.some_slots) in
     none ∙ ap (λ p. gap_number p % s.len) same
 
@@ -167,9 +168,9 @@ counts_go Rejected ready before after g =
 counts_go Aligned ready before after g =
     let b = ap (count_by is_delivered) g.4 ∙ count_append before (map Delivered ready) in omega (arith, b, made ready, g.2)
 counts_go Frame ready before after g =
-    let b = ap (count_by is_delivered) g.1 ∙ count_append before (map Delivered ready) in omega (arith, b, made ready, g.0)
+    let b = ap (count_by is_delivered) g.4 ∙ count_append before (map Delivered ready) in omega (arith, b, made ready, g.2)
 counts_go Lost ready before after g =
-    let b = ap (count_by is_delivered) g.1 ∙ count_append before (Gap 0 ∷ []) in omega (arith, b, count_gap 0)
+    let b = ap (count_by is_delivered) g.4 ∙ count_append before (Gap 0 ∷ []) in omega (arith, b, count_gap 0)
 
 stays : (a b most : ℕ) → min (min a most + b) most ≡ min (a + b) most
 stays a b most = omega arith
@@ -187,20 +188,19 @@ frames_exact s line shape short = omega (arith, short, frames_delivered-le s lin
 
 -- ---- the whole
 
-module _ {C : Type 0} (stands : C → List Bool → Type 0) (meaning : C → Meaning) (s : FrameShape) (path : Path) (shape : IsFrame s) (children : List C) (ones : List ℕ) (held held' : Held) (gap frames : ℕ) (step : Step) (bit : Bool) (line : List Bool)
-    (node : NodeStands stands meaning s children ones held gap frames line) (tracks : Tracks s held held' bit step line) (gap' : ℕ) (now : gap' ≡ gap_after s step gap) where
+module _ {C : Type 0} (stands : C → List Bool → Type 0) (meaning : C → Meaning) (s : FrameShape) (path : Path) (shape : IsFrame s) (children : List C) (held held' : Held) (gap frames : ℕ) (step : Step) (bit : Bool) (line : List Bool)
+    (node : NodeStands stands meaning s children held gap frames line) (tracks : Tracks s held held' bit step line) (gap' : ℕ) (now : gap' ≡ gap_after s step gap) where
   received_more : (j : ℕ) → received_lines s (line ++ bit ∷ []) j ≡ with_more (received_lines s line) (step_bits s step held'.ready gap') j
   received_more j =
       received_is s j (line ++ bit ∷ []) ∙ pieces_gain s j step held'.ready (track s line) (track s (line ++ bit ∷ [])) gap shape node.gap_is tracks.grows
       ∙ ap (λ v. v ++ step_bits s step held'.ready (gap_after s step gap) j) (sym (received_is s j line))
       ∙ ap (λ v. received_lines s line j ++ step_bits s step held'.ready v j) (sym now)
 
-  pub node_stands : (new : List C) (ones' : List ℕ) (frames' : ℕ) (o p : Outputs) → frames' ≡ frames_after step frames → length ones' ≡ length ones → map meaning new ≡ map meaning children
+  pub node_stands : (new : List C) (frames' : ℕ) (o p : Outputs) → frames' ≡ frames_after step frames → map meaning new ≡ map meaning children
       → Gives stands (map meaning children) (step_bits s step held'.ready gap') children new o p
-      → NodeStands stands meaning s new ones' held' gap' frames' (line ++ bit ∷ [])
-  node_stands new ones' frames' o p delivers room same gives = record {
+      → NodeStands stands meaning s new held' gap' frames' (line ++ bit ∷ [])
+  node_stands new frames' o p delivers same gives = record {
     count = sym (length-map new meaning) ∙ ap length same ∙ length-map children meaning ∙ node.count;
-    room = room ∙ node.room;
     disjoint = (let P : List Meaning → Type 0 = IsDisjoint in subst P (sym same) node.disjoint);
     each = each_same stands new _ _ (λ j. sym (received_more j)) (gives.each (received_lines s line) node.each);
     aligner = tracks.stands;
@@ -219,8 +219,8 @@ module _ {C : Type 0} (stands : C → List Bool → Type 0) (meaning : C → Mea
 
 -- ---- bits at which no frame ends
 
-module _ {C : Type 0} (stands : C → List Bool → Type 0) (meaning : C → Meaning) (s : FrameShape) (children : List C) (ones : List ℕ) (held held' : Held) (gap frames : ℕ) (bits line : List Bool)
-    (node : NodeStands stands meaning s children ones held gap frames line) (waits : Waits s held' bits line) where
+module _ {C : Type 0} (stands : C → List Bool → Type 0) (meaning : C → Meaning) (s : FrameShape) (children : List C) (held held' : Held) (gap frames : ℕ) (bits line : List Bool)
+    (node : NodeStands stands meaning s children held gap frames line) (waits : Waits s held' bits line) where
   received_same : (j : ℕ) → received_lines s (line ++ bits) j ≡ received_lines s line j
   received_same j = received_is s j (line ++ bits) ∙ ap (flat_map (piece_bits s j)) waits.same ∙ sym (received_is s j line)
 
@@ -228,10 +228,9 @@ module _ {C : Type 0} (stands : C → List Bool → Type 0) (meaning : C → Mea
   unfolding frames_counted frames_delivered
   counted_same = ap (λ p. min (count_by is_delivered p) (2 ^ 64 - 1)) (sym waits.same)
 
-  node_waits : NodeStands stands meaning s children ones held' gap frames (line ++ bits)
+  node_waits : NodeStands stands meaning s children held' gap frames (line ++ bits)
   node_waits = record {
     count = node.count;
-    room = node.room;
     disjoint = node.disjoint;
     each = each_same stands children _ _ (λ j. sym (received_same j)) node.each;
     aligner = waits.stands;
@@ -241,12 +240,12 @@ module _ {C : Type 0} (stands : C → List Bool → Type 0) (meaning : C → Mea
   }
 
 -- a demultiplexer that took them gives nothing
-pub takes_waiting : {C : Type 0} (stands : C → List Bool → Type 0) (meaning : C → Meaning) (s : FrameShape) (path : Path) (children : List C) (ones : List ℕ) (held held' : Held) (gap frames : ℕ) (bits : List Bool) (o : Outputs)
+pub takes_waiting : {C : Type 0} (stands : C → List Bool → Type 0) (meaning : C → Meaning) (s : FrameShape) (path : Path) (children : List C) (held held' : Held) (gap frames : ℕ) (bits : List Bool) (o : Outputs)
     → ((line : List Bool) → StandsFor s held.phase line → Waits s held' bits line)
-    → TakesBits (node_meaning s path (map meaning children)) bits (λ line. NodeStands stands meaning s children ones held gap frames line) (λ line. NodeStands stands meaning s children ones held' gap frames line) o o
-takes_waiting stands meaning s path children ones held held' gap frames bits o waits = record {
-  stands = λ line node. node_waits stands meaning s children ones held held' gap frames bits line node (waits line node.aligner);
-  gains = λ line node. gains_nothing _ _ o (λ k. got_by_same (map meaning children) _ _ (received_same stands meaning s children ones held held' gap frames bits line node (waits line node.aligner)) k);
+    → TakesBits (node_meaning s path (map meaning children)) bits (λ line. NodeStands stands meaning s children held gap frames line) (λ line. NodeStands stands meaning s children held' gap frames line) o o
+takes_waiting stands meaning s path children held held' gap frames bits o waits = record {
+  stands = λ line node. node_waits stands meaning s children held held' gap frames bits line node (waits line node.aligner);
+  gains = λ line node. gains_nothing _ _ o (λ k. got_by_same (map meaning children) _ _ (received_same stands meaning s children held held' gap frames bits line node (waits line node.aligner)) k);
 }
 
 -- ---- positions of a gap that are passed over at once
@@ -305,8 +304,8 @@ passed_inside s gap k shape upto = elim (cases_eq (gap + k) s.len) [
   | inr more ↦ let now : gap_passed s gap k ≡ gap + k = ap (λ b. cond b 0 (gap + k)) (ne_eqb (gap + k) s.len more) in omega (arith, now, upto, more)
 ]
 
-module _ {C : Type 0} (stands : C → List Bool → Type 0) (meaning : C → Meaning) (s : FrameShape) (shape : IsFrame s) (children : List C) (ones : List ℕ) (held held' : Held) (gap frames gap' : ℕ) (ready : List (List Bool)) (bits line : List Bool)
-    (node : NodeStands stands meaning s children ones held gap frames line) (passes : Passes s held' bits line) (some : 0 < length bits) (upto : gap + length bits ≤ s.len) (now : gap' ≡ gap_passed s gap (length bits)) where
+module _ {C : Type 0} (stands : C → List Bool → Type 0) (meaning : C → Meaning) (s : FrameShape) (shape : IsFrame s) (children : List C) (held held' : Held) (gap frames gap' : ℕ) (ready : List (List Bool)) (bits line : List Bool)
+    (node : NodeStands stands meaning s children held gap frames line) (passes : Passes s held' bits line) (some : 0 < length bits) (upto : gap + length bits ≤ s.len) (now : gap' ≡ gap_passed s gap (length bits)) where
   received_passed : (j : ℕ) → received_lines s (line ++ bits) j ≡ with_more (received_lines s line) (step_bits s Rejected ready gap') j
   received_passed j =
       let f : Piece → List Bool = piece_bits s j in
@@ -327,10 +326,9 @@ module _ {C : Type 0} (stands : C → List Bool → Type 0) (meaning : C → Mea
       let same : count_by is_delivered (track s line) ≡ count_by is_delivered (track s (line ++ bits)) = omega (arith, a, b, count_gap passes.gap, count_gap (passes.gap + length bits)) in
       ap (λ n. min n (2 ^ 64 - 1)) same
 
-  node_passed : (new : List C) (o p : Outputs) → map meaning new ≡ map meaning children → Gives stands (map meaning children) (step_bits s Rejected ready gap') children new o p → NodeStands stands meaning s new ones held' gap' frames (line ++ bits)
+  node_passed : (new : List C) (o p : Outputs) → map meaning new ≡ map meaning children → Gives stands (map meaning children) (step_bits s Rejected ready gap') children new o p → NodeStands stands meaning s new held' gap' frames (line ++ bits)
   node_passed new o p same gives = record {
     count = sym (length-map new meaning) ∙ ap length same ∙ length-map children meaning ∙ node.count;
-    room = node.room;
     disjoint = (let P : List Meaning → Type 0 = IsDisjoint in subst P (sym same) node.disjoint);
     each = each_same stands new _ _ (λ j. sym (received_passed j)) (gives.each (received_lines s line) node.each);
     aligner = passes.stands;
@@ -342,27 +340,27 @@ module _ {C : Type 0} (stands : C → List Bool → Type 0) (meaning : C → Mea
   }
 
 -- a demultiplexer that took them gives the ones of a whole frame's length
-pub takes_passing : {C : Type 0} (stands : C → List Bool → Type 0) (meaning : C → Meaning) (s : FrameShape) (path : Path) (shape : IsFrame s) (children new : List C) (ones : List ℕ) (held held' : Held) (gap frames gap' : ℕ) (ready : List (List Bool)) (bits : List Bool) (o p : Outputs)
+pub takes_passing : {C : Type 0} (stands : C → List Bool → Type 0) (meaning : C → Meaning) (s : FrameShape) (path : Path) (shape : IsFrame s) (children new : List C) (held held' : Held) (gap frames gap' : ℕ) (ready : List (List Bool)) (bits : List Bool) (o p : Outputs)
     → ((line : List Bool) → StandsFor s held.phase line → Passes s held' bits line) → 0 < length bits → gap + length bits ≤ s.len → gap' ≡ gap_passed s gap (length bits) → map meaning new ≡ map meaning children
     → Gives stands (map meaning children) (step_bits s Rejected ready gap') children new o p
-    → TakesBits (node_meaning s path (map meaning children)) bits (λ line. NodeStands stands meaning s children ones held gap frames line) (λ line. NodeStands stands meaning s new ones held' gap' frames line) o p
-takes_passing stands meaning s path shape children new ones held held' gap frames gap' ready bits o p passes some upto now same gives = record {
-  stands = λ line node. node_passed stands meaning s shape children ones held held' gap frames gap' ready bits line node (passes line node.aligner) some upto now new o p same gives;
-  gains = λ line node. gains_is _ _ _ o p (λ k. got_by_same (map meaning children) _ _ (received_passed stands meaning s shape children ones held held' gap frames gap' ready bits line node (passes line node.aligner) some upto now) k) (gives.gains (received_lines s line) node.each);
+    → TakesBits (node_meaning s path (map meaning children)) bits (λ line. NodeStands stands meaning s children held gap frames line) (λ line. NodeStands stands meaning s new held' gap' frames line) o p
+takes_passing stands meaning s path shape children new held held' gap frames gap' ready bits o p passes some upto now same gives = record {
+  stands = λ line node. node_passed stands meaning s shape children held held' gap frames gap' ready bits line node (passes line node.aligner) some upto now new o p same gives;
+  gains = λ line node. gains_is _ _ _ o p (λ k. got_by_same (map meaning children) _ _ (received_passed stands meaning s shape children held held' gap frames gap' ready bits line node (passes line node.aligner) some upto now) k) (gives.gains (received_lines s line) node.each);
 }
 
-pub part_passing : {C : Type 0} (stands : C → List Bool → Type 0) (meaning : C → Meaning) (s : FrameShape) (path : Path) (shape : IsFrame s) (children : List C) (ones : List ℕ) (held held' : Held) (gap frames gap' : ℕ) (ready : List (List Bool)) (bits : List Bool) (o p : Outputs)
+pub part_passing : {C : Type 0} (stands : C → List Bool → Type 0) (meaning : C → Meaning) (s : FrameShape) (path : Path) (shape : IsFrame s) (children : List C) (held held' : Held) (gap frames gap' : ℕ) (ready : List (List Bool)) (bits : List Bool) (o p : Outputs)
     → ((line : List Bool) → StandsFor s held.phase line → Passes s held' bits line) → 0 < length bits → gap + length bits ≤ s.len → gap' ≡ gap_passed s gap (length bits)
     → GivesPart stands (map meaning children) (step_bits s Rejected ready gap') children o p
-    → TakesPart (node_meaning s path (map meaning children)) bits (λ line. NodeStands stands meaning s children ones held gap frames line) o p
-part_passing stands meaning s path shape children ones held held' gap frames gap' ready bits o p passes some upto now gives = record {
-  gains = λ line node. part_is _ _ _ o p (λ k. got_by_same (map meaning children) _ _ (received_passed stands meaning s shape children ones held held' gap frames gap' ready bits line node (passes line node.aligner) some upto now) k) (gives.gains (received_lines s line) node.each);
+    → TakesPart (node_meaning s path (map meaning children)) bits (λ line. NodeStands stands meaning s children held gap frames line) o p
+part_passing stands meaning s path shape children held held' gap frames gap' ready bits o p passes some upto now gives = record {
+  gains = λ line node. part_is _ _ _ o p (λ k. got_by_same (map meaning children) _ _ (received_passed stands meaning s shape children held held' gap frames gap' ready bits line node (passes line node.aligner) some upto now) k) (gives.gains (received_lines s line) node.each);
 }
 
 -- ---- the start
 
 -- no bit is a gap of no positions
-track_none : (s : FrameShape) → IsFrame s → track s [] ≡ Gap 0 ∷ []
+pub track_none : (s : FrameShape) → IsFrame s → track s [] ≡ Gap 0 ∷ []
 track_none s shape = track-short s [] (omega (arith, shape.some_slots))
 
 received_none : (s : FrameShape) (j : ℕ) → IsFrame s → [] ≡ received_lines s [] j
@@ -372,11 +370,10 @@ no_frames : (s : FrameShape) → IsFrame s → 0 ≡ frames_counted s []
 unfolding frames_counted frames_delivered
 no_frames s shape = sym (ap (λ p. min (count_by is_delivered p) (2 ^ 64 - 1)) (track_none s shape) ∙ ap (λ n. min n (2 ^ 64 - 1)) (count_gap 0))
 
-pub opened : {C : Type 0} (stands : C → List Bool → Type 0) (meaning : C → Meaning) (s : FrameShape) → IsFrame s → (children : List C) (ones : List ℕ) (held : Held) → length children ≡ s.tribs → length ones ≡ s.tribs → IsDisjoint (map meaning children)
-    → EachStands stands children (λ j. []) → StandsFor s held.phase [] → NodeStands stands meaning s children ones held 0 0 []
-opened stands meaning s shape children ones held count room disjoint each aligner = record {
+pub opened : {C : Type 0} (stands : C → List Bool → Type 0) (meaning : C → Meaning) (s : FrameShape) → IsFrame s → (children : List C) (held : Held) → length children ≡ s.tribs → IsDisjoint (map meaning children)
+    → EachStands stands children (λ j. []) → StandsFor s held.phase [] → NodeStands stands meaning s children held 0 0 []
+opened stands meaning s shape children held count disjoint each aligner = record {
   count = count;
-  room = room;
   disjoint = disjoint;
   each = each_same stands children _ _ (λ j. received_none s j shape) each;
   aligner = aligner;

@@ -1,6 +1,6 @@
 -- Bits for the tributaries, one after another, and calls that follow each other in taking bits.
 use Rattle.std.proofs.Common.{◌≡◌, inl, inr, ℕ, zero, suc, ◌+◌, ◌<◌, ◌≤◌, Bool, true, false, nat_lt, cond, List, [], ◌∷◌, ◌++◌, ◌-◌, length, take, drop, get_or, length-drop, refl, sym, ap, subst, ◌∙◌, arith, append_assoc}
-use Rattle.std.proofs.lemmas.List.{append-nil, take_more, take-append-drop, take_all}
+use Rattle.std.proofs.lemmas.List.{append-nil, take-append-drop, take_all}
 use Rattle.std.proofs.Math.Seq.{take-add}
 use Rattle.std.proofs.lemmas.Bool.{cases_eq, cases_lt, ne_eqb, eq-eqb, lt-ltb, le-ltb}
 use Rattle.pdh_edge.specs.Ports.{Outputs, IsPrefix, for_leaf}
@@ -54,12 +54,6 @@ pub first_bits_all : (f : ℕ → List Bool) (tribs j : ℕ) → j < tribs → f
 first_bits_all f tribs j lt = ap (λ b. cond b (f j) []) (sym (lt-ltb j tribs lt))
 
 -- ---- a list's first bits
-
-pub bits_more : (n : ℕ) (bits : List Bool) (d : Bool) → n < length bits → take (n + 1) bits ≡ take n bits ++ get_or bits n d ∷ []
-bits_more n bits d lt = take_more bits n d lt
-
-pub bits_begin : (n : ℕ) (bits : List Bool) (d : Bool) → n < length bits → IsPrefix (take n bits ++ get_or bits n d ∷ []) bits
-bits_begin n bits d lt = (drop (n + 1) bits, sym (take-append-drop (n + 1) bits) ∙ ap (λ v. v ++ drop (n + 1) bits) (take_more bits n d lt))
 
 pub bits_then : (n m : ℕ) (bits : List Bool) → take (n + m) bits ≡ take n bits ++ take m (take (length bits - n) (drop n bits))
 bits_then n m bits =

@@ -1,6 +1,7 @@
--- What a tree of demultiplexers gives, by the list of received bits.
+-- What a tree of demultiplexers gives and notes, by the list of received bits.
 use Rattle.std.specs.Prelude.{◌≡◌, ℕ, Bool, false, List, [], ◌++◌, Option}
 use Rattle.pdh_shape.specs.declared.place.Path.{Path}
+use Rattle.pdh_watch.specs.declared.event.Event.{Event}
 use Rattle.pdh_edge.specs.Leaves.{HaveLists}
 use Rattle.pdh_edge.specs.Ports.{Outputs, Puts, PutsPart, IsPrefix}
 
@@ -11,6 +12,8 @@ pub record Meaning : Type 0 where
   pub leaves : ℕ → Bool
   -- what each leaf has got, by these received bits
   pub got : List Bool → ℕ → List Bool
+  -- the events that one more bit brings, after these received bits
+  pub notes : List Bool → Bool → List Event
 
 -- more received bits only add, and only leaves get bits
 pub record IsSound (m : Meaning) : Type 0 where

@@ -1,19 +1,27 @@
--- A demultiplexer over children: what each of them receives, and what leaves get by that.
-use Rattle.std.specs.Prelude.{◌≡◌, ℕ, suc, ◌+◌, ◌%◌, ◌^◌, ◌-◌, ◌<◌, min, Bool, true, List, [], ◌∷◌, ◌++◌, length, map, if◌then◌else◌, slice_get, Some, None, Option, flat_map, replicate, ◌==◌}
+-- A demultiplexer over children: what each of them receives, what leaves get by that, and the events.
+use Rattle.std.specs.Prelude.{◌≡◌, ℕ, zero, suc, ◌+◌, ◌%◌, ◌^◌, ◌-◌, ◌<◌, min, Bool, true, List, [], ◌∷◌, ◌++◌, length, map, if◌then◌else◌, slice_get, Some, None, Option, flat_map, replicate, ◌==◌}
 use Rattle.pdh_shape.specs.declared.place.Path.{Path}
 use Rattle.pdh_shape.specs.declared.role.Role.{Role}
 use Rattle.pdh_shape.specs.declared.role.Role.TheVariants.{Info, Just}
 use Rattle.pdh_shape.specs.Frame.{FrameShape}
-use Rattle.pdh_shape.specs.Tributary.{reads_from, turned, stripped}
+use Rattle.pdh_shape.specs.Tributary.{stripped}
 use Rattle.pdh_edge.specs.Leaves.{any_below, NoneShared}
 use Rattle.pdh_edge.specs.Ports.{Outputs}
+use Rattle.pdh_watch.specs.declared.kind.TheConstants.Kind.{ALIGNED, LOST}
+use Rattle.pdh_watch.specs.declared.event.Event.{Event}
+use Rattle.pdh_watch.specs.Seen.{SawPart}
 use Rattle.pdh_line.specs.Paths.{StandBelow}
 use Rattle.pdh_line.specs.Tracking.{Piece, track, frames_delivered}
-use Rattle.pdh_line.specs.Tracking.Piece.{Gap}
+use Rattle.pdh_line.specs.Tracking.Piece.{Gap, Delivered}
 use Rattle.pdh_line.specs.Receiving.{received}
 use Rattle.pdh_align.specs.declared.step.Step.{Step}
 use Rattle.pdh_align.specs.declared.step.Step.TheVariants.{Rejected, Aligned, Frame, Lost}
 use Rattle.pdh_align.specs.Aligning.{Held, StandsFor, frames_gained}
+use Rattle.pdh_events.specs.Telling.{next_bit, event_of}
+use Rattle.pdh_events.specs.Keeping.{OnesRun, CountsOnes, Kept, Remembers}
+use Rattle.pdh_events.specs.Acts.{Act, with_more, frames_acts, rounds_acts, bit_acts, acts_events}
+use Rattle.pdh_events.specs.Acts.Act.{Note}
+use Rattle.pdh_events.specs.laws.ActsLaws.{bits_to}
 use Rattle.pdh_rx.specs.Meaning.{Meaning, Gains, GainsPart}
 
 -- each child stands for its line
@@ -37,18 +45,25 @@ got_by (m ∷ ms) lines k = (if m.leaves k then m.got (lines 0) k else got_by ms
 abbrev pub received_lines : FrameShape → List Bool → ℕ → List Bool
 received_lines s line j = received s j line
 
+-- what a bit for child j brings, after this line of it
+abbrev pub child_notes : List Meaning → ℕ → List Bool → Bool → List Event
+child_notes [] j line bit = []
+child_notes (m ∷ ms) zero line bit = m.notes line bit
+child_notes (m ∷ ms) (suc j) line bit = child_notes ms j line bit
+
 abbrev pub node_meaning : FrameShape → Path → List Meaning → Meaning
-node_meaning s path ms = record { path = Some path; leaves = any_leaf ms; got = λ line k. got_by ms (received_lines s line) k }
+node_meaning s path ms = record {
+  path = Some path;
+  leaves = any_leaf ms;
+  got = λ line k. got_by ms (received_lines s line) k;
+  notes = λ line bit. acts_events (child_notes ms) (received_lines s line) (bit_acts s path line bit);
+}
 
 -- each child that is a node stands below the node at this path, by its number from 1
 abbrev pub ArePlaced : Path → List Meaning → Type 0
 ArePlaced = StandBelow (λ (m : Meaning). m.path) (λ below. below)
 
 -- ---- calls that give the children bits
-
--- each line with these bits added
-abbrev pub with_more : (ℕ → List Bool) → (ℕ → List Bool) → ℕ → List Bool
-with_more lines more j = lines j ++ more j
 
 -- each child got its bits of these, and what leaves got by that was put to their lists
 pub record Gives {C : Type 0} (stands : C → List Bool → Type 0) (ms : List Meaning) (more : ℕ → List Bool) (old new : List C) (before after : Outputs) : Type 0 where
@@ -58,6 +73,18 @@ pub record Gives {C : Type 0} (stands : C → List Bool → Type 0) (ms : List M
 -- the same where a call failed: a prefix was put
 pub record GivesPart {C : Type 0} (stands : C → List Bool → Type 0) (ms : List Meaning) (more : ℕ → List Bool) (old : List C) (before after : Outputs) : Type 0 where
   pub gains : (lines : ℕ → List Bool) → EachStands stands old lines → GainsPart (got_by ms lines) (got_by ms (with_more lines more)) before after
+
+-- ---- calls in which a node acts
+
+-- A node acted so: each child got its bits, what leaves got by that was put to their lists, and the watch saw the events.
+pub record Plays {C W : Type 0} (tells : C → List Bool → Type 0) (saw : W → List Event → W → Type 0) (ms : List Meaning) (acts : List Act) (old new : List C) (before after : Outputs) (was is : W) : Type 0 where
+  pub gives : Gives tells ms (bits_to acts) old new before after
+  pub sees : (lines : ℕ → List Bool) → EachStands tells old lines → saw was (acts_events (child_notes ms) lines acts) is
+
+-- the same where a call failed: a prefix was put, and a prefix of the events seen
+pub record PlaysPart {C W : Type 0} (tells : C → List Bool → Type 0) (saw : W → List Event → W → Type 0) (ms : List Meaning) (acts : List Act) (old : List C) (before after : Outputs) (was is : W) : Type 0 where
+  pub gives : GivesPart tells ms (bits_to acts) old before after
+  pub sees : (lines : ℕ → List Bool) → EachStands tells old lines → SawPart saw was (acts_events (child_notes ms) lines acts) is
 
 -- ---- a slot of a frame
 
@@ -73,10 +100,6 @@ names_below (Info j) n = j < n
 names_below (Just j) n = j < n
 names_below _ n = Unit {0}
 
--- what a slot with this bit gives each tributary
-abbrev pub role_bits : FrameShape → Role → Bool → Bool → ℕ → List Bool
-role_bits s role more bit j = (if reads_from j more role then turned (s.inverted j) bit ∷ [] else [])
-
 -- what the ready frames give each tributary
 abbrev pub frames_bits : FrameShape → List (List Bool) → ℕ → List Bool
 frames_bits s frames j = flat_map (stripped s j) frames
@@ -84,10 +107,6 @@ frames_bits s frames j = flat_map (stripped s j) frames
 -- as many ones as a frame carries bits of a tributary at least
 abbrev pub ones_bits : FrameShape → ℕ → List Bool
 ones_bits s j = replicate s.low true
-
--- a one for each tributary
-abbrev pub one_each : ℕ → List Bool
-one_each j = true ∷ []
 
 -- ---- a step of the alignment machine
 
@@ -112,6 +131,21 @@ step_bits s Aligned ready gap j = frames_bits s ready j
 step_bits s Frame ready gap j = frames_bits s ready j
 step_bits s _ ready gap j = []
 
+-- what a step makes a node note and do to its children, after these pieces
+abbrev pub step_acts : FrameShape → Path → ℕ → List Piece → Step → List (List Bool) → ℕ → List Act
+step_acts s path bit pieces Rejected ready gap = (if gap == 0 then rounds_acts s s.low else [])
+step_acts s path bit pieces Aligned ready gap = Note (event_of path bit ALIGNED) ∷ frames_acts s path bit pieces ready
+step_acts s path bit pieces Frame ready gap = frames_acts s path bit pieces ready
+step_acts s path bit pieces Lost ready gap = Note (event_of path bit LOST) ∷ []
+step_acts s path bit pieces _ ready gap = []
+
+-- the pieces after a step, but for the positions that a gap grew by
+abbrev pub step_pieces : Step → List (List Bool) → List Piece → List Piece
+step_pieces Aligned ready pieces = pieces ++ map Delivered ready
+step_pieces Frame ready pieces = pieces ++ map Delivered ready
+step_pieces Lost ready pieces = pieces ++ Gap 0 ∷ []
+step_pieces _ ready pieces = pieces
+
 -- ---- the state
 
 -- the positions of the gap that a line's pieces end with, less whole frames' lengths
@@ -123,12 +157,19 @@ unfoldable pub frames_counted : FrameShape → List Bool → ℕ
 frames_counted s line = min (frames_delivered s line) (2 ^ 64 - 1)
 
 -- what a demultiplexer's state is, after these received bits
-pub record NodeStands {C : Type 0} (stands : C → List Bool → Type 0) (meaning : C → Meaning) (s : FrameShape) (children : List C) (ones : List ℕ) (held : Held) (gap frames : ℕ) (line : List Bool) : Type 0 where
+pub record NodeStands {C : Type 0} (stands : C → List Bool → Type 0) (meaning : C → Meaning) (s : FrameShape) (children : List C) (held : Held) (gap frames : ℕ) (line : List Bool) : Type 0 where
   pub count : length children ≡ s.tribs
-  pub room : length ones ≡ s.tribs
   pub disjoint : IsDisjoint (map meaning children)
   pub each : EachStands stands children (received_lines s line)
   pub aligner : StandsFor s held.phase line
   pub inside : gap < s.len
   pub gap_is : IsGap s gap (track s line)
   pub frames_are : frames ≡ frames_counted s line
+
+-- and where it has taken them one by one: what it keeps to tell their events
+pub record NodeTells {C : Type 0} (tells : C → List Bool → Type 0) (meaning : C → Meaning) (s : FrameShape) (children : List C) (held : Held) (gap frames bits : ℕ) (ais : OnesRun) (kept : Kept) (line : List Bool) : Type 0 where
+  pub node : NodeStands tells meaning s children held gap frames line
+  pub bits_are : bits ≡ next_bit line
+  pub long_is : ais.long ≡ s.len
+  pub ones_are : CountsOnes ais line
+  pub remembers : Remembers s kept (track s line)

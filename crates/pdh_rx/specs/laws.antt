@@ -1,4 +1,4 @@
--- Laws that ghost members cite.
+-- Laws that ghost members and the crates above cite.
 pub mod Growth
 pub mod NodeLaws
 pub mod TailLaws

@@ -1,86 +1,131 @@
-ghost use Rattle.std.specs.Prelude.{◌≡◌, ◌<◌, ℕ, Bool, List, [], length, map, OnOk, OnErr};
+ghost use Rattle.std.specs.Prelude.{◌≡◌, ◌<◌, ◌++◌, ◌∷◌, ℕ, Bool, List, [], length, map, flat_map, OnOk, OnErr};
 ghost use Rattle.pdh_edge.specs.Ports.{HasCause};
-ghost use Rattle.pdh_shape.specs.Tributary.{stripped};
+ghost use Rattle.pdh_shape.specs.Frame.{slots};
+ghost use Rattle.pdh_line.specs.Tracking.{Piece};
+ghost use Rattle.pdh_line.specs.Tracking.Piece.{Delivered};
 ghost use Rattle.pdh_align.specs.Aligning.{frame_back, frames_gained};
+ghost use Rattle.pdh_events.specs.Keeping.{Remembers};
+ghost use Rattle.pdh_events.specs.Acts.{slot_acts, frame_acts, frames_acts, round_acts, rounds_acts};
 ghost use Rattle.pdh_rx.specs.Meaning.{HoldsAll};
-ghost use Rattle.pdh_rx.specs.Node.{EachStands, IsDisjoint, any_leaf, Gives, GivesPart, frames_bits, ones_bits, step_bits, one_each};
+ghost use Rattle.pdh_rx.specs.Node.{EachStands, IsDisjoint, any_leaf, Plays, PlaysPart, step_acts, step_pieces};
 
 use crate::Rx;
 use crate::giving::push_to;
-use crate::slots::{carries, clear, count, give_slot};
+use crate::slots::{carries, give_slot};
+use crate::strip::Strip;
 use pdh_align::{Aligner, Step};
 use pdh_edge::{Drain, Failed};
-use pdh_shape::Shape;
-use pdh_watch::Watch;
+use pdh_events::{FrameTeller, note_kind};
+use pdh_shape::{Path, Shape};
+use pdh_watch::{Kind, Watch};
 
-// Gives the children their bits of a ready frame. `ones` has a place for each tributary.
-fn deliver<S: Shape, C: Rx, D: Drain, W: Watch>(
+// Gives the children their bits of the loaded frame.
+fn give_frame<S: Shape, C: Rx, D: Drain, W: Watch>(
     children: &mut Vec<C>,
-    ones: &mut Vec<u32>,
-    aligner: &Aligner<S>,
-    back: u8,
+    strip: &Strip<S>,
     drain: &mut D,
     watch: &mut W,
 ) -> Result<(), Failed>
-    requires ready { back < length aligner.now.ready }
-    requires room { length ones.old.items ≡ S.TRIBS }
     requires tribs { length children.old.items ≡ S.TRIBS }
-    requires stands { (lines : ℕ → List Bool) × EachStands C.stands children.old.items lines }
+    requires tells { (lines : ℕ → List Bool) × EachStands C.tells children.old.items lines }
     requires lists { HoldsAll (any_leaf (map C.meaning children.old.items)) (D.outputs drain.old) }
     requires disjoint { IsDisjoint (map C.meaning children.old.items) }
-    ensures given { OnOk result (Gives C.stands (map C.meaning children.old.items)
-        (λ j. stripped S.shape j (frame_back aligner.now.ready back))
-        children.old.items children.new.items (D.outputs drain.old) (D.outputs drain.new)) }
-    ensures part { OnErr result (GivesPart C.stands (map C.meaning children.old.items)
-        (λ j. stripped S.shape j (frame_back aligner.now.ready back))
-        children.old.items (D.outputs drain.old) (D.outputs drain.new)) }
-    ensures seen { W.saw watch.old [] watch.new }
+    ensures played { OnOk result (Plays C.tells W.saw (map C.meaning children.old.items)
+        (flat_map (slot_acts S.shape strip.now.frame) (slots S.shape))
+        children.old.items children.new.items (D.outputs drain.old) (D.outputs drain.new)
+        watch.old watch.new) }
+    ensures part { OnErr result (PlaysPart C.tells W.saw (map C.meaning children.old.items)
+        (flat_map (slot_acts S.shape strip.now.frame) (slots S.shape))
+        children.old.items (D.outputs drain.old) (D.outputs drain.new) watch.old watch.new) }
     ensures cause { HasCause (D.drain_faults drain.old) (D.drain_faults drain.new) result }
     ensures drained { D.drained drain.old drain.new }
     ensures same { map C.meaning children.new.items ≡ map C.meaning children.old.items }
-    ensures room { length ones.new.items ≡ length ones.old.items }
 {
-    clear(ones);
+    let frame = strip.frame();
     for slot in 0..S::LEN {
         let role = S::role(slot);
-        let bit = aligner.frame(back, slot);
-        count(ones, role, bit);
-        let more = carries::<S>(ones, role);
+        let more = carries(strip, role);
+        let bit = frame[slot as usize];
         give_slot::<S, C, D, W>(children, role, more, bit, drain, watch)?;
     }
     Ok(())
 }
 
-// Gives the children their bits of all ready frames, of which there are so many, oldest first.
+// Notes a ready frame's own events, and gives the children their bits of it.
+fn deliver<S: Shape, C: Rx, D: Drain, W: Watch>(
+    children: &mut Vec<C>,
+    strip: &mut Strip<S>,
+    teller: &mut FrameTeller<S>,
+    aligner: &Aligner<S>,
+    back: u8,
+    path: Path,
+    bit: u64,
+    drain: &mut D,
+    watch: &mut W,
+) -> Result<(), Failed>
+    requires ready { back < length aligner.now.ready }
+    requires tribs { length children.old.items ≡ S.TRIBS }
+    requires tells { (lines : ℕ → List Bool) × EachStands C.tells children.old.items lines }
+    requires lists { HoldsAll (any_leaf (map C.meaning children.old.items)) (D.outputs drain.old) }
+    requires disjoint { IsDisjoint (map C.meaning children.old.items) }
+    ensures played { OnOk result ((pieces : List Piece) → Remembers S.shape teller.old pieces
+        → Plays C.tells W.saw (map C.meaning children.old.items)
+        (frame_acts S.shape path bit pieces (frame_back aligner.now.ready back))
+        children.old.items children.new.items (D.outputs drain.old) (D.outputs drain.new)
+        watch.old watch.new) }
+    ensures part { OnErr result ((pieces : List Piece) → Remembers S.shape teller.old pieces
+        → PlaysPart C.tells W.saw (map C.meaning children.old.items)
+        (frame_acts S.shape path bit pieces (frame_back aligner.now.ready back))
+        children.old.items (D.outputs drain.old) (D.outputs drain.new) watch.old watch.new) }
+    ensures remembers { (pieces : List Piece) → Remembers S.shape teller.old pieces
+        → Remembers S.shape teller.new (pieces ++ Delivered (frame_back aligner.now.ready back) ∷ []) }
+    ensures cause { HasCause (D.drain_faults drain.old) (D.drain_faults drain.new) result }
+    ensures drained { D.drained drain.old drain.new }
+    ensures same { map C.meaning children.new.items ≡ map C.meaning children.old.items }
+{
+    strip.load(aligner, back);
+    teller.note(strip.tables(), strip.frame(), path, bit, watch);
+    give_frame::<S, C, D, W>(children, strip, drain, watch)
+}
+
+// Delivers all ready frames, of which there are so many, oldest first.
 fn deliver_all<S: Shape, C: Rx, D: Drain, W: Watch>(
     children: &mut Vec<C>,
-    ones: &mut Vec<u32>,
+    strip: &mut Strip<S>,
+    teller: &mut FrameTeller<S>,
     aligner: &Aligner<S>,
     frames: u8,
+    path: Path,
+    bit: u64,
     drain: &mut D,
     watch: &mut W,
 ) -> Result<(), Failed>
     requires ready { length aligner.now.ready ≡ frames }
-    requires room { length ones.old.items ≡ S.TRIBS }
+    requires kept { (pieces : List Piece) × Remembers S.shape teller.old pieces }
     requires tribs { length children.old.items ≡ S.TRIBS }
-    requires stands { (lines : ℕ → List Bool) × EachStands C.stands children.old.items lines }
+    requires tells { (lines : ℕ → List Bool) × EachStands C.tells children.old.items lines }
     requires lists { HoldsAll (any_leaf (map C.meaning children.old.items)) (D.outputs drain.old) }
     requires disjoint { IsDisjoint (map C.meaning children.old.items) }
-    ensures given { OnOk result (Gives C.stands (map C.meaning children.old.items)
-        (frames_bits S.shape aligner.now.ready)
-        children.old.items children.new.items (D.outputs drain.old) (D.outputs drain.new)) }
-    ensures part { OnErr result (GivesPart C.stands (map C.meaning children.old.items)
-        (frames_bits S.shape aligner.now.ready)
-        children.old.items (D.outputs drain.old) (D.outputs drain.new)) }
-    ensures seen { W.saw watch.old [] watch.new }
+    ensures played { OnOk result ((pieces : List Piece) → Remembers S.shape teller.old pieces
+        → Plays C.tells W.saw (map C.meaning children.old.items)
+        (frames_acts S.shape path bit pieces aligner.now.ready)
+        children.old.items children.new.items (D.outputs drain.old) (D.outputs drain.new)
+        watch.old watch.new) }
+    ensures part { OnErr result ((pieces : List Piece) → Remembers S.shape teller.old pieces
+        → PlaysPart C.tells W.saw (map C.meaning children.old.items)
+        (frames_acts S.shape path bit pieces aligner.now.ready)
+        children.old.items (D.outputs drain.old) (D.outputs drain.new) watch.old watch.new) }
+    ensures remembers { OnOk result ((pieces : List Piece) → Remembers S.shape teller.old pieces
+        → Remembers S.shape teller.new (pieces ++ map Delivered aligner.now.ready)) }
     ensures cause { HasCause (D.drain_faults drain.old) (D.drain_faults drain.new) result }
     ensures drained { D.drained drain.old drain.new }
     ensures same { map C.meaning children.new.items ≡ map C.meaning children.old.items }
-    ensures room { length ones.new.items ≡ length ones.old.items }
 {
     for done in 0..frames {
         let back = frames - 1 - done;
-        deliver::<S, C, D, W>(children, ones, aligner, back, drain, watch)?;
+        deliver::<S, C, D, W>(
+            children, strip, teller, aligner, back, path, bit, drain, watch,
+        )?;
     }
     Ok(())
 }
@@ -92,16 +137,16 @@ fn give_round<S: Shape, C: Rx, D: Drain, W: Watch>(
     watch: &mut W,
 ) -> Result<(), Failed>
     requires tribs { length children.old.items ≡ S.TRIBS }
-    requires stands { (lines : ℕ → List Bool) × EachStands C.stands children.old.items lines }
+    requires tells { (lines : ℕ → List Bool) × EachStands C.tells children.old.items lines }
     requires lists { HoldsAll (any_leaf (map C.meaning children.old.items)) (D.outputs drain.old) }
     requires disjoint { IsDisjoint (map C.meaning children.old.items) }
-    ensures given { OnOk result (Gives C.stands (map C.meaning children.old.items)
-        one_each
-        children.old.items children.new.items (D.outputs drain.old) (D.outputs drain.new)) }
-    ensures part { OnErr result (GivesPart C.stands (map C.meaning children.old.items)
-        one_each
-        children.old.items (D.outputs drain.old) (D.outputs drain.new)) }
-    ensures seen { W.saw watch.old [] watch.new }
+    ensures played { OnOk result (Plays C.tells W.saw (map C.meaning children.old.items)
+        (round_acts S.shape)
+        children.old.items children.new.items (D.outputs drain.old) (D.outputs drain.new)
+        watch.old watch.new) }
+    ensures part { OnErr result (PlaysPart C.tells W.saw (map C.meaning children.old.items)
+        (round_acts S.shape)
+        children.old.items (D.outputs drain.old) (D.outputs drain.new) watch.old watch.new) }
     ensures cause { HasCause (D.drain_faults drain.old) (D.drain_faults drain.new) result }
     ensures drained { D.drained drain.old drain.new }
     ensures same { map C.meaning children.new.items ≡ map C.meaning children.old.items }
@@ -120,16 +165,16 @@ fn give_ones<S: Shape, C: Rx, D: Drain, W: Watch>(
     watch: &mut W,
 ) -> Result<(), Failed>
     requires tribs { length children.old.items ≡ S.TRIBS }
-    requires stands { (lines : ℕ → List Bool) × EachStands C.stands children.old.items lines }
+    requires tells { (lines : ℕ → List Bool) × EachStands C.tells children.old.items lines }
     requires lists { HoldsAll (any_leaf (map C.meaning children.old.items)) (D.outputs drain.old) }
     requires disjoint { IsDisjoint (map C.meaning children.old.items) }
-    ensures given { OnOk result (Gives C.stands (map C.meaning children.old.items)
-        (ones_bits S.shape)
-        children.old.items children.new.items (D.outputs drain.old) (D.outputs drain.new)) }
-    ensures part { OnErr result (GivesPart C.stands (map C.meaning children.old.items)
-        (ones_bits S.shape)
-        children.old.items (D.outputs drain.old) (D.outputs drain.new)) }
-    ensures seen { W.saw watch.old [] watch.new }
+    ensures played { OnOk result (Plays C.tells W.saw (map C.meaning children.old.items)
+        (rounds_acts S.shape S.LOW)
+        children.old.items children.new.items (D.outputs drain.old) (D.outputs drain.new)
+        watch.old watch.new) }
+    ensures part { OnErr result (PlaysPart C.tells W.saw (map C.meaning children.old.items)
+        (rounds_acts S.shape S.LOW)
+        children.old.items (D.outputs drain.old) (D.outputs drain.new) watch.old watch.new) }
     ensures cause { HasCause (D.drain_faults drain.old) (D.drain_faults drain.new) result }
     ensures drained { D.drained drain.old drain.new }
     ensures same { map C.meaning children.new.items ≡ map C.meaning children.old.items }
@@ -140,34 +185,40 @@ fn give_ones<S: Shape, C: Rx, D: Drain, W: Watch>(
     Ok(())
 }
 
-// Gives the children what they gain by a step of the aligner, where `gap` positions of a gap are
-// passed over now since the last whole frame's length.
-pub(crate) fn give<S: Shape, C: Rx, D: Drain, W: Watch>(
+// Notes and gives what a step of the aligner brings, where `gap` positions of a gap are passed over now
+// since the last whole frame's length.
+pub(crate) fn act<S: Shape, C: Rx, D: Drain, W: Watch>(
     children: &mut Vec<C>,
-    ones: &mut Vec<u32>,
+    strip: &mut Strip<S>,
+    teller: &mut FrameTeller<S>,
     aligner: &Aligner<S>,
     step: Step,
     gap: u32,
+    path: Path,
+    bit: u64,
     drain: &mut D,
     watch: &mut W,
 ) -> Result<(), Failed>
     requires ready { length aligner.now.ready ≡ frames_gained step }
-    requires room { length ones.old.items ≡ S.TRIBS }
+    requires kept { (pieces : List Piece) × Remembers S.shape teller.old pieces }
     requires tribs { length children.old.items ≡ S.TRIBS }
-    requires stands { (lines : ℕ → List Bool) × EachStands C.stands children.old.items lines }
+    requires tells { (lines : ℕ → List Bool) × EachStands C.tells children.old.items lines }
     requires lists { HoldsAll (any_leaf (map C.meaning children.old.items)) (D.outputs drain.old) }
     requires disjoint { IsDisjoint (map C.meaning children.old.items) }
-    ensures given { OnOk result (Gives C.stands (map C.meaning children.old.items)
-        (step_bits S.shape step aligner.now.ready gap)
-        children.old.items children.new.items (D.outputs drain.old) (D.outputs drain.new)) }
-    ensures part { OnErr result (GivesPart C.stands (map C.meaning children.old.items)
-        (step_bits S.shape step aligner.now.ready gap)
-        children.old.items (D.outputs drain.old) (D.outputs drain.new)) }
-    ensures seen { W.saw watch.old [] watch.new }
+    ensures played { OnOk result ((pieces : List Piece) → Remembers S.shape teller.old pieces
+        → Plays C.tells W.saw (map C.meaning children.old.items)
+        (step_acts S.shape path bit pieces step aligner.now.ready gap)
+        children.old.items children.new.items (D.outputs drain.old) (D.outputs drain.new)
+        watch.old watch.new) }
+    ensures part { OnErr result ((pieces : List Piece) → Remembers S.shape teller.old pieces
+        → PlaysPart C.tells W.saw (map C.meaning children.old.items)
+        (step_acts S.shape path bit pieces step aligner.now.ready gap)
+        children.old.items (D.outputs drain.old) (D.outputs drain.new) watch.old watch.new) }
+    ensures remembers { OnOk result ((pieces : List Piece) → Remembers S.shape teller.old pieces
+        → Remembers S.shape teller.new (step_pieces step aligner.now.ready pieces)) }
     ensures cause { HasCause (D.drain_faults drain.old) (D.drain_faults drain.new) result }
     ensures drained { D.drained drain.old drain.new }
     ensures same { map C.meaning children.new.items ≡ map C.meaning children.old.items }
-    ensures room { length ones.new.items ≡ length ones.old.items }
 {
     match step {
         Step::Rejected => {
@@ -176,8 +227,18 @@ pub(crate) fn give<S: Shape, C: Rx, D: Drain, W: Watch>(
             }
             give_ones::<S, C, D, W>(children, drain, watch)
         }
-        Step::Aligned => deliver_all::<S, C, D, W>(children, ones, aligner, 3, drain, watch),
-        Step::Frame => deliver_all::<S, C, D, W>(children, ones, aligner, 1, drain, watch),
-        _ => Ok(()),
+        Step::Aligned => {
+            note_kind(Kind::ALIGNED, path, bit, watch);
+            deliver_all::<S, C, D, W>(children, strip, teller, aligner, 3, path, bit, drain, watch)
+        }
+        Step::Frame => {
+            deliver_all::<S, C, D, W>(children, strip, teller, aligner, 1, path, bit, drain, watch)
+        }
+        Step::Lost => {
+            note_kind(Kind::LOST, path, bit, watch);
+            teller.lose();
+            Ok(())
+        }
+        Step::Nothing => Ok(()),
     }
 }

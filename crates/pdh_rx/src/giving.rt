@@ -1,7 +1,8 @@
-ghost use Rattle.std.specs.Prelude.{◌≡◌, ◌<◌, ℕ, suc, Bool, List, [], length, map, OnOk, OnErr};
-ghost use Rattle.pdh_edge.specs.Ports.{HasCause, only, for_leaf};
+ghost use Rattle.std.specs.Prelude.{◌≡◌, ◌<◌, ℕ, suc, Bool, List, [], ◌∷◌, length, map, OnOk, OnErr};
+ghost use Rattle.pdh_edge.specs.Ports.{HasCause, for_leaf};
+ghost use Rattle.pdh_events.specs.Acts.Act.{Give};
 ghost use Rattle.pdh_rx.specs.Meaning.{HoldsAll};
-ghost use Rattle.pdh_rx.specs.Node.{EachStands, IsDisjoint, any_leaf, Gives, GivesPart};
+ghost use Rattle.pdh_rx.specs.Node.{EachStands, IsDisjoint, any_leaf, Plays, PlaysPart, Gives, GivesPart};
 
 use crate::Rx;
 use pdh_edge::{Drain, Failed};
@@ -16,14 +17,16 @@ pub(crate) fn push_to<C: Rx, D: Drain, W: Watch>(
     watch: &mut W,
 ) -> Result<(), Failed>
     requires known { trib < length children.old.items }
-    requires stands { (lines : ℕ → List Bool) × EachStands C.stands children.old.items lines }
+    requires tells { (lines : ℕ → List Bool) × EachStands C.tells children.old.items lines }
     requires lists { HoldsAll (any_leaf (map C.meaning children.old.items)) (D.outputs drain.old) }
     requires disjoint { IsDisjoint (map C.meaning children.old.items) }
-    ensures given { OnOk result (Gives C.stands (map C.meaning children.old.items) (only trib bit)
-        children.old.items children.new.items (D.outputs drain.old) (D.outputs drain.new)) }
-    ensures part { OnErr result (GivesPart C.stands (map C.meaning children.old.items)
-        (only trib bit) children.old.items (D.outputs drain.old) (D.outputs drain.new)) }
-    ensures seen { W.saw watch.old [] watch.new }
+    ensures played { OnOk result (Plays C.tells W.saw (map C.meaning children.old.items)
+        (Give trib bit ∷ [])
+        children.old.items children.new.items (D.outputs drain.old) (D.outputs drain.new)
+        watch.old watch.new) }
+    ensures part { OnErr result (PlaysPart C.tells W.saw (map C.meaning children.old.items)
+        (Give trib bit ∷ [])
+        children.old.items (D.outputs drain.old) (D.outputs drain.new) watch.old watch.new) }
     ensures cause { HasCause (D.drain_faults drain.old) (D.drain_faults drain.new) result }
     ensures drained { D.drained drain.old drain.new }
     ensures same { map C.meaning children.new.items ≡ map C.meaning children.old.items }

@@ -1,15 +1,16 @@
 ghost use Rattle.std.specs.Prelude.{◌≡◌, ◌<◌, ◌≤◌, ◌+◌, ℕ, All, Bool, List, [], ◌∷◌, ◌++◌, length, take, map, IfOk, OnOk, OnErr};
 ghost use Rattle.pdh_edge.specs.Ports.{HasCause};
 ghost use Rattle.pdh_rx.specs.Meaning.{Meaning, HoldsAll, Gains, GainsPart, TakesBits, TakesPart};
-ghost use Rattle.pdh_rx.specs.Node.{EachStands, IsDisjoint, ArePlaced, node_meaning, NodeStands, gap_after as gap_after_step, gap_passed as gap_passed_over, frames_after as frames_after_step, frames_counted};
-ghost use Rattle.pdh_rx.specs.laws.NodeLaws.{node_sound};
+ghost use Rattle.pdh_rx.specs.Node.{EachStands, IsDisjoint, ArePlaced, node_meaning, NodeStands, NodeTells, gap_after as gap_after_step, gap_passed as gap_passed_over, frames_after as frames_after_step, frames_counted};
+ghost use Rattle.pdh_rx.specs.laws.NodeLaws.{node_sound, node_told_stands};
 
 use crate::Rx;
-use crate::frames::give;
+use crate::frames::act;
 use crate::parts::give_parts;
 use crate::strip::Strip;
 use pdh_align::{Aligner, Step};
 use pdh_edge::{Drain, Failed};
+use pdh_events::{AisRun, FrameTeller};
 use pdh_shape::{Path, Shape};
 use pdh_slots::SlotTables;
 use pdh_watch::Watch;
@@ -54,17 +55,23 @@ fn frames_after(step: Step, frames: u64) -> u64
 
 /// A demultiplexer, which gives each of its children the received line of a tributary: for each whole
 /// frame's length of a gap of the alignment as many ones as a frame carries bits of it at least, and
-/// of each delivered frame its own bits.
+/// of each delivered frame its own bits. Where it takes bits one by one it notes AIS, alignment and
+/// its loss, and the events of each delivered frame.
 pub struct RxNode<S: Shape, C: Rx> {
     children: Vec<C>,
     path: Path,
     aligner: Aligner<S>,
-    // for each tributary how many copies of its justification control are 1 in a frame
-    ones: Vec<u32>,
     strip: Strip<S>,
     // how many positions of a gap were passed over since its last whole frame's length
     gap: u32,
     frames: u64,
+    // what tells events, which goes on only with bits that are taken one by one: the number of the next
+    // bit, which stands at `u64::MAX`,
+    bits: u64,
+    // the ones that the line ends with,
+    ais: AisRun,
+    // and what is kept of the delivered frames
+    teller: FrameTeller<S>,
     of: PhantomData<S>,
 }
 
@@ -74,10 +81,12 @@ impl<S: Shape, C: Rx> Drop for RxNode<S, C> {
             children: _,
             path: _,
             aligner: _,
-            ones: _,
             strip: _,
             gap: _,
             frames: _,
+            bits: _,
+            ais: _,
+            teller: _,
             of: _,
         } = self;
     }
@@ -94,23 +103,27 @@ impl<S: Shape, C: Rx> RxNode<S, C> {
         children: Vec<C>,
     ) -> Result<RxNode<S, C>, AllocError>
         requires count { length children.items ≡ S.TRIBS }
-        requires fresh { EachStands C.stands children.items (λ j. []) }
+        requires fresh { EachStands C.tells children.items (λ j. []) }
         requires disjoint { IsDisjoint (map C.meaning children.items) }
         requires paths { ArePlaced path (map C.meaning children.items) }
         ensures meaning { IfOk result (λ node. ⟦<RxNode<S, C> as Rx>⟧.meaning node
             ≡ node_meaning S.shape path (map C.meaning children.items)) }
         ensures stands { IfOk result (λ node. ⟦<RxNode<S, C> as Rx>⟧.stands node []) }
+        ensures tells { IfOk result (λ node. ⟦<RxNode<S, C> as Rx>⟧.tells node []) }
     {
         let aligner = Aligner::open(alloc)?;
-        let ones = vec![in alloc; 0u32; S::TRIBS as usize]?;
+        let strip = Strip::open(alloc, tables)?;
+        let teller = FrameTeller::open(alloc)?;
         Ok(RxNode {
             children,
             path,
             aligner,
-            ones,
-            strip: Strip::open(alloc, tables)?,
+            strip,
             gap: 0,
             frames: 0,
+            bits: 0,
+            ais: AisRun::new(S::LEN),
+            teller,
             of: PhantomData,
         })
     }
@@ -187,9 +200,13 @@ impl<S: Shape, C: Rx> RxNode<S, C> {
 }
 
 impl<S: Shape, C: Rx> Rx for RxNode<S, C> {
-    ghost stands = { λ n line. NodeStands C.stands C.meaning S.shape n.children.items n.ones.items n.aligner n.gap n.frames line };
+    ghost stands = { λ n line. NodeStands C.stands C.meaning S.shape n.children.items n.aligner n.gap n.frames line };
+
+    ghost tells = { λ n line. NodeTells C.tells C.meaning S.shape n.children.items n.aligner n.gap n.frames n.bits n.ais n.teller line };
 
     ghost meaning = { λ n. node_meaning S.shape n.path (map C.meaning n.children.items) };
+
+    ghost told_stands = { λ n line told. node_told_stands C.tells C.stands C.told_stands C.meaning S.shape n.children.items n.aligner n.gap n.frames n.bits n.ais n.teller line told };
 
     ghost sound = { λ n. node_sound C.meaning C.sound S.shape S.is_frame n.path n.children.items };
 
@@ -199,15 +216,21 @@ impl<S: Shape, C: Rx> Rx for RxNode<S, C> {
         drain: &mut D,
         watch: &mut W,
     ) -> Result<(), Failed> {
+        let number = self.bits;
+        self.bits = number.saturating_add(1);
         let step = self.aligner.push(bit);
         self.gap = gap_after::<S>(step, self.gap);
         self.frames = frames_after(step, self.frames);
-        give::<S, C, D, W>(
+        self.ais.note(bit, self.path, number, watch);
+        act::<S, C, D, W>(
             &mut self.children,
-            &mut self.ones,
+            &mut self.strip,
+            &mut self.teller,
             &self.aligner,
             step,
             self.gap,
+            self.path,
+            number,
             drain,
             watch,
         )

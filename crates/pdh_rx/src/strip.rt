@@ -1,5 +1,5 @@
 ghost use Rattle.std.specs.Prelude.{◌≡◌, ◌<◌, true, length, replicate};
-ghost use Rattle.pdh_shape.specs.Tributary.{stripped};
+ghost use Rattle.pdh_shape.specs.Tributary.{stripped, carries_more as carries_more_in};
 ghost use Rattle.pdh_align.specs.Aligning.{frame_back};
 
 use pdh_align::Aligner;
@@ -61,6 +61,27 @@ impl<S: Shape> Strip<S> {
         ensures { self.new.frame ≡ frame_back aligner.now.ready back }
     {
         aligner.copy_frame(back, &mut self.frame);
+    }
+
+    /// The frame that was copied last.
+    pub fn frame(&self) -> &[bool]
+        ensures frame { result.now ≡ self.now.frame }
+        ensures whole { length result.now ≡ S.LEN }
+    {
+        &self.frame
+    }
+
+    /// The tables of a frame's slots.
+    pub fn tables(&self) -> &SlotTables<S> {
+        &self.tables
+    }
+
+    /// Whether the frame carries an additional bit of a tributary.
+    pub fn carries_more(&self, trib: u8) -> bool
+        requires { trib < S.TRIBS }
+        ensures { result ≡ carries_more_in S.shape trib self.now.frame }
+    {
+        self.tables.carries_more(trib, &self.frame)
     }
 
     /// Reads the bits of a tributary in the frame.

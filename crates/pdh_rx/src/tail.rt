@@ -6,7 +6,7 @@ use crate::Rx;
 use pdh_edge::{Drain, Failed};
 use pdh_watch::Watch;
 
-/// Puts the bits that it receives to one leaf of a drain.
+/// Puts the bits that it receives to one leaf of a drain. It notes nothing.
 #[derive(Drop)]
 pub struct Tail {
     leaf: u32,
@@ -17,6 +17,7 @@ impl Tail {
     pub fn new(leaf: u32) -> Tail
         ensures meaning { ⟦<Tail as Rx>⟧.meaning result ≡ tail_meaning leaf }
         ensures stands { (line : List Bool) → ⟦<Tail as Rx>⟧.stands result line }
+        ensures tells { (line : List Bool) → ⟦<Tail as Rx>⟧.tells result line }
     {
         Tail { leaf }
     }
@@ -25,7 +26,11 @@ impl Tail {
 impl Rx for Tail {
     ghost stands = { λ t line. Unit {0} };
 
+    ghost tells = { λ t line. Unit {0} };
+
     ghost meaning = { λ t. tail_meaning t.leaf };
+
+    ghost told_stands = { λ t line told. told };
 
     ghost sound = { λ t. tail_sound t.leaf };
 

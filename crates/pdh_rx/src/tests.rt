@@ -8,7 +8,7 @@ use crate::{Rx, RxNode, Tail};
 use pdh_edge::{Drain, Failed, MemPort};
 use pdh_shape::{E2, TOP};
 use pdh_slots::SlotTables;
-use pdh_watch::Quiet;
+use pdh_watch::{Event, Kind, Quiet, Watch};
 use std::alloc::{AllocError, Global};
 use std::rc::Rc;
 use std::test::Fail;
@@ -25,6 +25,7 @@ fn node(alloc: Global) -> Result<RxNode<E2, Tail>, AllocError>
     ensures meaning { IfOk result (λ node. ⟦<RxNode<E2, Tail> as Rx>⟧.meaning node
         ≡ node_meaning e2 (record { depth = 0; first = 0; second = 0 }) four_tails) }
     ensures stands { IfOk result (λ node. ⟦<RxNode<E2, Tail> as Rx>⟧.stands node []) }
+    ensures tells { IfOk result (λ node. ⟦<RxNode<E2, Tail> as Rx>⟧.tells node []) }
 {
     let tables = Rc::new(alloc, SlotTables::open(alloc)?)?;
     RxNode::open(alloc, TOP, tables, tails(alloc)?)
@@ -71,13 +72,18 @@ fn zeros_ones_zeros(alloc: Global, counts: [usize; 3]) -> Result<Vec<bool>, Allo
 }
 
 // Takes the bits of a line.
-fn receive<R: Rx, D: Drain>(rx: &mut R, bits: &[bool], drain: &mut D) -> Result<(), Failed>
-    requires stands { (line : List Bool) × R.stands rx.old line }
+fn receive<R: Rx, D: Drain, W: Watch>(
+    rx: &mut R,
+    bits: &[bool],
+    drain: &mut D,
+    watch: &mut W,
+) -> Result<(), Failed>
+    requires tells { (line : List Bool) × R.tells rx.old line }
     requires lists { HoldsAll (R.meaning rx.old).leaves (D.outputs drain.old) }
     ensures { (D.outputs drain.new).holds ≡ (D.outputs drain.old).holds }
 {
     for bit in bits {
-        rx.push(*bit, drain, &mut Quiet)?;
+        rx.push(*bit, drain, watch)?;
     }
     Ok(())
 }
@@ -101,7 +107,7 @@ fn run(alloc: Global, line: &[bool], bits: &[bool]) -> Result<(bool, u64), Fail>
     for leaf in 0..4 {
         port.room(leaf, line.len())?;
     }
-    receive(&mut node, line, &mut port)?;
+    receive(&mut node, line, &mut port, &mut Quiet)?;
     Ok((each_got(&port, bits), node.frames()))
 }
 
@@ -162,7 +168,7 @@ fn run_in_room(
     for leaf in 0..4 {
         port.room(leaf, rooms[leaf as usize])?;
     }
-    let failed = receive(&mut node, line, &mut port).is_err();
+    let failed = receive(&mut node, line, &mut port, &mut Quiet).is_err();
     Ok((counts(&port), failed))
 }
 
@@ -176,5 +182,70 @@ fn ones_of_a_gap_go_in_rounds(rt: HostRuntime) -> Result<(), Fail> {
     assert_eq!(rt; last_full, ([301, 301, 301, 300], true));
     let second_full = run_in_room(alloc, &line, [2000, 300, 2000, 2000])?;
     assert_eq!(rt; second_full, ([301, 300, 300, 300], true));
+    Ok(())
+}
+
+// Keeps the kinds and the bits of the first four events.
+#[derive(Drop)]
+struct Recorder {
+    seen: [Option<(Kind, u64)>; 4],
+    count: usize,
+}
+
+impl Watch for Recorder {
+    ghost saw = { λ a events b. Unit {0} };
+
+    ghost saw_nothing = { λ a. tt };
+
+    ghost saw_join = { λ a b c xs ys p q. tt };
+
+    fn note(&mut self, event: &Event) {
+        if self.count < 4 {
+            self.seen[self.count] = Some((event.kind, event.bit));
+            self.count += 1;
+        }
+    }
+
+    fn ignores(&self) -> bool {
+        false
+    }
+}
+
+// The kinds and the bits of the first four events of a line.
+fn events_of(alloc: Global, line: &[bool]) -> Result<[Option<(Kind, u64)>; 4], Fail> {
+    let mut node = node(alloc)?;
+    let mut port = MemPort::open(alloc, Vec::new(alloc), 4)?;
+    for leaf in 0..4 {
+        port.room(leaf, line.len())?;
+    }
+    let mut recorder = Recorder {
+        seen: [None; 4],
+        count: 0,
+    };
+    receive(&mut node, line, &mut port, &mut recorder)?;
+    Ok(recorder.seen)
+}
+
+// Three right frames are an alignment at the last bit of the third, and four wrong ones lose it at the last bit of the
+// fourth. A frame's length of ones is AIS at its last bit, up to the first 0. Bits are counted from 0.
+#[test]
+fn events_and_their_bits(rt: HostRuntime) -> Result<(), Fail> {
+    let alloc = rt.alloc();
+    let lost = line(alloc, 0, &[0xF4, 0xF4, 0xF4, 4, 4, 4, 4, 0xF4, 0xF4, 0xF4])?;
+    let aligned_twice = [
+        Some((Kind::ALIGNED, 2543)),
+        Some((Kind::LOST, 5935)),
+        Some((Kind::ALIGNED, 8479)),
+        None,
+    ];
+    assert_eq!(rt; events_of(alloc, &lost)?, aligned_twice);
+    let ones = zeros_ones_zeros(alloc, [10, 900, 10])?;
+    let ais_once = [
+        Some((Kind::AIS_ON, 857)),
+        Some((Kind::AIS_OFF, 910)),
+        None,
+        None,
+    ];
+    assert_eq!(rt; events_of(alloc, &ones)?, ais_once);
     Ok(())
 }

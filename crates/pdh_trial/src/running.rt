@@ -3,7 +3,8 @@
 use crate::watched::Watched;
 use pdh_case::{Files, Given, Kind, Outcome, Run, content_of, known_names};
 use pdh_edge::{Call, MemShelf, MemSink, Shelf, Sink};
-use pdh_ops::{Ran, run};
+use pdh_main::run_with_monitors;
+use pdh_ops::Ran;
 use std::alloc::{AllocError, Global};
 use std::collections::BTreeSet;
 
@@ -119,18 +120,18 @@ fn let_given_fail(shelf: &mut MemShelf, sink: &mut MemSink, run: &Run) -> Result
 
 // ---- the run
 
-// Runs the program. None of its clauses is used here.
+// Runs the program, with its own monitors. None of its clauses is used here.
 fn perform(
     alloc: Global,
     words: &[String],
     shelf: MemShelf,
     sink: MemSink,
-) -> Ran<Watched, MemSink> {
+) -> Result<Ran<Watched, MemSink>, AllocError> {
     let shelf = Watched {
         shelf,
         failed: None,
     };
-    run(alloc, words, shelf, sink)
+    run_with_monitors(alloc, words, shelf, sink)
 }
 
 fn files_on(
@@ -194,7 +195,7 @@ fn run_known(
     if let Some((kind, number)) = fails {
         let_fail(&mut shelf, &mut sink, kind, number)?;
     }
-    Ok(perform(alloc, row, shelf, sink))
+    perform(alloc, row, shelf, sink)
 }
 
 /// Runs the program with a row of words over these files, with one more failing call.

@@ -1,1 +1,4 @@
 pub mod Kinds
+pub mod Seen
+pub mod Monitors
+pub mod MonitorLaws

@@ -3,10 +3,17 @@
 
 mod event;
 mod kind;
+mod members;
+mod monitor;
+mod monitors;
+mod names;
 #[cfg(test)]
 mod tests;
 mod watch;
 
 pub use event::Event;
 pub use kind::Kind;
+pub use members::{Boxes, Members};
+pub use monitor::Monitor;
+pub use monitors::{Counter, First, Latch};
 pub use watch::{Quiet, Watch};

@@ -8,7 +8,7 @@ use Rattle.pdh_chain.specs.declared.chain.Chain.{Chain}
 use Rattle.pdh_chain.specs.declared.chain.Chain.TheVariants.{C13}
 use Rattle.pdh_chain.specs.Chains.{chains, name_of}
 use Rattle.pdh_words.specs.declared.commands.Command.{Command}
-use Rattle.pdh_words.specs.declared.commands.Command.TheVariants.{Demux, Mux, ClockCheck, ClockMake, E1Pack, E1Unpack}
+use Rattle.pdh_words.specs.declared.commands.Command.TheVariants.{Demux, Mux, ClockCheck, ClockMake, Inspect, InspectE1, Show, E1Pack, E1Unpack}
 
 -- the chain of a word
 abbrev pub chain_of : List ℕ → Option Chain
@@ -28,11 +28,25 @@ framing_of word =
     (if bytes_eq word (codes "e1pack") then Some E1Pack
     else (if bytes_eq word (codes "e1unpack") then Some E1Unpack else None))
 
--- `mux` or `demux` of a chain
+-- `mux`, `demux` or `inspect` of a chain
 abbrev pub conversion_of : List ℕ → Chain → Option Command
 conversion_of word chain =
     (if bytes_eq word (codes "demux") then Some (Demux chain)
-    else (if bytes_eq word (codes "mux") then Some (Mux chain None) else None))
+    else (if bytes_eq word (codes "mux") then Some (Mux chain None)
+    else (if bytes_eq word (codes "inspect") then Some (Inspect chain) else None)))
+
+-- `show` of a frame of a chain's line
+abbrev pub showing_of : List ℕ → List ℕ → Option Command
+showing_of chain_word frame_word = do
+  chain ← chain_of chain_word
+  frame ← number_of frame_word
+  Some (Show chain frame)
+
+-- `clock check` of a chain
+abbrev pub checking_of : List ℕ → Option Command
+checking_of chain_word = do
+  chain ← chain_of chain_word
+  Some (ClockCheck chain)
 
 -- `mux` of a line with C-bit parity that sends this code, a number of at most 63, over the far end alarm and control channel
 abbrev pub sending_of : List ℕ → Option Command
@@ -49,15 +63,16 @@ making_of chain_word frames_word bias_word = do
   Some (ClockMake chain frames bias)
 
 -- the command of these words, if they are a row of the table: `mux CHAIN`, `demux CHAIN`, `clock check CHAIN`,
--- `mux c13 feac CODE`, `clock make CHAIN FRAMES BIAS`, `e1pack`, and `e1unpack`
+-- `mux c13 feac CODE`, `clock make CHAIN FRAMES BIAS`, `inspect CHAIN`, `inspect e1`, `show CHAIN NUMBER`, `e1pack`, and
+-- `e1unpack`
 abbrev pub command_of : List (List ℕ) → Option Command
 command_of (a ∷ []) = framing_of a
-command_of (a ∷ chain_word ∷ []) = do
-  chain ← chain_of chain_word
-  conversion_of a chain
-command_of (a ∷ b ∷ chain_word ∷ []) = do
-  chain ← chain_of chain_word
-  if bytes_eq a (codes "clock") && bytes_eq b (codes "check") then Some (ClockCheck chain) else None
+command_of (a ∷ b ∷ []) =
+    if bytes_eq a (codes "inspect") && bytes_eq b (codes "e1") then Some InspectE1 else (do
+      chain ← chain_of b
+      conversion_of a chain)
+command_of (a ∷ b ∷ c ∷ []) =
+    if bytes_eq a (codes "show") then showing_of b c else (if bytes_eq a (codes "clock") && bytes_eq b (codes "check") then checking_of c else None)
 command_of (a ∷ chain_word ∷ b ∷ code ∷ []) =
     if bytes_eq a (codes "mux") && (bytes_eq chain_word (codes "c13") && bytes_eq b (codes "feac")) then sending_of code else None
 command_of (a ∷ b ∷ chain_word ∷ frames ∷ bias ∷ []) =

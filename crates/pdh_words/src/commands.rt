@@ -30,6 +30,20 @@ pub enum Command {
         /// Which clocks are fast and which are slow.
         bias: Bias,
     },
+    /// `inspect CHAIN`: tells what the monitors saw of a line.
+    Inspect {
+        /// The chain of the line.
+        chain: Chain,
+    },
+    /// `inspect e1`: tells what the monitors saw of a line of CRC-4 multiframes (G.706, 4).
+    InspectE1,
+    /// `show CHAIN NUMBER`: shows a frame of a line, whatever the alignment.
+    Show {
+        /// The chain of the line.
+        chain: Chain,
+        /// The number of the frame, from 0.
+        frame: u32,
+    },
     /// `e1pack`: puts a payload into a line of CRC-4 multiframes (G.704, 2.3).
     E1Pack,
     /// `e1unpack`: takes the payload out of a line of CRC-4 multiframes (G.706, 4).

@@ -2,9 +2,8 @@
 #![tactic(auto)]
 
 mod commands;
-mod text;
 mod words;
 
 pub use commands::Command;
-pub use text::Text;
+pub use pdh_text::Text;
 pub use words::command;

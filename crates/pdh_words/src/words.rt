@@ -1,6 +1,6 @@
 ghost use Rattle.std.specs.Prelude.{◌≡◌, map, IfSome};
 ghost use Rattle.std.specs.String.{string_bytes};
-ghost use Rattle.pdh_words.specs.Commands.{chain_of, bias_of, framing_of, conversion_of, sending_of, making_of, command_of, HasCode};
+ghost use Rattle.pdh_words.specs.Commands.{chain_of, bias_of, framing_of, conversion_of, showing_of, checking_of, sending_of, making_of, command_of, HasCode};
 
 use crate::commands::Command;
 use pdh_chain::{Chain, all_chains};
@@ -47,8 +47,26 @@ fn conversion(word: &str, chain: Chain) -> Option<Command>
     match word {
         "demux" => Some(Command::Demux { chain }),
         "mux" => Some(Command::Mux { chain, feac: None }),
+        "inspect" => Some(Command::Inspect { chain }),
         _ => None,
     }
+}
+
+// The showing of a frame of a line, by its chain and its number.
+fn showing(chain_word: &str, frame: &str) -> Option<Command>
+    ensures { result ≡ showing_of chain_word.now frame.now }
+{
+    let chain = chain(chain_word)?;
+    let frame = number(frame.as_bytes())?;
+    Some(Command::Show { chain, frame })
+}
+
+// The check of a schedule, by its chain.
+fn checking(chain_word: &str) -> Option<Command>
+    ensures { result ≡ checking_of chain_word.now }
+{
+    let chain = chain(chain_word)?;
+    Some(Command::ClockCheck { chain })
 }
 
 // The making of a line with C-bit parity that sends a code.
@@ -81,19 +99,23 @@ fn making(chain_word: &str, frames: &str, bias_word: &str) -> Option<Command>
 
 /// The command of the words, without the program's own name, if they are a row of the table: `mux CHAIN`, `demux CHAIN`,
 /// `mux c13 feac CODE` with a number of at most 63, `clock check CHAIN`, `clock make CHAIN FRAMES BIAS` with a number and
-/// `nominal`, `fast`, `slow` or `mixed`, `e1pack`, or `e1unpack`. CHAIN is the name of a chain.
+/// `nominal`, `fast`, `slow` or `mixed`, `inspect CHAIN`, `inspect e1`, `show CHAIN NUMBER`, `e1pack`, or `e1unpack`. CHAIN
+/// is the name of a chain.
 pub fn command(words: &[String]) -> Option<Command>
     ensures is { result ≡ command_of (map string_bytes words.now) }
     ensures code { IfSome result HasCode }
 {
     match words {
         [word] => framing(word.as_str()),
+        [first, second] if first.as_str() == "inspect" && second.as_str() == "e1" => {
+            Some(Command::InspectE1)
+        }
         [first, chain_word] => conversion(first.as_str(), chain(chain_word.as_str())?),
-        [first, second, chain_word] => {
-            let chain = chain(chain_word.as_str())?;
-            (first.as_str() == "clock" && second.as_str() == "check").then_some(
-                Command::ClockCheck { chain },
-            )
+        [first, second, third] if first.as_str() == "show" => {
+            showing(second.as_str(), third.as_str())
+        }
+        [first, second, third] if first.as_str() == "clock" && second.as_str() == "check" => {
+            checking(third.as_str())
         }
         [first, second, third, code]
             if first.as_str() == "mux" && second.as_str() == "c13" && third.as_str() == "feac" => {

@@ -1,11 +1,19 @@
--- More received bits only add to what leaves get below a demultiplexer.
-use Rattle.std.specs.Prelude.{◌≡◌, ℕ, suc, Bool, true, false, ◌||◌, List, [], ◌∷◌, map, cond, refl}
-use Rattle.std.proofs.Common.{sym, ◌∙◌, ap, subst}
+-- Laws of a demultiplexer: more received bits only add to what leaves get below it, what took bits one by one stands for them,
+-- and the events of a chain are those that its nodes note.
+use Rattle.std.specs.Prelude.{◌≡◌, ℕ, zero, suc, ◌<◌, Bool, true, false, ◌||◌, List, [], ◌∷◌, length, map, cond, slice_get, Some, refl}
+use Rattle.std.proofs.Common.{sym, ◌∙◌, ap, subst, arith}
 use Rattle.pdh_shape.specs.declared.place.Path.{Path}
 use Rattle.pdh_shape.specs.Frame.{FrameShape, IsFrame}
+use Rattle.pdh_shape.specs.Tributary.{HasTributaries}
+use Rattle.pdh_watch.specs.declared.event.Event.{Event}
 use Rattle.pdh_edge.specs.Ports.{IsPrefix}
 use Rattle.pdh_rx.specs.Meaning.{Meaning, IsSound}
-use Rattle.pdh_rx.specs.Node.{node_meaning, got_by, any_leaf, received_lines}
+use Rattle.pdh_align.specs.Aligning.{Held}
+use Rattle.pdh_events.specs.Keeping.{OnesRun, Kept}
+use Rattle.pdh_events.specs.Acts.{bit_acts}
+use Rattle.pdh_events.specs.Chain.{child_path, bit_events}
+use Rattle.pdh_events.specs.laws.ActsLaws.{gives_bit, acts_events_alike}
+use Rattle.pdh_rx.specs.Node.{child_notes, node_meaning, got_by, any_leaf, received_lines, EachStands, NodeStands, NodeTells}
 use Rattle.pdh_rx.specs.laws.Growth.{received_grows}
 
 prefix_cond : (b : Bool) (x y x' y' : List Bool) → IsPrefix x x' → IsPrefix y y' → IsPrefix (cond b x y) (cond b x' y')
@@ -50,3 +58,38 @@ node_sound meaning sound s shape path children = record {
   grows = λ line more k. got_by_grows (map meaning children) (all_sound meaning sound children) _ _ (λ j. received_grows s j line more shape) k;
   elsewhere = λ line k e. got_elsewhere (map meaning children) (received_lines s line) k e;
 }
+
+-- children that took bits one by one stand for them
+pub each_told : {C : Type 0} (tells stands : C → List Bool → Type 0) → ((c : C) (line : List Bool) → tells c line → stands c line) → (children : List C) (lines : ℕ → List Bool) → EachStands tells children lines → EachStands stands children lines
+each_told tells stands told_stands children lines each j c at = told_stands c (lines j) (each j c at)
+
+-- so does a demultiplexer
+pub node_told_stands : {C : Type 0} (tells stands : C → List Bool → Type 0) (told_stands : (c : C) (line : List Bool) → tells c line → stands c line) (meaning : C → Meaning) (s : FrameShape) (children : List C) (held : Held) (gap frames bits : ℕ) (ais : OnesRun) (kept : Kept) (line : List Bool)
+    → NodeTells tells meaning s children held gap frames bits ais kept line → NodeStands stands meaning s children held gap frames line
+node_told_stands tells stands told_stands meaning s children held gap frames bits ais kept line told = record {
+  count = told.node.count;
+  disjoint = told.node.disjoint;
+  each = each_told tells stands told_stands children (received_lines s line) told.node.each;
+  aligner = told.node.aligner;
+  inside = told.node.inside;
+  gap_is = told.node.gap_is;
+  frames_are = told.node.frames_are;
+}
+
+-- ---- the events
+
+child_alike : (ms : List Meaning) (g : ℕ → List Bool → Bool → List Event) → ((j : ℕ) (m : Meaning) → slice_get ms j ≡ Some m → (line : List Bool) (bit : Bool) → m.notes line bit ≡ g j line bit)
+    → (j : ℕ) (line : List Bool) (bit : Bool) → j < length ms → child_notes ms j line bit ≡ g j line bit
+child_alike [] g h j line bit lt = absurd (omega (arith, lt))
+child_alike (m ∷ ms) g h zero line bit lt = h 0 m refl line bit
+child_alike (m ∷ ms) g h (suc j) line bit lt = child_alike ms (λ i. g (suc i)) (λ i m' e. h (suc i) m' e) j line bit (omega arith)
+
+-- where each child notes the events of the chain below it, the demultiplexer notes those of the chain from it down
+pub node_notes : (s : FrameShape) (below : List FrameShape) (path : Path) (ms : List Meaning) → HasTributaries s → length ms ≡ s.tribs
+    → ((j : ℕ) (m : Meaning) → slice_get ms j ≡ Some m → (line : List Bool) (bit : Bool) → m.notes line bit ≡ bit_events below (child_path path j) line bit)
+    → (line : List Bool) (bit : Bool) → (node_meaning s path ms).notes line bit ≡ bit_events (s ∷ below) path line bit
+unfolding bit_events
+node_notes s below path ms has count each line bit =
+    acts_events_alike s.tribs (child_notes ms) (λ j. bit_events below (child_path path j))
+    (λ j line bit lt. child_alike ms (λ j. bit_events below (child_path path j)) each j line bit (omega (arith, lt, count)))
+    (bit_acts s path line bit) (received_lines s line) (gives_bit s path line bit has)

@@ -9,7 +9,7 @@ use Rattle.pdh_chain.proofs.receiving.demux_with.Goals as goal
 pub returns-in_err-start-clause-err : goal.returns-in_err-start-clause-err
 returns-in_err-start-clause-err g c =
     let p = err_from_is_err_and c.from_residual-in_err-start.result c.from_residual-in_err-start.ensures.1 in
-    rw (p.1, p.2) (c.in_err-start.ensures.cause.failed, nothing_received (g.S.Shape.shape ∷ g.C.ChainRx.shapes) c.args.bits _ _ _ _ c.in_err-start.ensures.inputs c.in_err-start.ensures.outputs)
+    rw (p.1, p.2) (c.in_err-start.ensures.cause.failed, nothing_received (g.S.Shape.shape ∷ g.C.ChainRx.shapes) _ c.args.bits _ _ _ _ c.in_err-start.ensures.inputs c.in_err-start.ensures.outputs (g.met.W.Watch.saw_nothing c.args.watch.now))
 
 pub receive_all-requires-clause-lists : goal.receive_all-requires-clause-lists
 receive_all-requires-clause-lists g c k is =
@@ -26,7 +26,7 @@ returns-in_err-receive_all-clause-err g c =
     let same = c.in_ok-node.ensures.meaning in
     let since = g.met.P.Port.kept_counts c.args.port.now c.start.new.self c.start.ensures.kept in
     rw (p.1, p.2, sym c.in_ok-start.ensures.inputs, sym c.in_ok-start.ensures.outputs)
-    (stops shapes _ c.args.bits _ _ _ _ _ _ _ _ _ _ c.in_err-receive_all.field-0.0 same (g.met.S.Shape.is_frame, g.met.S.Shape.has_tributaries, g.met.C.ChainRx.are_frames) since.0 since.1 c.in_err-receive_all.ensures.stops)
+    (stops shapes _ (λ events. g.W.Watch.saw c.args.watch.now events c.receive_all.new.watch) c.args.bits _ _ _ _ _ _ _ _ _ _ c.in_err-receive_all.field-0.0 same (g.met.S.Shape.is_frame, g.met.S.Shape.has_tributaries, g.met.C.ChainRx.are_frames) since.0 since.1 c.in_err-receive_all.ensures.stops)
 
 pub returns-clause-kept : goal.returns-clause-kept
 returns-clause-kept g c = g.met.P.Port.kept_join c.args.port.now c.start.new.self c.receive_all.new.port c.start.ensures.kept c.receive_all.ensures.kept
@@ -40,7 +40,7 @@ returns-clause-ok g c =
     let shapes = s ∷ g.C.ChainRx.shapes in
     let same = c.in_ok-node.ensures.meaning in
     rw (sym c.in_ok-start.ensures.inputs, sym c.in_ok-start.ensures.outputs)
-    (demuxes shapes _ _ c.args.bits c.frames.result _ _ _ _ same (g.met.S.Shape.is_frame, g.met.S.Shape.has_tributaries, g.met.C.ChainRx.are_frames)
+    (demuxes shapes _ _ (λ events. g.W.Watch.saw c.args.watch.now events c.receive_all.new.watch) c.args.bits c.frames.result _ _ _ _ same (g.met.S.Shape.is_frame, g.met.S.Shape.has_tributaries, g.met.C.ChainRx.are_frames)
     (λ line count stood. c.frames.ensures line stood ∙ frames_exact s line g.met.S.Shape.is_frame (omega (arith, count, c.requires.few))) c.in_ok-receive_all.ensures.received)
 
 pub returns-in_err-receive_all-clause-ready : goal.returns-in_err-receive_all-clause-ready
@@ -49,5 +49,5 @@ returns-in_err-receive_all-clause-ready g c =
     let ready = g.met.P.Port.kept_ready c.start.new.self c.receive_all.new.port c.receive_all.ensures.kept c.in_ok-start.ensures.ok in
     let meaning = node_meaning g.S.Shape.shape c.in_ok-node.node.path (map g.C.Rx.meaning c.in_ok-node.node.children.items) in
     rw (p.1, p.2)
-    (left meaning c.args.bits (g.P.Feed.inputs c.start.new.self) (g.P.Feed.inputs c.receive_all.new.port) (g.P.Drain.outputs c.start.new.self) (g.P.Drain.outputs c.receive_all.new.port) (g.P.Feed.feed_faults c.start.new.self)
+    (left meaning (λ events. g.W.Watch.saw c.args.watch.now events c.receive_all.new.watch) c.args.bits (g.P.Feed.inputs c.start.new.self) (g.P.Feed.inputs c.receive_all.new.port) (g.P.Drain.outputs c.start.new.self) (g.P.Drain.outputs c.receive_all.new.port) (g.P.Feed.feed_faults c.start.new.self)
     (g.P.Feed.feed_faults c.receive_all.new.port) (g.P.Drain.drain_faults c.start.new.self) (g.P.Drain.drain_faults c.receive_all.new.port) _ _ c.in_err-receive_all.field-0.0 c.in_err-receive_all.ensures.stops ready)

@@ -1,4 +1,4 @@
-use Rattle.std.proofs.Common.{◌≡◌, []}
+use Rattle.std.proofs.Common.{◌≡◌}
 use Rattle.pdh_chain.specs.Demuxing.{Receives}
 use Rattle.pdh_chain.proofs.receiving.receive.Given as goal
 
@@ -6,9 +6,8 @@ use Rattle.pdh_chain.proofs.receiving.receive.Given as goal
 abbrev pub invariant-loop-received : goal.invariant-loop-received
 invariant-loop-received g l = record {
   same : g.R.Rx.meaning l.receiver ≡ g.R.Rx.meaning l.fn.receiver;
-  seen : g.W.Watch.saw l.fn.watch [] l.watch;
   kept : g.P.Port.kept l.fn.port l.port;
   inputs : (g.P.Feed.inputs l.port).holds ≡ (g.P.Feed.inputs l.fn.port).holds;
   outputs : (g.P.Drain.outputs l.port).holds ≡ (g.P.Drain.outputs l.fn.port).holds;
-  receives : Receives (g.R.Rx.meaning l.fn.receiver) (g.R.Rx.stands l.receiver) l._received (g.P.Feed.inputs l.fn.port) (g.P.Feed.inputs l.port) (g.P.Drain.outputs l.fn.port) (g.P.Drain.outputs l.port);
+  receives : Receives (g.R.Rx.meaning l.fn.receiver) (g.R.Rx.tells l.receiver) (λ events. g.W.Watch.saw l.fn.watch events l.watch) l._received (g.P.Feed.inputs l.fn.port) (g.P.Feed.inputs l.port) (g.P.Drain.outputs l.fn.port) (g.P.Drain.outputs l.port);
 }

@@ -1,5 +1,6 @@
-use Rattle.std.proofs.Common.{[]}
+use Rattle.std.proofs.Common.{sym}
+use Rattle.pdh_chain.proofs.Received.{receives_all, receives_as, stops_all}
 use Rattle.pdh_chain.proofs.receiving.receive_all.Goals as goal
 
-pub returns-then-ignores-clause-seen : goal.returns-then-ignores-clause-seen
-returns-then-ignores-clause-seen g c = c.ignores.ensures c.if-ignores.true []
+pub receive_many-requires-clause-stands : goal.receive_many-requires-clause-stands
+receive_many-requires-clause-stands g c = g.met.R.Rx.told_stands c.args.receiver.now _ c.requires.tells

@@ -1,3 +1,4 @@
+use Rattle.std.specs.Prelude.{⊤}
 use Rattle.std.proofs.Common.{◌≡◌, ◌≤◌, ◌+◌, Err, length, take, refl, ap, ◌∙◌, sym, subst, arith}
 use Rattle.std.proofs.lemmas.List.{length-take, length-take-le, take-append-le}
 use Rattle.std.proofs.lemmas.Result.{err_from_is_err_and}
@@ -13,7 +14,7 @@ loop-received-init g c = record {
   kept = g.met.P.Port.kept_same c.args.port.now;
   inputs = refl;
   outputs = refl;
-  receives = receives_none (g.R.Rx.meaning c.args.receiver.now) (g.R.Rx.stands c.args.receiver.now) (g.P.Feed.inputs c.args.port.now) (g.P.Drain.outputs c.args.port.now) c.requires.stands;
+  receives = receives_none (g.R.Rx.meaning c.args.receiver.now) (g.R.Rx.stands c.args.receiver.now) (λ events. ⊤) (g.P.Feed.inputs c.args.port.now) (g.P.Drain.outputs c.args.port.now) c.requires.stands tt;
 }
 
 pub bits-requires-clause-held : goal.bits-requires-clause-held
@@ -26,7 +27,7 @@ returns-in_err-count-clause-stops g c =
     let fed = g.met.P.Port.fed_keeps_outputs c.loop-received.port c.bits.new.self c.bits.ensures.fed in
     let counts = g.met.P.Port.kept_counts c.args.port.now c.loop-received.port inv.kept in
     rw (p.1, p.2)
-    (feed_stops (g.R.Rx.meaning c.args.receiver.now) (g.R.Rx.stands c.loop-received.receiver) c.loop-received.received c.args.bits (g.P.Feed.inputs c.args.port.now) (g.P.Feed.inputs c.loop-received.port) (g.P.Feed.inputs c.bits.new.self)
+    (feed_stops (g.R.Rx.meaning c.args.receiver.now) (g.R.Rx.stands c.loop-received.receiver) (λ events. ⊤) c.loop-received.received c.args.bits (g.P.Feed.inputs c.args.port.now) (g.P.Feed.inputs c.loop-received.port) (g.P.Feed.inputs c.bits.new.self)
     (g.P.Drain.outputs c.args.port.now) (g.P.Drain.outputs c.loop-received.port) (g.P.Drain.outputs c.bits.new.self) _ _ _ _ _ c.in_err-count.field-0.0 c.loop-received-test.true fed.0 inv.receives c.in_err-count.ensures.err counts.0
     (λ e. c.in_err-count.ensures.cause.failed (ap Err e)) (λ e. c.in_err-count.ensures.ended (ap Err e)))
 
@@ -94,7 +95,7 @@ loop-received-preserved g c =
 pub returns-clause-received : goal.returns-clause-received
 returns-clause-received g c =
     let all : c.loop-received.received ≡ c.args.bits = omega arith in
-    subst (λ n. Receives (g.R.Rx.meaning c.args.receiver.now) (g.R.Rx.stands c.loop-received.receiver) n (g.P.Feed.inputs c.args.port.now) (g.P.Feed.inputs c.loop-received.port) (g.P.Drain.outputs c.args.port.now)
+    subst (λ n. Receives (g.R.Rx.meaning c.args.receiver.now) (g.R.Rx.stands c.loop-received.receiver) (λ events. ⊤) n (g.P.Feed.inputs c.args.port.now) (g.P.Feed.inputs c.loop-received.port) (g.P.Drain.outputs c.args.port.now)
     (g.P.Drain.outputs c.loop-received.port)) all c.loop-received.invariant.receives
 
 pub returns-clause-kept : goal.returns-clause-kept

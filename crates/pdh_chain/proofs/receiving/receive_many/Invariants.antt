@@ -1,3 +1,4 @@
+use Rattle.std.specs.Prelude.{⊤}
 use Rattle.std.proofs.Common.{◌≡◌, ◌≤◌, ◌-◌}
 use Rattle.pdh_chain.specs.Demuxing.{Receives}
 use Rattle.pdh_chain.proofs.receiving.receive_many.Given as goal
@@ -10,7 +11,7 @@ invariant-loop-received g l = record {
   kept : g.P.Port.kept l.fn.port l.port;
   inputs : (g.P.Feed.inputs l.port).holds ≡ (g.P.Feed.inputs l.fn.port).holds;
   outputs : (g.P.Drain.outputs l.port).holds ≡ (g.P.Drain.outputs l.fn.port).holds;
-  receives : Receives (g.R.Rx.meaning l.fn.receiver) (g.R.Rx.stands l.receiver) l.received (g.P.Feed.inputs l.fn.port) (g.P.Feed.inputs l.port) (g.P.Drain.outputs l.fn.port) (g.P.Drain.outputs l.port);
+  receives : Receives (g.R.Rx.meaning l.fn.receiver) (g.R.Rx.stands l.receiver) (λ events. ⊤) l.received (g.P.Feed.inputs l.fn.port) (g.P.Feed.inputs l.port) (g.P.Drain.outputs l.fn.port) (g.P.Drain.outputs l.port);
 }
 
 abbrev pub decreases-loop-received : goal.decreases-loop-received

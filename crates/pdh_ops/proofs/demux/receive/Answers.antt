@@ -19,5 +19,5 @@ deliver-requires-clause-line c =
 pub returns : goal.returns
 returns c =
     let long : c.len-count.result ≡ length c.in_ok-bits.bits.items = grind (arith, common_steps) in
-    is_received c.args.chain c.args.line.now c.in_ok-bits.bits.items c.len-count.result c.leaves-leaves.result _ _ _ _ (record { outputs = c.in_ok-outputs.outputs; frames = c.in_ok-frames.frames }) c.in_ok-bits.ensures long c.leaves-leaves.ensures.value
+    is_received c.args.chain _ c.args.line.now c.in_ok-bits.bits.items c.len-count.result c.leaves-leaves.result _ _ _ _ (record { outputs = c.in_ok-outputs.outputs; frames = c.in_ok-frames.frames }) c.in_ok-bits.ensures long c.leaves-leaves.ensures.value
     c.in_ok-port.ensures.inputs c.in_ok-port.ensures.outputs c.in_ok-frames.ensures.ok c.in_ok-outputs.ensures

@@ -1,23 +1,41 @@
-use Rattle.std.proofs.Common.{◌≡◌, ◌<◌, ◌-◌, suc, refl, ◌∙◌, arith, map, length, take, []}
-use Rattle.pdh_shape.specs.Tributary.{stripped}
+use Rattle.std.proofs.Common.{◌≡◌, ◌<◌, ◌-◌, ◌++◌, suc, refl, sym, ◌∙◌, ap, subst, arith, map, length, take, Bool, List}
+use Rattle.std.proofs.lemmas.List.{append-nil, take_all, length-map}
+use Rattle.pdh_line.specs.Tracking.{Piece}
+use Rattle.pdh_line.specs.Tracking.Piece.{Delivered}
 use Rattle.pdh_align.specs.Aligning.{frame_back}
-use Rattle.pdh_rx.specs.Node.{frames_bits, with_more}
+use Rattle.pdh_events.specs.Acts.{frame_acts, frames_acts}
+use Rattle.pdh_events.specs.Keeping.{Remembers}
+use Rattle.pdh_events.specs.laws.ActsLaws.{after_acts}
+use Rattle.pdh_rx.specs.Node.{any_leaf}
 use Rattle.pdh_rx.specs.laws.NodeLaws.{all_sound}
-use Rattle.pdh_rx.proofs.Gains.{on_err_from, cause_since, gives_nothing, gives_join, gives_part, gives_at, part_at}
-use Rattle.pdh_rx.proofs.SlotBits.{frames_push, frames_begin}
+use Rattle.pdh_rx.proofs.Gains.{on_err_from, cause_since}
+use Rattle.pdh_rx.proofs.Playing.{plays_nothing, plays_same, plays_join, plays_part, plays_at, part_at}
+use Rattle.pdh_rx.proofs.SlotActs.{frames_next, frames_begin, frames_left, pieces_next}
 use Rattle.pdh_rx.proofs.frames.deliver_all.Goals as goal
 
 pub loop-done-init : goal.loop-done-init
 loop-done-init g c = record {
   same = refl;
-  given = gives_nothing g.C.Rx.stands _ _ _ (frames_bits g.S.Shape.shape []) (λ j. refl);
-  seen = g.met.W.Watch.saw_nothing _;
+  played = λ pieces kept. plays_nothing g.C.Rx.tells g.W.Watch.saw _ _ _ _ (g.met.W.Watch.saw_nothing _);
+  remembers = λ pieces kept. let P : List Piece → Type 0 = Remembers g.S.Shape.shape c.args.teller.now in subst P (sym (append-nil pieces)) kept;
   drained = g.met.D.Drain.drained_same _;
-  room = refl;
 }
 
-pub deliver-requires-clause-stands : goal.deliver-requires-clause-stands
-deliver-requires-clause-stands g c = (with_more c.requires.stands.0 (frames_bits g.S.Shape.shape (take c.loop-done.done c.args.aligner.now.ready)), c.loop-done.invariant.given.each _ c.requires.stands.1)
+pub deliver-requires-clause-tribs : goal.deliver-requires-clause-tribs
+deliver-requires-clause-tribs g c =
+    sym (length-map c.loop-done.children.items g.C.Rx.meaning) ∙ ap length c.loop-done.invariant.same ∙ length-map c.args.children.now.items g.C.Rx.meaning ∙ c.requires.tribs
+
+pub deliver-requires-clause-lists : goal.deliver-requires-clause-lists
+deliver-requires-clause-lists g c k is =
+    let inv = c.loop-done.invariant in
+    ap (λ h. h k) (g.met.D.Drain.drained_holds c.args.drain.now c.loop-done.drain inv.drained) ∙ c.requires.lists k (ap (λ ms. any_leaf ms k) (sym inv.same) ∙ is)
+
+pub deliver-requires-clause-tells : goal.deliver-requires-clause-tells
+deliver-requires-clause-tells g c =
+    let kept = c.requires.kept in (
+      after_acts c.requires.tells.0 (frames_acts g.S.Shape.shape c.args.path c.args.bit kept.0 (take c.loop-done.done c.args.aligner.now.ready)),
+      (c.loop-done.invariant.played kept.0 kept.1).gives.each _ c.requires.tells.1,
+    )
 
 pub loop-done-preserved : goal.loop-done-preserved
 loop-done-preserved g c =
@@ -32,10 +50,15 @@ loop-done-preserved g c =
     let is : length ready - suc back ≡ n = omega (arith, c.requires.ready) in
     record {
       same = ok.same ∙ inv.same;
-      given = gives_join g.C.Rx.stands ms (frames_bits s (take n ready)) (λ j. stripped s j (frame_back ready back)) _ _ _ _ _ _ _ (frames_push s ready n back inside is) inv.given (gives_at g.C.Rx.stands ms _ inv.same _ _ _ _ _ ok.given);
-      seen = g.met.W.Watch.saw_join _ _ _ [] [] inv.seen ok.seen;
+      played = λ pieces kept.
+          let before = pieces ++ map Delivered (take n ready) in
+          plays_same g.C.Rx.tells g.W.Watch.saw ms _ _ _ _ _ _ _ _ (frames_next s c.args.path c.args.bit pieces ready n back inside is)
+          (plays_join g.C.Rx.tells g.W.Watch.saw ms g.met.W.Watch.saw_join (frames_acts s c.args.path c.args.bit pieces (take n ready)) (frame_acts s c.args.path c.args.bit before (frame_back ready back)) _ _ _ _ _ _ _ _ _ (inv.played pieces kept)
+          (plays_at g.C.Rx.tells g.W.Watch.saw ms _ inv.same _ _ _ _ _ _ _ (ok.played before (inv.remembers pieces kept))));
+      remembers = λ pieces kept.
+          let P : List Piece → Type 0 = Remembers s _ in
+          subst P (sym (pieces_next pieces ready n back inside is)) (ok.remembers (pieces ++ map Delivered (take n ready)) (inv.remembers pieces kept));
       drained = g.met.D.Drain.drained_join _ _ _ inv.drained ok.drained;
-      room = ok.room ∙ inv.room;
     }
 
 pub returns-in_err-deliver-clause-part : goal.returns-in_err-deliver-clause-part
@@ -49,15 +72,30 @@ returns-in_err-deliver-clause-part g c =
     let ms = map g.C.Rx.meaning c.args.children.now.items in
     let inside : n < length ready = omega (arith, c.requires.ready) in
     let is : length ready - suc back ≡ n = omega (arith, c.requires.ready) in
-    on_err_from _ c.from_residual.result
-    (gives_part g.C.Rx.stands ms (all_sound g.C.Rx.meaning g.met.C.Rx.sound c.args.children.now.items) (frames_bits s (take n ready)) (λ j. stripped s j (frame_back ready back)) _ _ _ _ _ _
-    (frames_begin s ready n back inside is) inv.given (part_at g.C.Rx.stands ms _ inv.same _ _ _ _ err.part))
+    on_err_from _ c.from_residual.result (λ pieces kept.
+    let before = pieces ++ map Delivered (take n ready) in
+    plays_part g.C.Rx.tells g.W.Watch.saw ms g.met.W.Watch.saw_join (all_sound g.C.Rx.meaning g.met.C.Rx.sound c.args.children.now.items) (frames_acts s c.args.path c.args.bit pieces (take n ready)) (frame_acts s c.args.path c.args.bit before (frame_back ready back))
+    (frames_left s c.args.path c.args.bit pieces ready n) (frames_acts s c.args.path c.args.bit pieces ready) _ _ _ _ _ _ _ _
+    (frames_begin s c.args.path c.args.bit pieces ready n back inside is) (inv.played pieces kept) (part_at g.C.Rx.tells g.W.Watch.saw ms _ inv.same _ _ _ _ _ _ (err.part before (inv.remembers pieces kept))))
 
-pub returns-in_err-deliver-clause-seen : goal.returns-in_err-deliver-clause-seen
-returns-in_err-deliver-clause-seen g c = g.met.W.Watch.saw_join _ _ _ [] [] c.loop-done.invariant.seen c.in_err-deliver.ensures.seen
+pub returns-clause-played : goal.returns-clause-played
+returns-clause-played g c pieces kept =
+    let ready = c.args.aligner.now.ready in
+    let all : length ready ≡ c.loop-done.done = c.requires.ready ∙ omega arith in
+    plays_same g.C.Rx.tells g.W.Watch.saw _ _ _ _ _ _ _ _ _ (ap (frames_acts g.S.Shape.shape c.args.path c.args.bit pieces) (sym (take_all c.loop-done.done ready (omega (arith, all))))) (c.loop-done.invariant.played pieces kept)
+
+pub returns-clause-remembers : goal.returns-clause-remembers
+returns-clause-remembers g c pieces kept =
+    let ready = c.args.aligner.now.ready in
+    let all : length ready ≡ c.loop-done.done = c.requires.ready ∙ omega arith in
+    let P : List (List Bool) → Type 0 = λ v. Remembers g.S.Shape.shape c.loop-done.teller (pieces ++ map Delivered v) in
+    subst P (take_all c.loop-done.done ready (omega (arith, all))) (c.loop-done.invariant.remembers pieces kept)
 
 pub returns-in_err-deliver-clause-cause : goal.returns-in_err-deliver-clause-cause
 returns-in_err-deliver-clause-cause g c = cause_since c.from_residual.result _ _ _ (g.met.D.Drain.drained_counts _ _ c.loop-done.invariant.drained) c.in_err-deliver.ensures.cause.later c.in_err-deliver.ensures.cause.failed
 
 pub returns-in_err-deliver-clause-drained : goal.returns-in_err-deliver-clause-drained
 returns-in_err-deliver-clause-drained g c = g.met.D.Drain.drained_join _ _ _ c.loop-done.invariant.drained c.in_err-deliver.ensures.drained
+
+pub returns-clause-cause : goal.returns-clause-cause
+returns-clause-cause g c = record { later = g.met.D.Drain.drained_counts _ _ c.loop-done.invariant.drained; failed = tt }

@@ -1,13 +1,16 @@
-use Rattle.std.proofs.Common.{◌≡◌, [], map, length, take}
-use Rattle.pdh_rx.specs.Node.{Gives, frames_bits}
+use Rattle.std.proofs.Common.{◌≡◌, ◌++◌, List, map, take}
+use Rattle.pdh_line.specs.Tracking.{Piece}
+use Rattle.pdh_line.specs.Tracking.Piece.{Delivered}
+use Rattle.pdh_events.specs.Acts.{frames_acts}
+use Rattle.pdh_events.specs.Keeping.{Remembers}
+use Rattle.pdh_rx.specs.Node.{Plays}
 use Rattle.pdh_rx.proofs.frames.deliver_all.Given as goal
 
--- so many of the frames were given
+-- so many of the frames were delivered
 abbrev pub invariant-loop-done : goal.invariant-loop-done
 invariant-loop-done g l = record {
   same : map g.C.Rx.meaning l.children.items ≡ map g.C.Rx.meaning l.fn.children.items;
-  given : Gives g.C.Rx.stands (map g.C.Rx.meaning l.fn.children.items) (frames_bits g.S.Shape.shape (take l.done l.aligner.ready)) l.fn.children.items l.children.items (g.D.Drain.outputs l.fn.drain) (g.D.Drain.outputs l.drain);
-  seen : g.W.Watch.saw l.fn.watch [] l.watch;
+  played : (pieces : List Piece) → Remembers g.S.Shape.shape l.fn.teller pieces → Plays g.C.Rx.tells g.W.Watch.saw (map g.C.Rx.meaning l.fn.children.items) (frames_acts g.S.Shape.shape l.path l.bit pieces (take l.done l.aligner.ready)) l.fn.children.items l.children.items (g.D.Drain.outputs l.fn.drain) (g.D.Drain.outputs l.drain) l.fn.watch l.watch;
+  remembers : (pieces : List Piece) → Remembers g.S.Shape.shape l.fn.teller pieces → Remembers g.S.Shape.shape l.teller (pieces ++ map Delivered (take l.done l.aligner.ready));
   drained : g.D.Drain.drained l.fn.drain l.drain;
-  room : length l.ones.items ≡ length l.fn.ones.items;
 }

@@ -1,10 +1,11 @@
 use Rattle.std.proofs.Common.{◌≡◌, ◌<◌, ◌-◌, suc, refl, ◌∙◌, arith, map, length, take, []}
 use Rattle.pdh_shape.specs.Tributary.{stripped}
 use Rattle.pdh_align.specs.Aligning.{frame_back}
-use Rattle.pdh_rx.specs.Node.{frames_bits, with_more}
+use Rattle.pdh_events.specs.Acts.{with_more}
+use Rattle.pdh_rx.specs.Node.{frames_bits}
 use Rattle.pdh_rx.specs.laws.NodeLaws.{all_sound}
 use Rattle.pdh_rx.proofs.Gains.{on_err_from, cause_since, gives_nothing, gives_join, gives_part, gives_at, part_at}
-use Rattle.pdh_rx.proofs.SlotBits.{frames_push, frames_begin}
+use Rattle.pdh_rx.proofs.FrameBits.{frames_push, frames_begin}
 use Rattle.pdh_rx.proofs.parts.deliver_all_parts.Goals as goal
 
 pub loop-done-init : goal.loop-done-init

@@ -1,7 +1,8 @@
 use Rattle.std.proofs.Common.{◌≡◌, ℕ, Bool, List, refl, sym, ap, ◌∙◌, arith, length, map, true, replicate}
 use Rattle.std.proofs.lemmas.List.{length-map}
 use Rattle.pdh_edge.specs.Ports.{for_leaf}
-use Rattle.pdh_rx.specs.Node.{ones_bits, with_more}
+use Rattle.pdh_events.specs.Acts.{with_more}
+use Rattle.pdh_rx.specs.Node.{ones_bits}
 use Rattle.pdh_rx.specs.laws.NodeLaws.{all_sound}
 use Rattle.pdh_rx.proofs.Gains.{on_err_from, cause_since, gives_nothing, gives_join, gives_part, gives_below, gives_at, part_at}
 use Rattle.pdh_rx.proofs.Shares.{first_bits, first_bits_none, first_bits_push, first_bits_begin, first_bits_all}

@@ -1,8 +1,13 @@
-use Rattle.std.proofs.Common.{◌-◌, ◌/◌, Bool, ap, arith}
+use Rattle.std.proofs.Common.{◌-◌, ◌*◌, ◌/◌, ◌∷◌, [], ◌++◌, Bool, List, refl, ap, ◌∙◌, arith}
 use Rattle.std.proofs.lemmas.Result.{err_from_is_err_and}
 use Rattle.circular_buffer.specs.Buffer.{Buffer}
 use Rattle.pdh_g706.specs.Machine.Phase.{Framed}
-use Rattle.pdh_g706.proofs.AlignSteps.{begun, framing_is, framing_payload, becomes, counted_more}
+use Rattle.pdh_g706.proofs.AlignSteps.{begun, framing_is, framing_payload, becomes, counted_more, tell_join, kinds_of, begun_kinds}
+use Rattle.pdh_watch.specs.declared.kind.TheConstants.Kind.{ALIGNED}
+use Rattle.pdh_watch.specs.declared.event.Event.{Event}
+use Rattle.pdh_g706.specs.Frames.{frames_of}
+use Rattle.pdh_g706.specs.Events.{alarm_after, crc_kinds, frames_kinds}
+use Rattle.pdh_g706.specs.Machine.{frames_from, each_errs}
 use Rattle.pdh_g706.proofs.align.E1Align.begin_multiframes.Goals as goal
 
 pub returns-in_err-put_frames-clause-part : goal.returns-in_err-put_frames-clause-part
@@ -18,15 +23,40 @@ returns-clause-becomes g c =
     let first = c.args.first in
     let whole = (c.len.result / 256 - first) / 16 in
     let blocks = (c.len.result / 256 - first) / 8 - 1 in
-    becomes _ (begun bits first whole blocks c.errored-wrong.result) self _
-    (framing_is bits first whole blocks c.errored-wrong.result (omega arith) (omega arith) c.errored-wrong.ensures.count)
+    becomes _ (begun bits first whole blocks c.judge-wrong.result) self _
+    (framing_is bits first whole blocks c.judge-wrong.result (omega arith) (omega arith) c.judge-wrong.ensures.count)
     (record {
-      phase_is = ap (λ (b : Buffer Bool). Framed b.items blocks c.errored-wrong.result) c.drop_front.ensures;
+      phase_is = ap (λ (b : Buffer Bool). Framed b.items blocks c.judge-wrong.result) c.drop_front.ensures;
       counts = counted_more self.counts c.plus-self.result _ c.plus-self.ensures.multiframes c.plus-self.ensures.blocks c.plus-self.ensures.errored;
       room = ap (λ (b : Buffer Bool). b.capacity) c.drop_front.ensures;
+      number = refl;
+      ais = refl;
+      alarm = c.note_frames-self.ensures.alarm ∙ ap (λ n. alarm_after self.alarm (frames_from (frames_of bits) first n)) (omega arith);
     })
 
 pub returns-clause-put : goal.returns-clause-put
 returns-clause-put g c =
     let bits = c.args.self.now.held.items in
     rw (framing_payload bits c.args.first ((c.len.result / 256 - c.args.first) / 16) (omega arith)) c.in_ok-put_frames.ensures.put
+
+pub returns-clause-seen : goal.returns-clause-seen
+returns-clause-seen g c =
+    let self = c.args.self.now in
+    let bits = self.held.items in
+    let first = c.args.first in
+    let whole = (c.len.result / 256 - first) / 16 in
+    let blocks = (c.len.result / 256 - first) / 8 - 1 in
+    let saw = g.W.Watch.saw in
+    let join = g.met.W.Watch.saw_join in
+    let crc = crc_kinds (each_errs (frames_of bits) first blocks) in
+    let frames = frames_kinds self.alarm (frames_from (frames_of bits) first (2 * (8 * whole))) 0 (8 * whole) in
+    let two = tell_join saw join self.bits (ALIGNED ∷ []) crc c.args.watch.now c.note_kind.new.watch c.judge-wrong.new.watch c.note_kind.ensures c.judge-wrong.ensures.seen in
+    let all = tell_join saw join self.bits ((ALIGNED ∷ []) ++ crc) frames c.args.watch.now c.judge-wrong.new.watch c.note_frames-self.new.watch two c.note_frames-self.ensures.seen in
+    kinds_of (λ (x : List Event). saw c.args.watch.now x c.note_frames-self.new.watch) self _ (begun bits first whole blocks c.judge-wrong.result) _
+    (framing_is bits first whole blocks c.judge-wrong.result (omega arith) (omega arith) c.judge-wrong.ensures.count)
+    (begun_kinds self.alarm bits first whole blocks c.judge-wrong.result (omega arith)) all
+
+pub returns-in_err-put_frames-clause-unseen : goal.returns-in_err-put_frames-clause-unseen
+returns-in_err-put_frames-clause-unseen g c =
+    let p = err_from_is_err_and c.from_residual.result c.from_residual.ensures.1 in
+    rw p.1 (g.met.W.Watch.saw_nothing c.args.watch.now)

@@ -9,14 +9,14 @@ use Rattle.pdh_g706.proofs.align.E1Align.search.Goals as goal
 pub returns-then-len-lt768 : goal.returns-then-len-lt768
 returns-then-len-lt768 c =
     let self = c.args.self.now in
-    becomes_still _ (Searching self.held.items) self _ (search_short self.held.items (omega arith)) (ap (λ s. phase_of s self.held.items self.group) c.requires) refl refl
+    becomes_still _ (Searching self.held.items) self _ (search_short self.held.items (omega arith)) (ap (λ s. phase_of s self.held.items self.group) c.requires) refl refl refl refl refl
 
 pub returns-then-is_confirmed : goal.returns-then-is_confirmed
 returns-then-is_confirmed c =
     let self = c.args.self.now in
     let bits = self.held.items in
     becomes_still _ (Aligned bits) self _
-    (search_long bits c.is_confirmed.result (omega arith) c.is_confirmed.ensures ∙ ap (λ b. cond b (still (Aligned bits)) (still (Searching (drop 1 bits)))) c.if-is_confirmed.true) refl refl refl
+    (search_long bits c.is_confirmed.result (omega arith) c.is_confirmed.ensures ∙ ap (λ b. cond b (still (Aligned bits)) (still (Searching (drop 1 bits)))) c.if-is_confirmed.true) refl refl refl refl refl refl
 
 pub returns : goal.returns
 returns c =
@@ -25,4 +25,4 @@ returns c =
     becomes_still _ (Searching (drop 1 bits)) self _
     (search_long bits c.is_confirmed.result (omega arith) c.is_confirmed.ensures ∙ ap (λ b. cond b (still (Aligned bits)) (still (Searching (drop 1 bits)))) c.if-is_confirmed.false)
     (ap (λ s. phase_of s c.pop_front.new.self.items self.group) c.requires ∙ ap (λ (b : Buffer Bool). Searching b.items) c.pop_front.ensures.items) refl
-    (ap (λ (b : Buffer Bool). b.capacity) c.pop_front.ensures.items)
+    (ap (λ (b : Buffer Bool). b.capacity) c.pop_front.ensures.items) refl refl refl

@@ -3,7 +3,7 @@ use Rattle.std.proofs.lemmas.List.{append-nil}
 use Rattle.std.proofs.lemmas.Result.{err_from_is_err_and}
 use Rattle.pdh_edge.proofs.Runs.{cause_since}
 use Rattle.pdh_g706.specs.View.{StandsFor, Gains}
-use Rattle.pdh_g706.proofs.AlignSteps.{stands_push, gains_push, gains_part, gains_same, gains_join, part_join, line_more, line_all, line_grows, no_cause}
+use Rattle.pdh_g706.proofs.AlignSteps.{gains_same, gains_join, part_join, line_more, line_all, line_grows, no_cause}
 use Rattle.pdh_g706.proofs.align.E1Align.take.Goals as goal
 
 pub loop-bit-init : goal.loop-bit-init
@@ -14,15 +14,14 @@ loop-bit-init g c = record {
   drained = g.met.D.Drain.drained_same c.args.drain.now;
 }
 
-pub turn-requires : goal.turn-requires
-turn-requires g c = record {
-  fits = c.loop-bit.invariant.stands.1.holds.fits;
-  room = c.loop-bit.invariant.stands.1.room;
+pub push-requires : goal.push-requires
+push-requires g c = record {
+  stands = c.loop-bit.invariant.stands;
   list = ap (λ h. h 0) (g.met.D.Drain.drained_holds c.args.drain.now c.loop-bit.drain c.loop-bit.invariant.drained) ∙ c.requires.list;
 }
 
-pub returns-in_err-turn-clause-put_err : goal.returns-in_err-turn-clause-put_err
-returns-in_err-turn-clause-put_err g c =
+pub returns-in_err-push-clause-put_err : goal.returns-in_err-push-clause-put_err
+returns-in_err-push-clause-put_err g c =
     let p = err_from_is_err_and c.from_residual.result c.from_residual.ensures.1 in
     let outputs = g.D.Drain.outputs in
     let bits = c.args.bits.now in
@@ -31,16 +30,16 @@ returns-in_err-turn-clause-put_err g c =
     rw p.1
     (λ line h.
     let at = line ++ take i bits in
-    part_join line at (at ++ bit ∷ []) (line ++ bits) (outputs c.args.drain.now) (outputs c.loop-bit.drain) (outputs c.turn.new.drain) (line_grows line bits i c.loop-bit-test.true)
+    part_join line at (at ++ bit ∷ []) (line ++ bits) (outputs c.args.drain.now) (outputs c.loop-bit.drain) (outputs c.push.new.drain) (line_grows line bits i c.loop-bit-test.true)
     (c.loop-bit.invariant.puts line h)
-    (gains_part c.loop-bit.self bit at (outputs c.loop-bit.drain) (outputs c.turn.new.drain) c.in_err-turn.ensures.part (c.loop-bit.invariant.taken line h)))
+    (c.in_err-push.ensures.put_err at (c.loop-bit.invariant.taken line h)))
 
-pub returns-in_err-turn-clause-cause : goal.returns-in_err-turn-clause-cause
-returns-in_err-turn-clause-cause g c =
-    cause_since c.from_residual.result _ _ _ (g.met.D.Drain.drained_counts c.args.drain.now c.loop-bit.drain c.loop-bit.invariant.drained) c.in_err-turn.ensures.cause.later c.in_err-turn.ensures.cause.failed
+pub returns-in_err-push-clause-cause : goal.returns-in_err-push-clause-cause
+returns-in_err-push-clause-cause g c =
+    cause_since c.from_residual.result _ _ _ (g.met.D.Drain.drained_counts c.args.drain.now c.loop-bit.drain c.loop-bit.invariant.drained) c.in_err-push.ensures.cause.later c.in_err-push.ensures.cause.failed
 
-pub returns-in_err-turn-clause-drained : goal.returns-in_err-turn-clause-drained
-returns-in_err-turn-clause-drained g c = g.met.D.Drain.drained_join c.args.drain.now c.loop-bit.drain c.turn.new.drain c.loop-bit.invariant.drained c.turn.ensures.drained
+pub returns-in_err-push-clause-drained : goal.returns-in_err-push-clause-drained
+returns-in_err-push-clause-drained g c = g.met.D.Drain.drained_join c.args.drain.now c.loop-bit.drain c.push.new.drain c.loop-bit.invariant.drained c.push.ensures.drained
 
 pub loop-bit-preserved : goal.loop-bit-preserved
 loop-bit-preserved g c =
@@ -50,13 +49,13 @@ loop-bit-preserved g c =
     let bit = get_or bits i false in
     let stood = c.loop-bit.invariant.stands in
     record {
-      stands = (stood.0 ++ bit ∷ [], stands_push c.loop-bit.self c.turn.new.self bit stood.0 c.in_ok-turn.ensures.becomes stood.1);
-      taken = λ line h. subst (StandsFor c.turn.new.self) (line_more line bits i c.loop-bit-test.true)
-          (stands_push c.loop-bit.self c.turn.new.self bit (line ++ take i bits) c.in_ok-turn.ensures.becomes (c.loop-bit.invariant.taken line h));
-      puts = λ line h. subst (λ (x : List Bool). Gains line x (outputs c.args.drain.now) (outputs c.turn.new.drain)) (line_more line bits i c.loop-bit-test.true)
-          (gains_join line (line ++ take i bits) (line ++ take i bits ++ bit ∷ []) (outputs c.args.drain.now) (outputs c.loop-bit.drain) (outputs c.turn.new.drain) (c.loop-bit.invariant.puts line h)
-          (gains_push c.loop-bit.self bit (line ++ take i bits) (outputs c.loop-bit.drain) (outputs c.turn.new.drain) c.in_ok-turn.ensures.put (c.loop-bit.invariant.taken line h)));
-      drained = g.met.D.Drain.drained_join c.args.drain.now c.loop-bit.drain c.turn.new.drain c.loop-bit.invariant.drained c.turn.ensures.drained;
+      stands = (stood.0 ++ bit ∷ [], c.in_ok-push.ensures.stands stood.0 stood.1);
+      taken = λ line h. subst (StandsFor c.push.new.self) (line_more line bits i c.loop-bit-test.true)
+          (c.in_ok-push.ensures.stands (line ++ take i bits) (c.loop-bit.invariant.taken line h));
+      puts = λ line h. subst (λ (x : List Bool). Gains line x (outputs c.args.drain.now) (outputs c.push.new.drain)) (line_more line bits i c.loop-bit-test.true)
+          (gains_join line (line ++ take i bits) (line ++ take i bits ++ bit ∷ []) (outputs c.args.drain.now) (outputs c.loop-bit.drain) (outputs c.push.new.drain) (c.loop-bit.invariant.puts line h)
+          (c.in_ok-push.ensures.put (line ++ take i bits) (c.loop-bit.invariant.taken line h)));
+      drained = g.met.D.Drain.drained_join c.args.drain.now c.loop-bit.drain c.push.new.drain c.loop-bit.invariant.drained c.push.ensures.drained;
     }
 
 pub returns-clause-stands : goal.returns-clause-stands

@@ -21,7 +21,7 @@ returns-in_err-end_frame-clause-part g c =
     let begins : IsPrefix (get_or bits 0 false ∷ []) bits = subst (λ l. IsPrefix l bits) (one_bit bits false c.requires.some) (first_begin 1 bits) in
     on_err_from _ c.from_residual.result
     (part_longer m (get_or bits 0 false ∷ []) bits _ _ _ sound begins
-    (subst (λ (h : Held). TakesPart m (get_or bits 0 false ∷ []) (λ line. NodeStands g.C.Rx.stands g.C.Rx.meaning s node.children.items node.ones.items h node.gap node.frames line) (g.D.Drain.outputs c.args.drain.now) (g.D.Drain.outputs c.end_frame.new.drain)) same
+    (subst (λ (h : Held). TakesPart m (get_or bits 0 false ∷ []) (λ line. NodeStands g.C.Rx.stands g.C.Rx.meaning s node.children.items h node.gap node.frames line) (g.D.Drain.outputs c.args.drain.now) (g.D.Drain.outputs c.end_frame.new.drain)) same
     c.in_err-end_frame.ensures.part))
 
 pub returns-in_err-give_parts-clause-part : goal.returns-in_err-give_parts-clause-part
@@ -42,7 +42,7 @@ returns-in_err-give_parts-clause-part g c =
     let sound = node_sound g.C.Rx.meaning g.met.C.Rx.sound s g.met.S.Shape.is_frame node.path node.children.items in
     on_err_from _ c.from_residual-in_err-give_parts.result
     (part_longer m (take n bits) bits _ _ _ sound (first_begin n bits)
-    (part_passing g.C.Rx.stands g.C.Rx.meaning s node.path g.met.S.Shape.is_frame node.children.items node.ones.items node.aligner c.pass-passed.new.self node.gap node.frames c.gap_passed-self.result c.pass-passed.new.self.ready (take n bits) _ _ passes few upto now
+    (part_passing g.C.Rx.stands g.C.Rx.meaning s node.path g.met.S.Shape.is_frame node.children.items node.aligner c.pass-passed.new.self node.gap node.frames c.gap_passed-self.result c.pass-passed.new.self.ready (take n bits) _ _ passes few upto now
     c.in_err-give_parts.ensures.part))
 
 pub returns-clause-taken : goal.returns-clause-taken
@@ -59,5 +59,5 @@ returns-clause-taken g c =
     let now : c.gap_passed-self.result ≡ gap_passed s node.gap (length (take n bits)) = c.gap_passed-self.ensures ∙ ap (gap_passed s node.gap) (sym count) in
     let passes : (line : List Bool) → StandsFor s node.aligner.phase line → Passes s c.pass-passed.new.self (take n bits) line =
     λ line h. subst (λ l. Passes s c.pass-passed.new.self l line) (take_twice n c.min-most.result bits within) (c.pass-passed.ensures.passes some line h) in
-    takes_passing g.C.Rx.stands g.C.Rx.meaning s node.path g.met.S.Shape.is_frame node.children.items c.give_parts.new.children.items node.ones.items node.aligner c.pass-passed.new.self node.gap node.frames c.gap_passed-self.result c.pass-passed.new.self.ready (take n bits) _ _ passes few upto now
+    takes_passing g.C.Rx.stands g.C.Rx.meaning s node.path g.met.S.Shape.is_frame node.children.items c.give_parts.new.children.items node.aligner c.pass-passed.new.self node.gap node.frames c.gap_passed-self.result c.pass-passed.new.self.ready (take n bits) _ _ passes few upto now
     c.in_ok-give_parts.ensures.same c.in_ok-give_parts.ensures.given

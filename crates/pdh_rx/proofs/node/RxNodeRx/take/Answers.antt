@@ -9,7 +9,7 @@ use Rattle.pdh_rx.proofs.node.RxNodeRx.take.Goals as goal
 pub loop-done-init : goal.loop-done-init
 loop-done-init g c = record {
   within = c.take-done.ensures.count;
-  taken = takes_waiting g.C.Rx.stands g.C.Rx.meaning g.S.Shape.shape c.args.self.now.path c.args.self.now.children.items c.args.self.now.ones.items c.args.self.now.aligner c.take-done.new.self c.args.self.now.gap c.args.self.now.frames (take c.take-done.result c.args.bits.now) (g.D.Drain.outputs c.args.drain.now)
+  taken = takes_waiting g.C.Rx.stands g.C.Rx.meaning g.S.Shape.shape c.args.self.now.path c.args.self.now.children.items c.args.self.now.aligner c.take-done.new.self c.args.self.now.gap c.args.self.now.frames (take c.take-done.result c.args.bits.now) (g.D.Drain.outputs c.args.drain.now)
       c.take-done.ensures.waits;
   same = refl;
   drained = g.met.D.Drain.drained_same _;
@@ -48,7 +48,7 @@ loop-done-preserved g c =
     let node = c.advance.new.self in
     let same = c.advance.ensures.same ∙ inv.same in
     let one = takes_join _ _ (take n bits) (take k (take (length bits - n) (drop n bits))) (take (n + k) bits) _ _ _ _ _ _ inv.same (bits_then n k bits) inv.taken c.in_ok-done.ensures.taken in
-    let rest = takes_waiting g.C.Rx.stands g.C.Rx.meaning g.S.Shape.shape node.path node.children.items node.ones.items node.aligner c.take.new.self node.gap node.frames (take c.take.result (take (length bits - (n + k)) (drop (n + k) bits))) (g.D.Drain.outputs c.advance.new.drain) c.take.ensures.waits in
+    let rest = takes_waiting g.C.Rx.stands g.C.Rx.meaning g.S.Shape.shape node.path node.children.items node.aligner c.take.new.self node.gap node.frames (take c.take.result (take (length bits - (n + k)) (drop (n + k) bits))) (g.D.Drain.outputs c.advance.new.drain) c.take.ensures.waits in
     record {
       within = omega (arith, c.take.ensures.count, c.in_ok-done.ensures.count.1);
       taken = takes_join _ _ (take (n + k) bits) (take c.take.result (take (length bits - (n + k)) (drop (n + k) bits))) (take (n + k + c.take.result) bits) _ _ _ _ _ _ same (bits_then (n + k) c.take.result bits) one rest;

@@ -8,8 +8,8 @@ abbrev pub invariant-loop-done : goal.invariant-loop-done
 invariant-loop-done g l = record {
   within : l.done ≤ length l.bits;
   taken : TakesBits (node_meaning g.S.Shape.shape l.fn.self.path (map g.C.Rx.meaning l.fn.self.children.items)) (take l.done l.bits)
-      (λ line. NodeStands g.C.Rx.stands g.C.Rx.meaning g.S.Shape.shape l.fn.self.children.items l.fn.self.ones.items l.fn.self.aligner l.fn.self.gap l.fn.self.frames line)
-      (λ line. NodeStands g.C.Rx.stands g.C.Rx.meaning g.S.Shape.shape l.self.children.items l.self.ones.items l.self.aligner l.self.gap l.self.frames line)
+      (λ line. NodeStands g.C.Rx.stands g.C.Rx.meaning g.S.Shape.shape l.fn.self.children.items l.fn.self.aligner l.fn.self.gap l.fn.self.frames line)
+      (λ line. NodeStands g.C.Rx.stands g.C.Rx.meaning g.S.Shape.shape l.self.children.items l.self.aligner l.self.gap l.self.frames line)
       (g.D.Drain.outputs l.fn.drain) (g.D.Drain.outputs l.drain);
   same : node_meaning g.S.Shape.shape l.self.path (map g.C.Rx.meaning l.self.children.items) ≡ node_meaning g.S.Shape.shape l.fn.self.path (map g.C.Rx.meaning l.fn.self.children.items);
   drained : g.D.Drain.drained l.fn.drain l.drain;

@@ -1,0 +1,5 @@
+pub mod Runs
+pub mod DutyLaws
+pub mod ToldCodes
+pub mod Noting
+pub mod Worked

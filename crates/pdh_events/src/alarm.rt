@@ -1,0 +1,68 @@
+ghost use Rattle.std.specs.Prelude.{◌≡◌, ◌<◌, All, length, map, IfOk};
+ghost use Rattle.pdh_shape.specs.declared.role.Duty.TheVariants.{Alarm};
+ghost use Rattle.pdh_events.specs.Duties.{alarm_bit as alarm_bit_of, agreed, slots_with};
+ghost use Rattle.pdh_events.specs.Keeping.{alarm_slot, says_alarm};
+
+use crate::duties::has_duty;
+use pdh_shape::{Duty, Role, Service, Shape};
+use std::alloc::{AllocError, Global};
+
+/// A slot whose bit tells the remote alarm.
+#[derive(Clone, Copy, Debug, PartialEq, Eq)]
+pub struct AlarmSlot {
+    /// The slot.
+    pub slot: u16,
+    /// The bit with which it says alarm.
+    pub bit: bool,
+}
+
+// With which bit a slot of this role says alarm.
+fn alarm_bit<S: Shape>(role: Role) -> bool
+    ensures { result ≡ alarm_bit_of S.shape role }
+{
+    match role {
+        Role::Service(number) => {
+            let mut says = Service::idle();
+            says.alarm = true;
+            S::service(number, &says, false)
+        }
+        _ => true,
+    }
+}
+
+// The alarm slots, in order; or it finds no memory.
+pub(crate) fn alarm_slots_of<S: Shape>(alloc: Global) -> Result<Vec<AlarmSlot>, AllocError>
+    ensures { IfOk result
+        (λ slots. slots.items ≡ map (alarm_slot S.shape) (slots_with S.shape Alarm)) }
+{
+    let mut slots = Vec::new(alloc);
+    for slot in 0..S::LEN {
+        let role = S::role(slot);
+        if has_duty::<S>(Duty::Alarm, role) {
+            slots.push(AlarmSlot {
+                slot: slot as u16,
+                bit: alarm_bit::<S>(role),
+            })?;
+        }
+    }
+    Ok(slots)
+}
+
+// What the alarm slots of a frame say together, by what stood before it.
+pub(crate) fn agreed_alarm(slots: &[AlarmSlot], before: bool, frame: &[bool]) -> bool
+    requires { All (λ of. of.slot < length frame.now) slots.now }
+    ensures { result ≡ agreed before (map (says_alarm frame.now) slots.now) }
+{
+    let mut some_say = false;
+    let mut some_deny = false;
+    for of in slots {
+        let says = frame[usize::from(of.slot)] == of.bit;
+        some_say |= says;
+        some_deny |= !says;
+    }
+    if some_say == some_deny {
+        before
+    } else {
+        some_say
+    }
+}

@@ -1,0 +1,28 @@
+ghost use Rattle.std.specs.Prelude.{◌≡◌, IfOk};
+ghost use Rattle.pdh_events.specs.Duties.{has_duty as has_role_duty, slots_with};
+
+use pdh_shape::{Duty, Role, Shape};
+use std::alloc::{AllocError, Global};
+
+// Whether a slot of this role carries a service bit of this duty.
+pub(crate) fn has_duty<S: Shape>(duty: Duty, role: Role) -> bool
+    ensures { result ≡ has_role_duty S.shape duty role }
+{
+    match role {
+        Role::Service(number) => S::duty(number) == duty,
+        _ => false,
+    }
+}
+
+// The slots of a duty, in order; or it finds no memory.
+pub(crate) fn slots_of<S: Shape>(alloc: Global, duty: Duty) -> Result<Vec<u16>, AllocError>
+    ensures { IfOk result (λ slots. slots.items ≡ slots_with S.shape duty) }
+{
+    let mut slots = Vec::new(alloc);
+    for slot in 0..S::LEN {
+        if has_duty::<S>(duty, S::role(slot)) {
+            slots.push(slot as u16)?;
+        }
+    }
+    Ok(slots)
+}

@@ -1,0 +1,10 @@
+//! What monitors see of a recorded line: the line goes to the receivers of its chain, or to the alignment of a 2048 kbit/s
+//! stream, and the bits that those put are let go.
+#![tactic(auto)]
+
+mod framed;
+mod line;
+mod line_port;
+
+pub use framed::{FramedSeen, inspect_framed};
+pub use line::{LineSeen, inspect_line};
