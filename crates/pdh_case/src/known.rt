@@ -7,8 +7,9 @@ use std::alloc::{AllocError, Global};
 use std::collections::BTreeSet;
 
 // The files that the program writes.
-const OUTPUTS: [&str; 5] = [
+const OUTPUTS: [&str; 6] = [
     "line.bits",
+    "bent.bits",
     "schedule.txt",
     "o01..o64.bits",
     "e1.bits",

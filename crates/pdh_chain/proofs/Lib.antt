@@ -15,3 +15,4 @@ pub mod SenderStops
 pub mod ShortLists
 pub mod Tolerated
 pub mod Clear
+pub mod Scheduled

@@ -35,6 +35,7 @@ mod writing;
 pub use beginning::Short;
 pub use bias::Bias;
 pub use fault::ScheduleFault;
+pub use judge::is_passed_over;
 pub use pdh_rows::Outside;
 pub use schedule::Schedule;
-pub use words::number;
+pub use words::{first_line, first_word, number};

@@ -12,7 +12,7 @@ use Rattle.pdh_line.proofs.LeastLaws.{least_below_none}
 use Rattle.pdh_g706.specs.Frames.{frame_of, frames_of, is_confirmed, positions, is_found, aligned}
 use Rattle.pdh_g706.specs.Alignment.{loses, earlier, reaches, is_reached, begin, framed, multiframes, errs, is_errored, judged, errored_in, is_false, ends, is_ended, up_to_end, kept, resumes}
 use Rattle.pdh_g706.specs.Tracking.{Share, share_of, found_frames, is_over, one_search, after_search}
-use Rattle.pdh_g706.specs.Machine.{Phase, Fits, last_begin, IsSearching, IsAligned, InGroup, Describes, Turn, no_signs, nothing, loss_after, add_signs, still, last_bits, lost_turn, payload_from, frames_from, errs_in, each_errs, is_false_group, search_turn, framing_turn, aligned_turn, group_phase, block_turn, framed_turn, unless_lost, turn}
+use Rattle.pdh_g706.specs.Machine.{Phase, Fits, last_begin, IsSearching, IsAligned, InGroup, Describes, Turn, no_signs, nothing, loss_after, add_signs, still, last_bits, lost_turn, payload_from, frames_from, errs_in, each_errs, is_false_group, search_turn, framing, framing_turn, aligned_turn, group_phase, block_turn, framed_turn, unless_lost, turn}
 use Rattle.pdh_g706.specs.Machine.Phase.{Searching, Aligned, Framed}
 use Rattle.pdh_g706.proofs.FrameLists.{length_frames, frames_part, frames_whole, frames-drop}
 use Rattle.pdh_g706.proofs.SearchLaws.{is_found-append, aligned-append, short_search, search_short, search_long, search_confirmed, search_rejected}
@@ -253,22 +253,6 @@ goes_next since bit reached t h w fails grown fits describes =
 
 frames_bits : (since : List Bool) (bit : Bool) → is_found since ≡ true → frames_of (aligned since ++ bit ∷ []) ≡ found_frames (since ++ bit ∷ [])
 frames_bits since bit found = ap frames_of (sym (aligned-append since (bit ∷ []) found)) ∙ sym (found_frames_is (since ++ bit ∷ []) (is_found-append since (bit ∷ []) found))
-
-abbrev pub framing : List Bool → List (List Bool) → ℕ → Turn
-framing bits frames k =
-    let whole = (length frames - k) / 16 in
-    let blocks = (length frames - k) / 8 - 1 in
-    let wrong = errs_in frames k blocks in
-    record {
-      phase = Framed (drop (256 * (k + 16 * (whole - 1))) bits) blocks wrong;
-      gained = record {
-        payload = payload_from frames k (16 * whole);
-        multiframes = whole;
-        blocks = blocks;
-        errored = wrong;
-        signs = record { alignments = 1; losses = 0; false_alignments = 0; verdicts = each_errs frames k blocks; frames = frames_from frames k (16 * whole) };
-      };
-    }
 
 pub framing_turn_is : (bits : List Bool) (fs : List (List Bool)) (k : ℕ) → frames_of bits ≡ fs → framing_turn bits k ≡ framing bits fs k
 unfolding framing_turn

@@ -129,10 +129,9 @@ errs_in frames k count = count_by (λ b. errs frames (k + 8 * b)) (range_with_le
 abbrev pub each_errs : List (List Bool) → ℕ → ℕ → List Bool
 each_errs frames k count = map (λ b. errs frames (k + 8 * b)) (range_with_len 0 count)
 
--- where multiframes are found from frame k on
-unfoldable pub framing_turn : List Bool → ℕ → Turn
-framing_turn bits k =
-    let frames = frames_of bits in
+-- where multiframes are found from frame k of these frames on
+abbrev pub framing : List Bool → List (List Bool) → ℕ → Turn
+framing bits frames k =
     let whole = (length frames - k) / 16 in
     let blocks = (length frames - k) / 8 - 1 in
     let wrong = errs_in frames k blocks in
@@ -146,6 +145,10 @@ framing_turn bits k =
         signs = record { alignments = 1; losses = 0; false_alignments = 0; verdicts = each_errs frames k blocks; frames = frames_from frames k (16 * whole) };
       };
     }
+
+-- the same of the frames that the bits are
+unfoldable pub framing_turn : List Bool → ℕ → Turn
+framing_turn bits k = framing bits (frames_of bits) k
 
 -- at the end of a frame without a loss, where the multiframes aren't found yet
 unfoldable pub aligned_turn : List Bool → Turn

@@ -9,7 +9,7 @@ use Rattle.pdh_watch.specs.Monitors.{State}
 use Rattle.pdh_ops.specs.Lines.{IsTold}
 use Rattle.pdh_ops.specs.Run.{HasCause, ChangesOnly, IsCounted, Runs, Completes}
 use Rattle.pdh_words.specs.declared.commands.Command.{Command}
-use Rattle.pdh_ops.specs.declared.answer.Stop.TheVariants.{Memory, Usage, Read, Write, Missing, LongSchedule, BadRow, UnknownNode, CountOver, ShortNode, Short, Overflow, Underflow, ManyFrames, NoAlignment, NotWhole}
+use Rattle.pdh_ops.specs.declared.answer.Stop.TheVariants.{Memory, Usage, Read, Write, Missing, LongSchedule, BadRow, UnknownNode, CountOver, ShortNode, Short, Overflow, Underflow, ManyFrames, NoAlignment, NotWhole, LongScript, BadScriptRow, PastEnd}
 use Rattle.pdh_ops.proofs.Touching.{looks_same}
 
 pub looks_others : (P : List ℕ → Type 0) (a b : ShelfState) → Looks a b → ChangesOnly P a b
@@ -30,6 +30,9 @@ exact command a b (Err (Write file)) files cause counted told reads writes = abs
 exact command a b (Err (Missing file)) files cause counted told reads writes = inr (cause files told)
 exact command a b (Err (NoAlignment n)) files cause counted told reads writes = inr (cause files told)
 exact command a b (Err (NotWhole n)) files cause counted told reads writes = inr (cause files told)
+exact command a b (Err LongScript) files cause counted told reads writes = inr (cause files told)
+exact command a b (Err (BadScriptRow l)) files cause counted told reads writes = inr (cause files told)
+exact command a b (Err (PastEnd l)) files cause counted told reads writes = inr (cause files told)
 exact command a b (Err LongSchedule) files cause counted told reads writes = inr (cause files told)
 exact command a b (Err (BadRow l)) files cause counted told reads writes = inr (cause files told)
 exact command a b (Err (UnknownNode l)) files cause counted told reads writes = inr (cause files told)

@@ -8,7 +8,7 @@ use Rattle.pdh_e1.specs.Codec.{IsPacked}
 use Rattle.pdh_g706.specs.Tracking.{multiframes_in, counted}
 use Rattle.pdh_edge.specs.Files.{ShelfState, Looks, Touches, Starts, Appends, Holds, SinkState}
 use Rattle.pdh_words.specs.declared.commands.Command.{Command}
-use Rattle.pdh_words.specs.declared.commands.Command.TheVariants.{Demux, Mux, ClockCheck, ClockMake, Inspect, InspectE1, Show, E1Pack, E1Unpack}
+use Rattle.pdh_words.specs.declared.commands.Command.TheVariants.{Demux, Mux, ClockCheck, ClockMake, Inspect, InspectE1, Show, E1Pack, E1Unpack, Disturb, Drill}
 use Rattle.pdh_ops.specs.Names.{payload_name, e1_name, payload_out_name}
 use Rattle.pdh_ops.specs.E1.{payload_of, e1_packed, packed_line, frames_filled, framed_of, frames_framed, e1_unpacked, unpacked_payload, counts_of}
 use Rattle.pdh_ops.specs.Reading.{HasLength, IsSizeStop, IsReadStop}
@@ -137,14 +137,16 @@ answer_packs a b k l v status (Ok done) performs tells files line told now statu
 
 pub packs : (command : Option Command) (a b : ShelfState) (k l : SinkState) (v w : List State) (status : ℕ) → Runs command a b k l v w status → Packs command a b status
 packs None a b k l v w status runs = tt
-packs (Some (Demux chain)) a b k l v w status runs = tt
+packs (Some (Demux chain bits)) a b k l v w status runs = tt
 packs (Some (Mux chain feac)) a b k l v w status runs = tt
 packs (Some (ClockCheck chain)) a b k l v w status runs = tt
 packs (Some (ClockMake chain frames bias)) a b k l v w status runs = tt
 packs (Some E1Unpack) a b k l v w status runs = tt
-packs (Some (Inspect chain)) a b k l v w status runs = tt
+packs (Some (Inspect chain bits)) a b k l v w status runs = tt
 packs (Some InspectE1) a b k l v w status runs = tt
 packs (Some (Show chain frame)) a b k l v w status runs = tt
+packs (Some (Disturb chain)) a b k l v w status runs = tt
+packs (Some (Drill chain seed frames)) a b k l v w status runs = tt
 packs (Some E1Pack) a b k l v w status runs = answer_packs a b k l w status runs.answer runs.does runs.told
 
 -- ---- the line that `e1unpack` reads

@@ -10,10 +10,11 @@ use Rattle.pdh_edge.specs.Files.{ShelfState, Looks, Holds}
 use Rattle.pdh_chain.specs.Chains.{frame_bytes_of}
 use Rattle.pdh_chain.specs.declared.chain.Chain.{Chain}
 use Rattle.pdh_words.specs.declared.commands.Command.{Command}
+use Rattle.pdh_words.specs.declared.commands.Bits.{Bits}
 use Rattle.pdh_words.specs.declared.commands.Command.TheVariants.{Inspect, InspectE1, Show}
 use Rattle.pdh_inspect.specs.Seen.{line_events, framed_events, events_counted}
 use Rattle.pdh_show.specs.Shown.{shown}
-use Rattle.pdh_ops.specs.Names.{line_name, e1_name}
+use Rattle.pdh_ops.specs.Names.{name_of, line_file, line_name, e1_name}
 use Rattle.pdh_ops.specs.Answer.{Answer, and_then}
 use Rattle.pdh_ops.specs.Demux.{line_of, frames_of, frames_received}
 use Rattle.pdh_ops.specs.E1.{framed_of}
@@ -29,7 +30,7 @@ use Rattle.pdh_ops.specs.declared.answer.Done.TheVariants.{Inspected, E1Inspecte
 use Rattle.pdh_ops.specs.declared.answer.Stop.{Stop}
 use Rattle.pdh_ops.specs.declared.answer.Stop.TheVariants.{ManyFrames, Short}
 use Rattle.pdh_ops.proofs.Causes.{looks_others}
-use Rattle.pdh_ops.proofs.LineStops.{BeginsWithLine}
+use Rattle.pdh_ops.proofs.LineStops.{line_due}
 use Rattle.pdh_ops.proofs.Refusing.{refuses_since}
 use Rattle.pdh_ops.proofs.OneInput.{BeginsWith, RefusesAll, ServesAll, missing_refuses, length_refuses, reading_refuses, comes_of_bytes}
 use Rattle.pdh_ops.proofs.E1Files.{long_framed, whole_framed, framed_missing, framed_long, framed_unread}
@@ -46,24 +47,24 @@ did command a b done none looks same comes = record {
 
 -- ---- `inspect` of a chain
 
-pub inspect_begins : (chain : Chain) → BeginsWithLine chain (Inspect chain) (inspected chain)
+pub inspect_begins : (chain : Chain) (bits : Bits) → BeginsWith (Inspect chain bits) (line_file bits) (line_of (line_file bits) chain) (inspected chain)
 unfolding inspected
-inspect_begins chain = record { some = lit< tt; first = refl; comes = λ files. refl; reaches = λ line. refl }
+inspect_begins chain bits = record { some = lit< tt; first = refl; missing = refl; comes = λ files. refl; due = line_due bits (Inspect chain bits); reaches = λ line. refl }
 
 -- the line that was read is the one that is told
-pub line_is : (chain : Chain) (a : ShelfState) (line : List ℕ) (files : Files) → Holds (a.told line_name) line → AreTold (Inspect chain) a.told files → files line_name ≡ Some line
-line_is chain a line files holds told = holds (files line_name) (told 0 (lit< tt))
+pub line_is : (chain : Chain) (bits : Bits) (a : ShelfState) (line : List ℕ) (files : Files) → Holds (a.told (name_of (line_file bits))) line → AreTold (Inspect chain bits) a.told files → files (name_of (line_file bits)) ≡ Some line
+line_is chain bits a line files holds told = holds (files (name_of (line_file bits))) (told 0 (lit< tt))
 
-pub inspect_done : (chain : Chain) (a b : ShelfState) (line read : List ℕ) (frames events : ℕ) → Looks a b → b.counts ≡ a.counts → Holds (a.told line_name) line → line_of chain (Some line) ≡ Ok line
-    → read ≡ line → frames ≡ frames_received chain read → events ≡ events_counted (line_events chain read) → Performs (Inspect chain) a b (Ok (Inspected chain frames events))
+pub inspect_done : (chain : Chain) (bits : Bits) (a b : ShelfState) (line read : List ℕ) (frames events : ℕ) → Looks a b → b.counts ≡ a.counts → Holds (a.told (name_of (line_file bits))) line → line_of (line_file bits) chain (Some line) ≡ Ok line
+    → read ≡ line → frames ≡ frames_received chain read → events ≡ events_counted (line_events chain read) → Performs (Inspect chain bits) a b (Ok (Inspected chain frames events))
 unfolding inspected
-inspect_done chain a b line read frames events looks same holds served all frames_are events_are = did (Inspect chain) a b (Inspected chain frames events) refl looks same (λ files told.
+inspect_done chain bits a b line read frames events looks same holds served all frames_are events_are = did (Inspect chain bits) a b (Inspected chain frames events) refl looks same (λ files told.
     ap (λ n. Ok (Inspected chain n events)) frames_are ∙ ap (λ n. Ok (Inspected chain (frames_received chain read) n)) events_are ∙ ap (inspected chain) all
-    ∙ sym (ap (λ h. and_then (line_of chain h) (inspected chain)) (line_is chain a line files holds told) ∙ ap (λ r. and_then r (inspected chain)) served))
+    ∙ sym (ap (λ h. and_then (line_of (line_file bits) chain h) (inspected chain)) (line_is chain bits a line files holds told) ∙ ap (λ r. and_then r (inspected chain)) served))
 
-pub inspect_seen : (chain : Chain) (a : ShelfState) (line read : List ℕ) (before after : List State) → Holds (a.told line_name) line → read ≡ line → SawEach before (line_events chain read) after
-    → SeeEvents (Inspect chain) a (λ files. line_events chain (bytes_in files line_name)) before after
-inspect_seen chain a line read before after holds same saw = (line_events chain line, subst (λ l. SawEach before (line_events chain l) after) same saw, λ files told. ap (λ (h : Option (List ℕ)). line_events chain (unwrap_or h [])) (sym (line_is chain a line files holds told)))
+pub inspect_seen : (chain : Chain) (bits : Bits) (a : ShelfState) (line read : List ℕ) (before after : List State) → Holds (a.told (name_of (line_file bits))) line → read ≡ line → SawEach before (line_events chain read) after
+    → SeeEvents (Inspect chain bits) a (λ files. line_events chain (bytes_in files (name_of (line_file bits)))) before after
+inspect_seen chain bits a line read before after holds same saw = (line_events chain line, subst (λ l. SawEach before (line_events chain l) after) same saw, λ files told. ap (λ (h : Option (List ℕ)). line_events chain (unwrap_or h [])) (sym (line_is chain bits a line files holds told)))
 
 -- ---- `inspect e1`
 

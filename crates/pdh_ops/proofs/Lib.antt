@@ -4,7 +4,6 @@ pub mod LineComes
 pub mod Causes
 pub mod DemuxFiles
 pub mod Received
-pub mod Texts
 pub mod Refusing
 pub mod LineStops
 pub mod ScheduleComes
@@ -25,3 +24,7 @@ pub mod E1Files
 pub mod E1Unpacking
 pub mod Lines
 pub mod InspectFiles
+pub mod DisturbComes
+pub mod DisturbFiles
+pub mod Bending
+pub mod DrillComes

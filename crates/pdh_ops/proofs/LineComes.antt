@@ -8,6 +8,7 @@ use Rattle.pdh_edge.specs.Files.{IsRangeOf}
 use Rattle.pdh_ops.specs.Answer.{Answer, and_then}
 use Rattle.pdh_ops.specs.Demux.{line_of, frames_received, demuxed}
 use Rattle.pdh_ops.specs.Commands.{reaches_outputs}
+use Rattle.pdh_ops.specs.declared.file.File.{File}
 use Rattle.pdh_ops.specs.declared.answer.Stop.{Stop}
 use Rattle.pdh_ops.specs.declared.answer.Done.TheVariants.{Demuxed}
 use Rattle.pdh_ops.specs.declared.answer.Stop.TheVariants.{NoAlignment}
@@ -39,5 +40,5 @@ demuxed_reaches chain line = elim (cases_eq (frames_received chain line) 0) [
 ]
 
 -- what comes of a line that isn't refused
-pub comes_of : (chain : Chain) (held : Option (List ℕ)) (line : List ℕ) (next : List ℕ → Answer) → held ≡ Some line → line_of chain (Some line) ≡ Ok line → and_then (line_of chain held) next ≡ next line
-comes_of chain held line next same right = ap (λ (h : Option (List ℕ)). and_then (line_of chain h) next) same ∙ ap (λ (r : Result (List ℕ) Stop). and_then r next) right
+pub comes_of : (file : File) (chain : Chain) (held : Option (List ℕ)) (line : List ℕ) (next : List ℕ → Answer) → held ≡ Some line → line_of file chain (Some line) ≡ Ok line → and_then (line_of file chain held) next ≡ next line
+comes_of file chain held line next same right = ap (λ (h : Option (List ℕ)). and_then (line_of file chain h) next) same ∙ ap (λ (r : Result (List ℕ) Stop). and_then r next) right

@@ -26,10 +26,10 @@ use Rattle.pdh_ops.proofs.ScheduleComes.{Begins, HasSchedule}
 use Rattle.pdh_ops.specs.MuxSteps.{AreSizes, AllHeld, HasRows, IsLong, IsShortNode, IsShort, IsEnoughStop}
 use Rattle.pdh_words.specs.declared.commands.Command.TheVariants.{Mux}
 use Rattle.pdh_ops.specs.declared.file.File.{File}
-use Rattle.pdh_ops.specs.declared.file.File.TheVariants.{Line, Schedule, Leaf, Output, Payload, E1Line, PayloadOut}
+use Rattle.pdh_ops.specs.declared.file.File.TheVariants.{Line, Bent, Schedule, Script, Leaf, Output, Payload, E1Line, PayloadOut}
 use Rattle.pdh_ops.specs.declared.mux.InputSizes.{InputSizes}
 use Rattle.pdh_ops.specs.declared.answer.Stop.{Stop}
-use Rattle.pdh_ops.specs.declared.answer.Stop.TheVariants.{Memory, Usage, Read, Write, Missing, LongSchedule, BadRow, UnknownNode, CountOver, ShortNode, Short, Overflow, Underflow, ManyFrames, NoAlignment, NotWhole}
+use Rattle.pdh_ops.specs.declared.answer.Stop.TheVariants.{Memory, Usage, Read, Write, Missing, LongSchedule, BadRow, UnknownNode, CountOver, ShortNode, Short, Overflow, Underflow, ManyFrames, NoAlignment, NotWhole, LongScript, BadScriptRow, PastEnd}
 use Rattle.pdh_ops.proofs.Touching.{has_length_still}
 use Rattle.pdh_chain.specs.declared.chain.Chain.{Chain}
 use Rattle.pdh_shape.specs.OwnNumbers.{most_frames}
@@ -48,7 +48,7 @@ of_inputs_since chain feac P a b looks holds files told = holds files (subst (λ
 
 -- ---- inputs that aren't held
 
-is_held : (state : ShelfState) (name : List ℕ) (bytes : ℕ) (held : Option (List ℕ)) → HasLength name bytes state → state.told name ≡ Known held → is_none held ≡ false
+pub is_held : (state : ShelfState) (name : List ℕ) (bytes : ℕ) (held : Option (List ℕ)) → HasLength name bytes state → state.told name ≡ Known held → is_none held ≡ false
 is_held state name bytes None known told = absurd (let e : ◌≡◌ {A = Option ℕ} (Some bytes) None = known.told None told in cc)
 is_held state name bytes (Some line) known told = refl
 
@@ -200,6 +200,8 @@ enough_refuses chain feac sizes rows a b (Short (Leaf k) have need) are has caus
     sym (comes_muxed chain feac a rows files (all_are_held chain feac sizes a are) has told ∙ short_comes chain feac sizes a rows k have need files are told cause)
 enough_refuses chain feac sizes rows a b (Short Line have need) are has cause = absurd cause
 enough_refuses chain feac sizes rows a b (Short Schedule have need) are has cause = absurd cause
+enough_refuses chain feac sizes rows a b (Short Bent have need) are has cause = absurd cause
+enough_refuses chain feac sizes rows a b (Short Script have need) are has cause = absurd cause
 enough_refuses chain feac sizes rows a b (Short (Output k) have need) are has cause = absurd cause
 enough_refuses chain feac sizes rows a b (Short Payload have need) are has cause = absurd cause
 enough_refuses chain feac sizes rows a b (Short E1Line have need) are has cause = absurd cause
@@ -217,6 +219,9 @@ enough_refuses chain feac sizes rows a b (Overflow p) are has cause = absurd cau
 enough_refuses chain feac sizes rows a b (Underflow p) are has cause = absurd cause
 enough_refuses chain feac sizes rows a b (NoAlignment n) are has cause = absurd cause
 enough_refuses chain feac sizes rows a b (NotWhole n) are has cause = absurd cause
+enough_refuses chain feac sizes rows a b LongScript are has cause = absurd cause
+enough_refuses chain feac sizes rows a b (BadScriptRow l) are has cause = absurd cause
+enough_refuses chain feac sizes rows a b (PastEnd l) are has cause = absurd cause
 
 -- they count nothing
 pub enough_counts : (chain : Chain) (rows : List Row) (sizes : InputSizes) (x y : Counts) (stop : Stop) → IsEnoughStop chain rows sizes stop → y ≡ x → y ≡ with_stop stop x
@@ -236,6 +241,9 @@ enough_counts chain rows sizes x y (Overflow p) cause same = same
 enough_counts chain rows sizes x y (Underflow p) cause same = same
 enough_counts chain rows sizes x y (NoAlignment n) cause same = same
 enough_counts chain rows sizes x y (NotWhole n) cause same = same
+enough_counts chain rows sizes x y LongScript cause same = same
+enough_counts chain rows sizes x y (BadScriptRow l) cause same = same
+enough_counts chain rows sizes x y (PastEnd l) cause same = same
 
 -- the bytes of a leaf's file that were read give its bits
 pub bits_are : (chain : Chain) (feac : Option ℕ) (a : ShelfState) (k : ℕ) (bytes : List ℕ) (files : Files) → k < leaves_of chain → Holds (a.told (leaf_name k)) bytes → AreTold (Mux chain feac) a.told files → leaf_bits files k ≡ bits_of bytes

@@ -37,13 +37,13 @@ use Rattle.pdh_ops.specs.Run.{Performs, Runs}
 use Rattle.pdh_edge.specs.Ports.{IsPrefix}
 use Rattle.pdh_ops.specs.GivesBack.{GivesBack}
 use Rattle.pdh_words.specs.declared.commands.Command.{Command}
-use Rattle.pdh_words.specs.declared.commands.Command.TheVariants.{Demux, Mux, ClockCheck, ClockMake, Inspect, InspectE1, Show, E1Pack, E1Unpack}
+use Rattle.pdh_words.specs.declared.commands.Command.TheVariants.{Demux, Mux, ClockCheck, ClockMake, Inspect, InspectE1, Show, E1Pack, E1Unpack, Disturb, Drill}
 use Rattle.pdh_ops.specs.declared.answer.Done.{Done}
 use Rattle.pdh_ops.specs.declared.answer.Done.TheVariants.{Muxed}
 use Rattle.pdh_ops.specs.declared.answer.Stop.{Stop}
-use Rattle.pdh_ops.specs.declared.answer.Stop.TheVariants.{Memory, Usage, Read, Write, Missing, LongSchedule, BadRow, UnknownNode, CountOver, ShortNode, Short, Overflow, Underflow, ManyFrames, NoAlignment, NotWhole}
+use Rattle.pdh_ops.specs.declared.answer.Stop.TheVariants.{Memory, Usage, Read, Write, Missing, LongSchedule, BadRow, UnknownNode, CountOver, ShortNode, Short, Overflow, Underflow, ManyFrames, NoAlignment, NotWhole, LongScript, BadScriptRow, PastEnd}
 use Rattle.pdh_ops.specs.declared.file.File.TheVariants.{Leaf}
-use Rattle.pdh_ops.proofs.Scheduled.{arrive_singly}
+use Rattle.pdh_chain.proofs.Scheduled.{arrive_singly}
 use Rattle.pdh_ops.proofs.MuxComes.{each_long}
 use Rattle.pdh_ops.proofs.MuxMade.{all_made}
 use Rattle.pdh_shape.specs.OwnNumbers.{most_frames}
@@ -68,6 +68,9 @@ stop_status (Underflow p) = omega arith
 stop_status (ManyFrames n) = omega arith
 stop_status (NoAlignment n) = omega arith
 stop_status (NotWhole n) = omega arith
+stop_status LongScript = omega arith
+stop_status (BadScriptRow l) = omega arith
+stop_status (PastEnd l) = omega arith
 
 -- the frames are made without an event, by a schedule in which no node is short and from leaves that are long enough
 pub record IsDone (chain : Chain) (files : Files) (rows : List Row) : Type 0 where
@@ -82,7 +85,7 @@ muxed_done chain files rows done h = go (nat_lt most_frames (frames_in rows)) (s
         ◌≡◌ {A = Answer} (Ok done) (cond many (Err (ManyFrames (frames_in rows)))
         (option_map_or (λ short. Err (stop_of_shortage short)) node
         (option_map_or (λ leaf. Err (Short (Leaf leaf) (bits_held files leaf) (bits_needed chain rows leaf))) short (option_map_or (λ event. Err (stop_of_event event)) event (Ok (Muxed chain (frames_in rows))))))) → IsDone chain files rows
-    go true node short event n s e h = absurd (cc)
+    go true lacking short event n s e h = absurd (cc)
     go false (Some node) short event n s e h = absurd (cc)
     go false None (Some leaf) event n s e h = absurd (cc)
     go false None None (Some event) n s e h = absurd (cc)
@@ -174,12 +177,14 @@ answer_gives_back chain feac a b k l v status (Ok done) performs tells files lin
 
 pub gives_back : (command : Option Command) (a b : ShelfState) (k l : SinkState) (v w : List State) (status : ℕ) → Runs command a b k l v w status → GivesBack command a b status
 gives_back None a b k l v w status runs = tt
-gives_back (Some (Demux chain)) a b k l v w status runs = tt
+gives_back (Some (Demux chain bits)) a b k l v w status runs = tt
 gives_back (Some (ClockCheck chain)) a b k l v w status runs = tt
 gives_back (Some (ClockMake chain frames bias)) a b k l v w status runs = tt
-gives_back (Some (Inspect chain)) a b k l v w status runs = tt
+gives_back (Some (Inspect chain bits)) a b k l v w status runs = tt
 gives_back (Some InspectE1) a b k l v w status runs = tt
 gives_back (Some (Show chain frame)) a b k l v w status runs = tt
+gives_back (Some (Disturb chain)) a b k l v w status runs = tt
+gives_back (Some (Drill chain seed frames)) a b k l v w status runs = tt
 gives_back (Some E1Pack) a b k l v w status runs = tt
 gives_back (Some E1Unpack) a b k l v w status runs = tt
 gives_back (Some (Mux chain feac)) a b k l v w status runs = answer_gives_back chain feac a b k l w status runs.answer runs.does runs.told

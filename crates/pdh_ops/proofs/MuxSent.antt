@@ -1,46 +1,29 @@
 -- What making the line of `mux` never meets: a node without frames, a list that is used up, a call that failed.
-use Rattle.std.proofs.Common.{◌≡◌, ℕ, zero, suc, ◌*◌, ◌<◌, ◌≤◌, inl, inr, List, [], ◌∷◌, Vec, Bool, length, refl, ap, sym, ◌∙◌, subst, arith, Option}
+use Rattle.std.proofs.Common.{◌≡◌, ℕ, zero, suc, ◌*◌, ◌<◌, ◌≤◌, List, [], ◌∷◌, Vec, Bool, length, refl, ap, sym, ◌∙◌, subst, arith, Option}
 use Rattle.std.specs.Prelude.{IsTrue, map, nat_lt, slice_get, slice_index_or}
 use Rattle.std.specs.declared.alloc.Global.{Global}
 use Rattle.std.proofs.lemmas.Bool.{ltb-true}
-use Rattle.pdh_shape.specs.Frame.{FrameShape}
 use Rattle.pdh_shape.specs.declared.place.Path.{Path}
-use Rattle.pdh_line.specs.Sending.{given}
 use Rattle.pdh_edge.specs.Files.{Rose}
 use Rattle.pdh_edge.specs.Ports.{Inputs, Outputs}
 use Rattle.pdh_edge.specs.MemLists.{inputs_of, outputs_of, items_of, length_of, bits_held}
 use Rattle.pdh_nesting.specs.Chains.{top_len}
-use Rattle.pdh_line.specs.Nodes.{child, Counts}
 use Rattle.pdh_nesting.specs.Sending.{AllScheduled, given_below}
 use Rattle.pdh_nesting.proofs.Given.{given-entered}
-use Rattle.pdh_nesting.proofs.Scheduled.{scheduled-top, scheduled-below}
 use Rattle.pdh_clock.specs.Row.{Row}
 use Rattle.pdh_clock.specs.Contents.{counts, frame_count}
 use Rattle.pdh_chain.specs.Saying.{says_of}
 use Rattle.pdh_chain.specs.declared.chain.Chain.{Chain}
 use Rattle.pdh_chain.specs.Chains.{shapes_of, leaves_of}
-use Rattle.pdh_chain.specs.Muxes.{LacksFrames, LacksBelow, StopsForFrame, StopsAtEnd, PutsPrefix}
+use Rattle.pdh_chain.specs.Muxes.{StopsForFrame, StopsAtEnd, PutsPrefix}
 use Rattle.pdh_chain.proofs.ChainLaws.{are_frames}
 use Rattle.pdh_chain.proofs.ShortLists.{mux_short}
 use Rattle.pdh_ops.specs.Schedules.{frames_in}
 use Rattle.pdh_ops.specs.MuxSteps.{CanSend}
+use Rattle.pdh_chain.proofs.Scheduled.{none_lacks_below}
 use Rattle.pdh_ops.proofs.Scheduled.{all_scheduled}
 
 -- ---- frames
-
--- where each node has the frames that it begins, none lacks one
-none_lacks : (shapes : List FrameShape) (counts : Counts) (scheduled : List ℕ → ℕ) (path : List ℕ) (x : ℕ) (node : List ℕ) → AllScheduled shapes counts scheduled path x → LacksFrames shapes counts scheduled path x node → ⊥
-unfolding LacksFrames
-none_lacks [] counts scheduled path x node all lacks = lacks
-none_lacks (s ∷ below) counts scheduled path x node all lacks = elim lacks [
-  | inl here ↦ omega (arith, here.1, scheduled-top s below counts scheduled path x all)
-  | inr there ↦ none_lacks below counts scheduled (child path there.0) (given s there.0 (counts path there.0) x) node (scheduled-below s below counts scheduled path x there.0 there.1 all) there.2
-]
-
-none_lacks_below : (shapes : List FrameShape) (counts : Counts) (scheduled : List ℕ → ℕ) (x : ℕ) (node : List ℕ) → AllScheduled shapes counts scheduled [] x → LacksBelow shapes counts scheduled x node → ⊥
-none_lacks_below [] counts scheduled x node all lacks = lacks
-none_lacks_below (s ∷ below) counts scheduled x node all lacks =
-    none_lacks below counts scheduled (child [] lacks.0) (given s lacks.0 (counts [] lacks.0) x) node (scheduled-below s below counts scheduled [] x lacks.0 lacks.1 all) lacks.2
 
 pub has_frames : (chain : Chain) (rows : List Row) (frames : ℕ) (inputs : Inputs) (node : Path) → CanSend chain rows frames inputs → StopsForFrame (shapes_of chain) (counts rows) (frame_count rows) frames node → ⊥
 has_frames chain rows frames inputs node can stops =
@@ -73,7 +56,7 @@ pub none_rose : (x y : ℕ) → x ≡ 0 → y ≡ x → Rose x y → ⊥
 none_rose x y none same rose = omega arith
 
 -- the one list of a port as it was opened
-one_list : (k : ℕ) → IsTrue (nat_lt k 1) → k ≡ 0
+pub one_list : (k : ℕ) → IsTrue (nat_lt k 1) → k ≡ 0
 one_list zero h = refl
 one_list (suc k) h = absurd (let less : suc k < 1 = ltb-true _ _ h in omega arith)
 

@@ -33,13 +33,14 @@ use Rattle.pdh_ops.specs.Lines.{IsTold}
 use Rattle.pdh_ops.specs.Run.{IsCause, Performs, Runs}
 use Rattle.pdh_ops.specs.Tolerated.{AreWithin, HasNoEvent, IsDelayed}
 use Rattle.pdh_words.specs.declared.commands.Command.{Command}
-use Rattle.pdh_words.specs.declared.commands.Command.TheVariants.{Demux, Mux, ClockCheck, ClockMake, Inspect, InspectE1, Show, E1Pack, E1Unpack}
+use Rattle.pdh_words.specs.declared.commands.Command.TheVariants.{Demux, Mux, ClockCheck, ClockMake, Inspect, InspectE1, Show, E1Pack, E1Unpack, Disturb, Drill}
 use Rattle.pdh_ops.specs.declared.file.File.{File}
 use Rattle.pdh_ops.specs.declared.file.File.TheVariants.{Leaf}
 use Rattle.pdh_ops.specs.declared.answer.Done.TheVariants.{Muxed}
 use Rattle.pdh_ops.specs.declared.answer.Stop.{Stop}
-use Rattle.pdh_ops.specs.declared.answer.Stop.TheVariants.{Memory, Usage, Read, Write, Missing, LongSchedule, BadRow, UnknownNode, CountOver, ShortNode, Short, Overflow, Underflow, ManyFrames, NoAlignment, NotWhole}
-use Rattle.pdh_ops.proofs.Scheduled.{all_scheduled, scheduled-fewer}
+use Rattle.pdh_ops.specs.declared.answer.Stop.TheVariants.{Memory, Usage, Read, Write, Missing, LongSchedule, BadRow, UnknownNode, CountOver, ShortNode, Short, Overflow, Underflow, ManyFrames, NoAlignment, NotWhole, LongScript, BadScriptRow, PastEnd}
+use Rattle.pdh_chain.proofs.Scheduled.{scheduled-fewer}
+use Rattle.pdh_ops.proofs.Scheduled.{all_scheduled}
 use Rattle.pdh_ops.proofs.MuxGivesBack.{DidMux, mux_done, frames_there, line_front, stop_status}
 use Rattle.pdh_shape.specs.OwnNumbers.{most_frames}
 
@@ -69,7 +70,7 @@ muxed_none chain files rows none = go (nat_lt most_frames (frames_in rows)) (sho
         names_event (cond many (Err (ManyFrames (frames_in rows)))
         (option_map_or (λ short. Err (stop_of_shortage short)) node
         (option_map_or (λ leaf. Err (Short (Leaf leaf) (bits_held files leaf) (bits_needed chain rows leaf))) short (option_map_or (λ event. Err (stop_of_event event)) event (Ok (Muxed chain (frames_in rows))))))) ≡ false
-    go true node short event none = refl
+    go true lacking short event none = refl
     go false (Some node) short event none = refl
     go false None (Some leaf) event none = refl
     go false None None (Some event) none = absurd (let wrong : Some event ≡ None = none refl in cc)
@@ -113,6 +114,9 @@ no_eight chain feac a b (Short f h n) files eight cause told none = absurd (omeg
 no_eight chain feac a b (ManyFrames n) files eight cause told none = absurd (omega arith)
 no_eight chain feac a b (NoAlignment n) files eight cause told none = absurd (omega arith)
 no_eight chain feac a b (NotWhole n) files eight cause told none = absurd (omega arith)
+no_eight chain feac a b LongScript files eight cause told none = absurd (omega arith)
+no_eight chain feac a b (BadScriptRow l) files eight cause told none = absurd (omega arith)
+no_eight chain feac a b (PastEnd l) files eight cause told none = absurd (omega arith)
 
 answer_no_event : (chain : Chain) (feac : Option ℕ) (a b : ShelfState) (k l : SinkState) (v : List State) (status : ℕ) (answer : Answer) → Performs (Mux chain feac) a b answer → IsTold v answer k l status → HasNoEvent (Some (Mux chain feac)) a status
 answer_no_event chain feac a b k l v status (Ok done) performs tells files told within eight = elim tells.2 [ inl sent ↦ absurd (omega (arith, sent.0, eight)) | inr failed ↦ absurd (omega (arith, failed.0, eight)) ]
@@ -121,12 +125,14 @@ answer_no_event chain feac a b k l v status (Err stop) performs tells files told
 
 pub has_no_event : (command : Option Command) (a b : ShelfState) (k l : SinkState) (v w : List State) (status : ℕ) → Runs command a b k l v w status → HasNoEvent command a status
 has_no_event None a b k l v w status runs = tt
-has_no_event (Some (Demux chain)) a b k l v w status runs = tt
+has_no_event (Some (Demux chain bits)) a b k l v w status runs = tt
 has_no_event (Some (ClockCheck chain)) a b k l v w status runs = tt
 has_no_event (Some (ClockMake chain frames bias)) a b k l v w status runs = tt
-has_no_event (Some (Inspect chain)) a b k l v w status runs = tt
+has_no_event (Some (Inspect chain bits)) a b k l v w status runs = tt
 has_no_event (Some InspectE1) a b k l v w status runs = tt
 has_no_event (Some (Show chain frame)) a b k l v w status runs = tt
+has_no_event (Some (Disturb chain)) a b k l v w status runs = tt
+has_no_event (Some (Drill chain seed frames)) a b k l v w status runs = tt
 has_no_event (Some E1Pack) a b k l v w status runs = tt
 has_no_event (Some E1Unpack) a b k l v w status runs = tt
 has_no_event (Some (Mux chain feac)) a b k l v w status runs = answer_no_event chain feac a b k l w status runs.answer runs.does runs.told
@@ -158,12 +164,14 @@ answer_delayed chain feac a b k l v status (Ok done) performs tells files line l
 
 pub is_delayed : (command : Option Command) (a b : ShelfState) (k l : SinkState) (v w : List State) (status : ℕ) → Runs command a b k l v w status → IsDelayed command a b status
 is_delayed None a b k l v w status runs = tt
-is_delayed (Some (Demux chain)) a b k l v w status runs = tt
+is_delayed (Some (Demux chain bits)) a b k l v w status runs = tt
 is_delayed (Some (ClockCheck chain)) a b k l v w status runs = tt
 is_delayed (Some (ClockMake chain frames bias)) a b k l v w status runs = tt
-is_delayed (Some (Inspect chain)) a b k l v w status runs = tt
+is_delayed (Some (Inspect chain bits)) a b k l v w status runs = tt
 is_delayed (Some InspectE1) a b k l v w status runs = tt
 is_delayed (Some (Show chain frame)) a b k l v w status runs = tt
+is_delayed (Some (Disturb chain)) a b k l v w status runs = tt
+is_delayed (Some (Drill chain seed frames)) a b k l v w status runs = tt
 is_delayed (Some E1Pack) a b k l v w status runs = tt
 is_delayed (Some E1Unpack) a b k l v w status runs = tt
 is_delayed (Some (Mux chain feac)) a b k l v w status runs = answer_delayed chain feac a b k l w status runs.answer runs.does runs.told

@@ -49,7 +49,7 @@ missing_refuses command file judge next a b stop begins cause =
     sym (begins.comes files ∙ ap (λ h. and_then (judge h) next) none ∙ ap (λ r. and_then r next) begins.missing)) cause
 
 -- a file of so many bytes that is held
-held_of : (bytes : ℕ) (held : Option (List ℕ)) → Some bytes ≡ option_map length held → (content : List ℕ) × (held ≡ Some content) × (length content ≡ bytes)
+pub held_of : (bytes : ℕ) (held : Option (List ℕ)) → Some bytes ≡ option_map length held → (content : List ℕ) × (held ≡ Some content) × (length content ≡ bytes)
 held_of bytes None e = absurd (cc)
 held_of bytes (Some content) e = (content, refl, let same : bytes ≡ length content = cc in sym same)
 

@@ -45,7 +45,7 @@ shares_in_room chain sees bits k room inputs inputs_now outputs outputs_now open
 -- ---- the line
 
 -- a list that gave as many bits as it has gave all
-all_given : (rest : Option (List Bool)) (given bits : List Bool) → Some bits ≡ before given rest → length given ≡ length bits → given ≡ bits
+pub all_given : (rest : Option (List Bool)) (given bits : List Bool) → Some bits ≡ before given rest → length given ≡ length bits → given ≡ bits
 all_given None given bits told long = absurd (cc)
 all_given (Some rest) given bits told long =
     let whole : bits ≡ given ++ rest = cc in

@@ -12,7 +12,7 @@ use Rattle.pdh_ops.specs.Run.{Comes, FailsInTurn, with_stop, Performs}
 use Rattle.pdh_ops.specs.Refusing.{Refuses}
 use Rattle.pdh_ops.specs.declared.file.File.{File}
 use Rattle.pdh_ops.specs.declared.answer.Stop.{Stop}
-use Rattle.pdh_ops.specs.declared.answer.Stop.TheVariants.{Memory, Usage, Read, Write, Missing, LongSchedule, BadRow, UnknownNode, CountOver, ShortNode, Short, Overflow, Underflow, ManyFrames, NoAlignment, NotWhole}
+use Rattle.pdh_ops.specs.declared.answer.Stop.TheVariants.{Memory, Usage, Read, Write, Missing, LongSchedule, BadRow, UnknownNode, CountOver, ShortNode, Short, Overflow, Underflow, ManyFrames, NoAlignment, NotWhole, LongScript, BadScriptRow, PastEnd}
 use Rattle.pdh_ops.proofs.Touching.{read_fails_since}
 use Rattle.pdh_ops.proofs.Causes.{looks_others}
 
@@ -54,6 +54,9 @@ refuses_since command a b c (Underflow p) looks same cause = absurd cause
 refuses_since command a b c (ManyFrames n) looks same cause = comes_before command a b _ looks cause
 refuses_since command a b c (NoAlignment n) looks same cause = absurd cause
 refuses_since command a b c (NotWhole n) looks same cause = comes_before command a b _ looks cause
+refuses_since command a b c LongScript looks same cause = comes_before command a b _ looks cause
+refuses_since command a b c (BadScriptRow l) looks same cause = comes_before command a b _ looks cause
+refuses_since command a b c (PastEnd l) looks same cause = comes_before command a b _ looks cause
 
 -- it ends the command
 pub refuses_performs : (command : Command) (a b : ShelfState) (stop : Stop) → Looks a b → Refuses command a b stop → b.counts ≡ with_stop stop a.counts → Performs command a b (Err stop)
@@ -73,6 +76,9 @@ refuses_performs command a b (Underflow p) looks cause counted = absurd cause
 refuses_performs command a b (ManyFrames n) looks cause counted = record { cause = cause; outputs = looks.told; others = looks_others (IsOutput command) a b looks; counted = counted }
 refuses_performs command a b (NoAlignment n) looks cause counted = absurd cause
 refuses_performs command a b (NotWhole n) looks cause counted = record { cause = cause; outputs = looks.told; others = looks_others (IsOutput command) a b looks; counted = counted }
+refuses_performs command a b LongScript looks cause counted = record { cause = cause; outputs = looks.told; others = looks_others (IsOutput command) a b looks; counted = counted }
+refuses_performs command a b (BadScriptRow l) looks cause counted = record { cause = cause; outputs = looks.told; others = looks_others (IsOutput command) a b looks; counted = counted }
+refuses_performs command a b (PastEnd l) looks cause counted = record { cause = cause; outputs = looks.told; others = looks_others (IsOutput command) a b looks; counted = counted }
 
 -- ---- why a size isn't known, and why bytes aren't read
 
@@ -94,6 +100,9 @@ size_stop file a b (Underflow p) cause = absurd cause
 size_stop file a b (ManyFrames n) cause = absurd cause
 size_stop file a b (NoAlignment n) cause = absurd cause
 size_stop file a b (NotWhole n) cause = absurd cause
+size_stop file a b LongScript cause = absurd cause
+size_stop file a b (BadScriptRow l) cause = absurd cause
+size_stop file a b (PastEnd l) cause = absurd cause
 
 pub read_stop : (file : File) (a b : ShelfState) (stop : Stop) → IsReadStop file a b stop → (stop ≡ Memory) ⊎ ((stop ≡ Read file) × FailsToRead ReadCall (name_of file) a b)
 read_stop file a b Memory cause = inl refl
@@ -112,6 +121,9 @@ read_stop file a b (Underflow p) cause = absurd cause
 read_stop file a b (ManyFrames n) cause = absurd cause
 read_stop file a b (NoAlignment n) cause = absurd cause
 read_stop file a b (NotWhole n) cause = absurd cause
+read_stop file a b LongScript cause = absurd cause
+read_stop file a b (BadScriptRow l) cause = absurd cause
+read_stop file a b (PastEnd l) cause = absurd cause
 
 -- input k wasn't there, or its size wasn't told, in its turn
 pub size_refuses : (command : Command) (file : File) (k : ℕ) (a b : ShelfState) (stop : Stop) → k < (inputs command).count → name_of file ≡ (inputs command).name k → OfInputs command a (AreHeld command k)

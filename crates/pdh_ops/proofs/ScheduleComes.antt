@@ -22,7 +22,7 @@ use Rattle.pdh_ops.specs.Refusing.{Refuses}
 use Rattle.pdh_ops.specs.ScheduleSteps.{RowsAre, IsScheduleStop}
 use Rattle.pdh_ops.specs.declared.file.File.TheVariants.{Schedule}
 use Rattle.pdh_ops.specs.declared.answer.Stop.{Stop}
-use Rattle.pdh_ops.specs.declared.answer.Stop.TheVariants.{Memory, Usage, Read, Write, Missing, LongSchedule, BadRow, UnknownNode, CountOver, ShortNode, Short, Overflow, Underflow, ManyFrames, NoAlignment, NotWhole}
+use Rattle.pdh_ops.specs.declared.answer.Stop.TheVariants.{Memory, Usage, Read, Write, Missing, LongSchedule, BadRow, UnknownNode, CountOver, ShortNode, Short, Overflow, Underflow, ManyFrames, NoAlignment, NotWhole, LongScript, BadScriptRow, PastEnd}
 use Rattle.pdh_chain.specs.declared.chain.Chain.{Chain}
 use Rattle.pdh_chain.specs.Chains.{levels_of}
 use Rattle.pdh_shape.specs.OwnNumbers.{most_bytes}
@@ -119,6 +119,9 @@ schedule_refuses chain command next k a b (Underflow p) begins has cause = absur
 schedule_refuses chain command next k a b (ManyFrames n) begins has cause = absurd cause
 schedule_refuses chain command next k a b (NoAlignment n) begins has cause = absurd cause
 schedule_refuses chain command next k a b (NotWhole n) begins has cause = absurd cause
+schedule_refuses chain command next k a b LongScript begins has cause = absurd cause
+schedule_refuses chain command next k a b (BadScriptRow l) begins has cause = absurd cause
+schedule_refuses chain command next k a b (PastEnd l) begins has cause = absurd cause
 
 -- and with rows it comes to what they come to
 pub comes_on : (chain : Chain) (command : Command) (next : Files → List Row → Answer) (a : ShelfState) (rows : List Row) (files : Files) → Begins chain command next a → RowsAre chain a (Ok rows) → AreTold command a.told files →

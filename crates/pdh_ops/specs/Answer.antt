@@ -3,13 +3,14 @@ use Rattle.std.specs.Prelude.{ℕ, List, ◌++◌, codes, decimal, Result, Ok, E
 use Rattle.pdh_shape.specs.declared.place.Place.{Place}
 use Rattle.pdh_line.specs.Paths.{steps_of, path_text}
 use Rattle.pdh_chain.specs.Chains.{name_of as name_of_chain}
+use Rattle.pdh_lab.specs.declared.report.Drill.{Drill}
 use Rattle.pdh_ops.specs.Names.{name_of}
 use Rattle.pdh_ops.specs.declared.answer.Done.{Done}
-use Rattle.pdh_ops.specs.declared.answer.Done.TheVariants.{Demuxed, Muxed, ClockInside, ClockOutside, ClockMade, E1Packed, E1Unpacked, Inspected, E1Inspected, Shown}
+use Rattle.pdh_ops.specs.declared.answer.Done.TheVariants.{Demuxed, Muxed, ClockInside, ClockOutside, ClockMade, E1Packed, E1Unpacked, Inspected, E1Inspected, Shown, Disturbed, Drilled}
 use Rattle.pdh_ops.specs.declared.answer.E1Counts.{E1Counts}
 use Rattle.pdh_ops.specs.declared.answer.OutOfTolerance.{OutOfTolerance}
 use Rattle.pdh_ops.specs.declared.answer.Stop.{Stop}
-use Rattle.pdh_ops.specs.declared.answer.Stop.TheVariants.{Memory, Usage, Read, Write, Missing, LongSchedule, BadRow, UnknownNode, CountOver, ShortNode, Short, Overflow, Underflow, ManyFrames, NoAlignment, NotWhole}
+use Rattle.pdh_ops.specs.declared.answer.Stop.TheVariants.{Memory, Usage, Read, Write, Missing, LongSchedule, BadRow, UnknownNode, CountOver, ShortNode, Short, Overflow, Underflow, ManyFrames, NoAlignment, NotWhole, LongScript, BadScriptRow, PastEnd}
 
 -- what was done, or why not
 abbrev pub Answer : Type 0
@@ -34,6 +35,9 @@ status_of (ShortNode node have need) = 7
 status_of (Short file have need) = 7
 status_of (Overflow place) = 8
 status_of (Underflow place) = 8
+status_of LongScript = 9
+status_of (BadScriptRow line) = 9
+status_of (PastEnd line) = 9
 status_of (ManyFrames frames) = 10
 status_of (NoAlignment bits) = 11
 status_of (NotWhole octets) = 12
@@ -52,6 +56,11 @@ outside_text out =
 abbrev pub counts_text : E1Counts → List ℕ
 counts_text found = decimal found.multiframes ++ codes " blocks " ++ decimal found.blocks ++ codes " errored " ++ decimal found.errored
 
+-- the report of a drill
+abbrev pub drill_text : Drill → List ℕ
+drill_text drill =
+    decimal drill.leaves ++ codes " in " ++ decimal drill.entered ++ codes " out " ++ decimal drill.out ++ codes " equal " ++ decimal drill.equal ++ codes " late " ++ decimal drill.late
+
 -- Each text is one line, but for that of a frame. What an inspection did stands behind the lines of the monitors.
 abbrev pub done_text : Done → List ℕ
 done_text (Demuxed chain frames) = codes "demux " ++ name_of_chain chain ++ codes ": frames " ++ decimal frames ++ codes "\n"
@@ -64,6 +73,9 @@ done_text (E1Unpacked found) = codes "e1unpack: multiframes " ++ counts_text fou
 done_text (Inspected chain frames events) = codes "inspect " ++ name_of_chain chain ++ codes ": frames " ++ decimal frames ++ codes " events " ++ decimal events ++ codes "\n"
 done_text (E1Inspected multiframes events) = codes "inspect e1: multiframes " ++ decimal multiframes ++ codes " events " ++ decimal events ++ codes "\n"
 done_text (Shown text) = text
+done_text (Disturbed chain bits) = codes "disturb " ++ name_of_chain chain ++ codes ": bits " ++ decimal bits ++ codes "\n"
+done_text (Drilled chain seed frames drill) =
+    codes "drill " ++ name_of_chain chain ++ codes " seed " ++ decimal seed ++ codes " frames " ++ decimal frames ++ codes ": leaves " ++ drill_text drill ++ codes "\n"
 
 abbrev pub stop_text : Stop → List ℕ
 stop_text Memory = codes "memory\n"
@@ -79,6 +91,9 @@ stop_text (ShortNode node have need) = codes "short: " ++ path_text (steps_of no
 stop_text (Short file have need) = codes "short: " ++ name_of file ++ codes ": have " ++ decimal have ++ codes " bits, need " ++ decimal need ++ codes "\n"
 stop_text (Overflow place) = codes "overflow: " ++ place_text place ++ codes "\n"
 stop_text (Underflow place) = codes "underflow: " ++ place_text place ++ codes "\n"
+stop_text LongScript = codes "script: too long\n"
+stop_text (BadScriptRow line) = codes "script: line " ++ decimal line ++ codes ": bad row\n"
+stop_text (PastEnd line) = codes "script: line " ++ decimal line ++ codes ": past the end\n"
 stop_text (ManyFrames frames) = codes "too many frames: " ++ decimal frames ++ codes "\n"
 stop_text (NoAlignment bits) = codes "no alignment: " ++ decimal bits ++ codes " bits\n"
 stop_text (NotWhole octets) = codes "not a whole multiframe: " ++ decimal octets ++ codes " octets\n"

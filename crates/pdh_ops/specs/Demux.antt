@@ -6,7 +6,7 @@ use Rattle.pdh_chain.specs.Demuxes.{top_delivered}
 use Rattle.pdh_chain.specs.declared.chain.Chain.{Chain}
 use Rattle.pdh_nesting.specs.Receiving.{far}
 use Rattle.pdh_ops.specs.Answer.{Answer}
-use Rattle.pdh_ops.specs.declared.file.File.TheVariants.{Line}
+use Rattle.pdh_ops.specs.declared.file.File.{File}
 use Rattle.pdh_ops.specs.declared.answer.Done.TheVariants.{Demuxed}
 use Rattle.pdh_ops.specs.declared.answer.Stop.{Stop}
 use Rattle.pdh_ops.specs.declared.answer.Stop.TheVariants.{Missing, ManyFrames, NoAlignment}
@@ -16,10 +16,10 @@ use Rattle.pdh_shape.specs.OwnNumbers.{most_frames}
 abbrev pub frames_of : Chain → List ℕ → ℕ
 frames_of chain line = length line / frame_bytes_of chain
 
--- the line that is held, or why it is refused before it is read
-abbrev pub line_of : Chain → Option (List ℕ) → Result (List ℕ) Stop
-line_of chain None = Err (Missing Line)
-line_of chain (Some line) = (if nat_lt most_frames (frames_of chain line) then Err (ManyFrames (frames_of chain line)) else Ok line)
+-- the line that this file holds, or why it is refused before it is read
+abbrev pub line_of : File → Chain → Option (List ℕ) → Result (List ℕ) Stop
+line_of file chain None = Err (Missing file)
+line_of file chain (Some line) = (if nat_lt most_frames (frames_of chain line) then Err (ManyFrames (frames_of chain line)) else Ok line)
 
 -- how many frames of the line are delivered at the top
 abbrev pub frames_received : Chain → List ℕ → ℕ

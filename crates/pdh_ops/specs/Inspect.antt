@@ -36,7 +36,7 @@ long_enough chain n line = (if nat_lt (length line) (bytes_upto chain n) then Er
 
 -- the line that is held, or why it is refused before it is read
 abbrev pub line_to_show : Chain → ℕ → Option (List ℕ) → Result (List ℕ) Stop
-line_to_show chain n held = and_then (line_of chain held) (long_enough chain n)
+line_to_show chain n held = and_then (line_of Line chain held) (long_enough chain n)
 
 -- the bytes of frame n, whatever the alignment
 abbrev pub frame_at : Chain → ℕ → List ℕ → List ℕ

@@ -6,6 +6,8 @@ pub mod Mux
 pub mod Clock
 pub mod E1
 pub mod Inspect
+pub mod Disturb
+pub mod Drill
 pub mod Commands
 pub mod Lines
 pub mod Run
@@ -16,6 +18,8 @@ pub mod Steps
 pub mod ScheduleSteps
 pub mod MuxSteps
 pub mod E1Steps
+pub mod DisturbSteps
 pub mod GivesBack
 pub mod Packs
 pub mod Tolerated
+pub mod InTime

@@ -1,7 +1,9 @@
 -- The names of the files.
 use Rattle.std.specs.Prelude.{ℕ, ◌+◌, ◌/◌, ◌%◌, List, [], ◌∷◌, ◌++◌, codes}
 use Rattle.pdh_ops.specs.declared.file.File.{File}
-use Rattle.pdh_ops.specs.declared.file.File.TheVariants.{Line, Schedule, Leaf, Output, Payload, E1Line, PayloadOut}
+use Rattle.pdh_ops.specs.declared.file.File.TheVariants.{Line, Bent, Schedule, Script, Leaf, Output, Payload, E1Line, PayloadOut}
+use Rattle.pdh_words.specs.declared.commands.Bits.{Bits}
+use Rattle.pdh_words.specs.declared.commands.Bits.TheVariants.{Line as Recorded, Bent as Disturbed}
 
 -- the last two decimal digits of a number
 abbrev pub two_digits : ℕ → List ℕ
@@ -11,9 +13,17 @@ two_digits n = (48 + n / 10 % 10) ∷ (48 + n % 10) ∷ []
 unfoldable pub line_name : List ℕ
 line_name = codes "line.bits"
 
+-- the disturbed line
+unfoldable pub bent_name : List ℕ
+bent_name = codes "bent.bits"
+
 -- how many bits of each tributary arrive in each frame
 unfoldable pub schedule_name : List ℕ
 schedule_name = codes "schedule.txt"
+
+-- how a line is disturbed
+unfoldable pub script_name : List ℕ
+script_name = codes "script.txt"
 
 -- a file of a leaf, counted from 0 here and from 1 in its name
 unfoldable pub numbered_name : List ℕ → ℕ → List ℕ
@@ -41,9 +51,16 @@ payload_out_name = codes "payload.out"
 
 abbrev pub name_of : File → List ℕ
 name_of Line = line_name
+name_of Bent = bent_name
 name_of Schedule = schedule_name
+name_of Script = script_name
 name_of (Leaf leaf) = leaf_name leaf
 name_of (Output leaf) = output_name leaf
 name_of Payload = payload_name
 name_of E1Line = e1_name
 name_of PayloadOut = payload_out_name
+
+-- the file that a line is read from
+abbrev pub line_file : Bits → File
+line_file Recorded = Line
+line_file Disturbed = Bent

@@ -6,7 +6,7 @@ use Rattle.pdh_edge.specs.declared.shelf.Call.TheVariants.{Size as SizeCall, Rea
 use Rattle.pdh_watch.specs.declared.event.Event.{Event}
 use Rattle.pdh_watch.specs.Monitors.{State, SawEach}
 use Rattle.pdh_inspect.specs.Seen.{line_events, framed_events}
-use Rattle.pdh_ops.specs.Names.{name_of, line_name, e1_name}
+use Rattle.pdh_ops.specs.Names.{name_of, line_file, e1_name}
 use Rattle.pdh_ops.specs.Schedules.{Files, bytes_in}
 use Rattle.pdh_ops.specs.Answer.{Answer}
 use Rattle.pdh_ops.specs.Lines.{IsTold}
@@ -143,7 +143,7 @@ SeeEvents command old events_of before after = (events : List Event) × SawEach 
 
 -- An inspection that did its work showed the monitors the events of its line; every other run leaves them as they were.
 abbrev pub Watches : Option Command → ShelfState → Answer → List State → List State → Type 0
-Watches (Some (Inspect chain)) old (Ok done) before after = SeeEvents (Inspect chain) old (λ files. line_events chain (bytes_in files line_name)) before after
+Watches (Some (Inspect chain bits)) old (Ok done) before after = SeeEvents (Inspect chain bits) old (λ files. line_events chain (bytes_in files (name_of (line_file bits)))) before after
 Watches (Some InspectE1) old (Ok done) before after = SeeEvents InspectE1 old (λ files. framed_events (bytes_in files e1_name)) before after
 Watches command old answer before after = after ≡ before
 

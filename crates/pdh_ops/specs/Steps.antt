@@ -7,25 +7,25 @@ use Rattle.pdh_edge.specs.declared.shelf.Call.TheVariants.{Size as SizeCall, Rea
 use Rattle.pdh_edge.specs.Ports.{Inputs, Outputs}
 use Rattle.pdh_chain.specs.Chains.{leaves_of}
 use Rattle.pdh_chain.specs.declared.chain.Chain.{Chain}
-use Rattle.pdh_ops.specs.Names.{line_name}
+use Rattle.pdh_ops.specs.Names.{name_of}
 use Rattle.pdh_ops.specs.Demux.{line_of, frames_received, output_of}
-use Rattle.pdh_ops.specs.declared.file.File.TheVariants.{Line}
+use Rattle.pdh_ops.specs.declared.file.File.{File}
 use Rattle.pdh_ops.specs.declared.demux.Received.{Received}
 use Rattle.pdh_ops.specs.declared.answer.Stop.{Stop}
 use Rattle.pdh_ops.specs.declared.answer.Stop.TheVariants.{Memory, Read, Missing, ManyFrames}
 
--- a call for the line's size failed, or one for its bytes, where nothing refuses the line before it is read
-abbrev pub FailsForLine : Chain → ShelfState → ShelfState → Type 0
-FailsForLine chain old new =
-    FailsToRead SizeCall line_name old new ⊎ (FailsToRead ReadCall line_name old new × WhereTold (old.told line_name) (λ held. is_ok (line_of chain held) ≡ true))
+-- a call for the size of a line's file failed, or one for its bytes, where nothing refuses the line before it is read
+abbrev pub FailsForLine : File → Chain → ShelfState → ShelfState → Type 0
+FailsForLine file chain old new =
+    FailsToRead SizeCall (name_of file) old new ⊎ (FailsToRead ReadCall (name_of file) old new × WhereTold (old.told (name_of file)) (λ held. is_ok (line_of file chain held) ≡ true))
 
--- why the line isn't there to be demultiplexed
-abbrev pub IsLineCause : Chain → ShelfState → ShelfState → Stop → Type 0
-IsLineCause chain old new Memory = ⊤
-IsLineCause chain old new (Read file) = (file ≡ Line) × FailsForLine chain old new
-IsLineCause chain old new (Missing file) = WhereTold (old.told line_name) (λ held. line_of chain held ≡ Err (Missing file))
-IsLineCause chain old new (ManyFrames frames) = WhereTold (old.told line_name) (λ held. line_of chain held ≡ Err (ManyFrames frames))
-IsLineCause chain old new _ = ⊥
+-- why the line of a file isn't there to be demultiplexed
+abbrev pub IsLineCause : File → Chain → ShelfState → ShelfState → Stop → Type 0
+IsLineCause file chain old new Memory = ⊤
+IsLineCause file chain old new (Read failed) = (failed ≡ file) × FailsForLine file chain old new
+IsLineCause file chain old new (Missing missed) = WhereTold (old.told (name_of file)) (λ held. line_of file chain held ≡ Err (Missing missed))
+IsLineCause file chain old new (ManyFrames frames) = WhereTold (old.told (name_of file)) (λ held. line_of file chain held ≡ Err (ManyFrames frames))
+IsLineCause file chain old new _ = ⊥
 
 -- list 0 has so many bits
 pub record HasLine (bits : ℕ) (inputs : Inputs) : Type 0 where

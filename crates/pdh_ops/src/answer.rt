@@ -1,6 +1,8 @@
 use crate::file::File;
 use pdh_chain::Chain;
 use pdh_clock::{Outside, ScheduleFault};
+use pdh_lab::Drill;
+use pdh_script::ScriptFault;
 use pdh_shape::{Path, Place};
 use std::alloc::AllocError;
 use std::marker::Model;
@@ -82,6 +84,10 @@ pub enum Done {
     E1Inspected(u64, u64),
     /// `show`, with its text.
     Shown(FrameText),
+    /// `disturb`, with the bits of the disturbed line.
+    Disturbed(Chain, u64),
+    /// `drill`, with what the test patterns begin with, the frames of the line, and the report.
+    Drilled(Chain, u64, u64, Drill),
 }
 
 /// Why a command ended early. Lines of a text are counted from 1.
@@ -119,6 +125,12 @@ pub enum Stop {
     NoAlignment(u64),
     /// The payload doesn't fill whole multiframes: its octets.
     NotWhole(u64),
+    /// The script's text is longer than 1,048,576 bytes.
+    LongScript,
+    /// The line of that number is no row of a script, or begins before the row before it ends.
+    BadScriptRow(u32),
+    /// The row in the line of that number ends behind the last bit that is disturbed.
+    PastEnd(u32),
 }
 
 impl Stop {
@@ -143,6 +155,9 @@ impl Stop {
             Stop::Short(_, _, _) => 7,
             Stop::Overflow(_) => 8,
             Stop::Underflow(_) => 8,
+            Stop::LongScript => 9,
+            Stop::BadScriptRow(_) => 9,
+            Stop::PastEnd(_) => 9,
             Stop::ManyFrames(_) => 10,
             Stop::NoAlignment(_) => 11,
             Stop::NotWhole(_) => 12,
@@ -174,6 +189,22 @@ impl From<ScheduleFault> for Stop {
             ScheduleFault::UnknownNode { line } => Stop::UnknownNode(line),
             ScheduleFault::CountOver { line, count, most } => Stop::CountOver(line, count, most),
             ScheduleFault::Memory => Stop::Memory,
+        }
+    }
+}
+
+impl From<ScriptFault> for Stop {
+    ghost use Rattle.std.specs.Prelude.{◌≡◌};
+    ghost use Rattle.pdh_ops.specs.Disturb.{stop_of_script};
+
+    ghost from_gives = { λ fault e. e ≡ stop_of_script fault };
+
+    fn from(fault: ScriptFault) -> Self {
+        match fault {
+            ScriptFault::TooLong { .. } => Stop::LongScript,
+            ScriptFault::BadRow { line } => Stop::BadScriptRow(line),
+            ScriptFault::PastEnd { line } => Stop::PastEnd(line),
+            ScriptFault::Memory => Stop::Memory,
         }
     }
 }

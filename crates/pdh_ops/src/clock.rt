@@ -82,13 +82,12 @@ fn row_count(text: &[u8]) -> u64
 pub fn make<S: Shelf>(
     alloc: Global,
     chain: Chain,
-    frames: u32,
+    frames: u64,
     bias: Bias,
     shelf: &mut S,
 ) -> Result<Done, Stop>
     ensures { Performs (ClockMake chain frames bias) (S.state shelf.old) (S.state shelf.new) result }
 {
-    let frames = u64::from(frames);
     if frames > MOST_FRAMES {
         return Err(Stop::ManyFrames(frames));
     }

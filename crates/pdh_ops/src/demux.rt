@@ -9,6 +9,7 @@ ghost use Rattle.pdh_ops.specs.Demux.{line_of};
 ghost use Rattle.pdh_ops.specs.Commands.{IsOutput};
 ghost use Rattle.pdh_ops.specs.Run.{Performs, IsCounted};
 ghost use Rattle.pdh_words.specs.declared.commands.Command.TheVariants.{Demux};
+ghost use Rattle.pdh_words.specs.declared.commands.Bits.TheVariants.{Line};
 ghost use Rattle.pdh_ops.specs.Steps.{AreBytes, HasLine, IsReceived};
 ghost use Rattle.pdh_ops.specs.Writing.{AreEmpty, HoldsAll, StopsStarting, StopsAppending};
 
@@ -21,6 +22,7 @@ use pdh_bits::{bits_of, bytes_of};
 use pdh_chain::{Chain, DemuxStop, leaves};
 use pdh_edge::{Drain, Feed, MemPort, Port, Shelf};
 use pdh_watch::Quiet;
+use pdh_words::Bits;
 use std::alloc::{AllocError, Global};
 
 // What a line gives: the bytes of each leaf, and how many frames are delivered.
@@ -114,11 +116,11 @@ fn receive(alloc: Global, chain: Chain, line: &[u8]) -> Result<Received, AllocEr
     Ok(Received { outputs, frames })
 }
 
-// Makes the outputs empty, in order.
+// Makes the outputs empty, in order. They are the same whichever line is read.
 fn start_all<S: Shelf>(chain: Chain, shelf: &mut S) -> Result<(), Stop>
-    ensures kept { TouchesOnly (IsOutput (Demux chain)) (S.state shelf.old) (S.state shelf.new) }
-    ensures ok { OnOk result (AreEmpty (Demux chain) (S.state shelf.new)) }
-    ensures err { IfErr result (StopsStarting (Demux chain) (S.state shelf.old) (S.state shelf.new)) }
+    ensures kept { TouchesOnly (IsOutput (Demux chain Line)) (S.state shelf.old) (S.state shelf.new) }
+    ensures ok { OnOk result (AreEmpty (Demux chain Line) (S.state shelf.new)) }
+    ensures err { IfErr result (λ stop. (bits : Bits) → StopsStarting (Demux chain bits) (S.state shelf.old) (S.state shelf.new) stop) }
     ensures counted { IsCounted (S.state shelf.old) (S.state shelf.new) result }
 {
     for leaf in 0..leaf_count(chain) {
@@ -130,10 +132,10 @@ fn start_all<S: Shelf>(chain: Chain, shelf: &mut S) -> Result<(), Stop>
 // Adds the bytes of the outputs, in order.
 fn append_all<S: Shelf>(chain: Chain, shelf: &mut S, outputs: &[Vec<u8>]) -> Result<(), Stop>
     requires all { length outputs.now ≡ leaves_of chain }
-    requires started { AreEmpty (Demux chain) (S.state shelf.old) }
-    ensures kept { TouchesOnly (IsOutput (Demux chain)) (S.state shelf.old) (S.state shelf.new) }
-    ensures ok { OnOk result ((leaf : ℕ) → leaf < leaves_of chain → HoldsAll (Demux chain) (S.state shelf.new) outputs.now leaf) }
-    ensures err { IfErr result (StopsAppending (Demux chain) outputs.now (S.state shelf.old) (S.state shelf.new)) }
+    requires started { AreEmpty (Demux chain Line) (S.state shelf.old) }
+    ensures kept { TouchesOnly (IsOutput (Demux chain Line)) (S.state shelf.old) (S.state shelf.new) }
+    ensures ok { OnOk result ((leaf : ℕ) → leaf < leaves_of chain → HoldsAll (Demux chain Line) (S.state shelf.new) outputs.now leaf) }
+    ensures err { IfErr result (λ stop. (bits : Bits) → StopsAppending (Demux chain bits) outputs.now (S.state shelf.old) (S.state shelf.new) stop) }
     ensures counted { IsCounted (S.state shelf.old) (S.state shelf.new) result }
 {
     for leaf in 0..leaf_count(chain) {
@@ -144,10 +146,10 @@ fn append_all<S: Shelf>(chain: Chain, shelf: &mut S, outputs: &[Vec<u8>]) -> Res
 
 /// Reads the line, writes each tributary's bits, and answers the number of frames that were
 /// delivered, or that none was.
-pub fn demux<S: Shelf>(alloc: Global, chain: Chain, shelf: &mut S) -> Result<Done, Stop>
-    ensures { Performs (Demux chain) (S.state shelf.old) (S.state shelf.new) result }
+pub fn demux<S: Shelf>(alloc: Global, chain: Chain, bits: Bits, shelf: &mut S) -> Result<Done, Stop>
+    ensures { Performs (Demux chain bits) (S.state shelf.old) (S.state shelf.new) result }
 {
-    let line = read_line(alloc, chain, shelf)?;
+    let line = read_line(alloc, chain, File::of_line(bits), shelf)?;
     let received = receive(alloc, chain, &line)?;
     start_all(chain, shelf)?;
     append_all(chain, shelf, &received.outputs)?;

@@ -1,15 +1,20 @@
 ghost use Rattle.std.specs.Prelude.{◌≡◌, ◌+◌, ◌%◌, ◌≤◌, length};
-ghost use Rattle.pdh_ops.specs.Names.{line_name as name_of_line, schedule_name as name_of_schedule, payload_name as name_of_payload, e1_name as name_of_e1, payload_out_name as name_of_payload_out, numbered_name as name_of_numbered};
+ghost use Rattle.pdh_ops.specs.Names.{line_name as name_of_line, bent_name as name_of_bent, script_name as name_of_script, schedule_name as name_of_schedule, payload_name as name_of_payload, e1_name as name_of_e1, payload_out_name as name_of_payload_out, numbered_name as name_of_numbered};
 
 use arrayvec::ArrayString;
+use pdh_words::Bits;
 
 /// A file of a command.
 #[derive(Clone, Copy, Debug, PartialEq, Eq)]
 pub enum File {
     /// The recorded line.
     Line,
+    /// The disturbed line.
+    Bent,
     /// How many bits of each tributary arrive in each frame.
     Schedule,
+    /// How a line is disturbed.
+    Script,
     /// The bits of a leaf, counted from 0.
     Leaf(u8),
     /// What a leaf received, counted from 0.
@@ -59,6 +64,17 @@ fn line_name() -> Name
     name
 }
 
+// The name of the disturbed line.
+#[tactic(auto, unfolding(crate::specs::Names::bent_name))]
+fn bent_name() -> Name
+    ensures value { result.bytes ≡ name_of_bent }
+    ensures short { length result.bytes ≡ 9 }
+{
+    let mut name = Name::new();
+    name.push_str("bent.bits");
+    name
+}
+
 // The name of the schedule.
 #[tactic(auto, unfolding(crate::specs::Names::schedule_name))]
 fn schedule_name() -> Name
@@ -67,6 +83,17 @@ fn schedule_name() -> Name
 {
     let mut name = Name::new();
     name.push_str("schedule.txt");
+    name
+}
+
+// The name of the script.
+#[tactic(auto, unfolding(crate::specs::Names::script_name))]
+fn script_name() -> Name
+    ensures value { result.bytes ≡ name_of_script }
+    ensures short { length result.bytes ≡ 10 }
+{
+    let mut name = Name::new();
+    name.push_str("script.txt");
     name
 }
 
@@ -104,7 +131,18 @@ fn payload_out_name() -> Name
 }
 
 impl File {
-    ghost use Rattle.pdh_ops.specs.Names.{name_of};
+    ghost use Rattle.std.specs.Prelude.{◌≡◌};
+    ghost use Rattle.pdh_ops.specs.Names.{name_of, line_file};
+
+    /// The file that a line is read from.
+    pub fn of_line(bits: Bits) -> File
+        ensures { result ≡ line_file bits }
+    {
+        match bits {
+            Bits::Line => File::Line,
+            Bits::Bent => File::Bent,
+        }
+    }
 
     /// The file's name.
     pub fn name(self) -> Name
@@ -113,7 +151,9 @@ impl File {
     {
         match self {
             File::Line => line_name(),
+            File::Bent => bent_name(),
             File::Schedule => schedule_name(),
+            File::Script => script_name(),
             File::Leaf(leaf) => numbered_name("t", leaf),
             File::Output(leaf) => numbered_name("o", leaf),
             File::Payload => payload_name(),

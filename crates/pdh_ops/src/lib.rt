@@ -4,6 +4,8 @@
 mod answer;
 mod clock;
 mod demux;
+mod disturb;
+mod drill;
 mod e1;
 mod file;
 mod files;

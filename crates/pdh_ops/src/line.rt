@@ -1,6 +1,6 @@
 ghost use Rattle.std.specs.Prelude.{◌≡◌, IfOk, IfErr, Some, Ok};
 ghost use Rattle.pdh_edge.specs.Files.{Looks, Holds};
-ghost use Rattle.pdh_ops.specs.Names.{line_name};
+ghost use Rattle.pdh_ops.specs.Names.{name_of};
 ghost use Rattle.pdh_ops.specs.Demux.{line_of};
 ghost use Rattle.pdh_ops.specs.Steps.{IsLineCause};
 ghost use Rattle.pdh_ops.specs.Run.{IsCounted};
@@ -13,18 +13,23 @@ use pdh_edge::Shelf;
 use pdh_shape::MOST_FRAMES;
 use std::alloc::Global;
 
-// The bytes of the line, if it has no more frames than a line may have.
-pub fn read_line<S: Shelf>(alloc: Global, chain: Chain, shelf: &mut S) -> Result<Vec<u8>, Stop>
+/// The bytes of the line of a file, if it has no more frames than a line may have.
+pub fn read_line<S: Shelf>(
+    alloc: Global,
+    chain: Chain,
+    file: File,
+    shelf: &mut S,
+) -> Result<Vec<u8>, Stop>
     ensures looks { Looks (S.state shelf.old) (S.state shelf.new) }
-    ensures line { IfOk result (λ line. Holds ((S.state shelf.old).told line_name) line.items) }
-    ensures served { IfOk result (λ line. line_of chain (Some line.items) ≡ Ok line.items) }
-    ensures err { IfErr result (IsLineCause chain (S.state shelf.old) (S.state shelf.new)) }
+    ensures line { IfOk result (λ line. Holds ((S.state shelf.old).told (name_of file)) line.items) }
+    ensures served { IfOk result (λ line. line_of file chain (Some line.items) ≡ Ok line.items) }
+    ensures err { IfErr result (IsLineCause file chain (S.state shelf.old) (S.state shelf.new)) }
     ensures counted { IsCounted (S.state shelf.old) (S.state shelf.new) result }
 {
-    let bytes = size(shelf, File::Line)?;
+    let bytes = size(shelf, file)?;
     let frames = bytes / u64::from(frame_bytes(chain));
     if frames > MOST_FRAMES {
         return Err(Stop::ManyFrames(frames));
     }
-    read(alloc, shelf, File::Line, bytes)
+    read(alloc, shelf, file, bytes)
 }

@@ -119,16 +119,16 @@ fn stop_of(over: bool, place: Place) -> Stop
     }
 }
 
-// A port that gives the leaves' bits and has room for a line of so many bits.
-fn port_for(alloc: Global, leaves: Vec<Vec<bool>>, bits: usize) -> Result<MemPort, AllocError>
-    requires { bits < 2 ^ 32 }
-    ensures inputs { IfOk result (λ port. ⟦<MemPort as Feed>⟧.inputs port ≡ inputs_of (map items_of leaves.items)) }
+/// A port that gives the bits of these lists and has room for a line of so many bits.
+pub fn port_for(alloc: Global, lists: Vec<Vec<bool>>, bits: usize) -> Result<MemPort, AllocError>
+    requires { bits < 2 ^ 63 }
+    ensures inputs { IfOk result (λ port. ⟦<MemPort as Feed>⟧.inputs port ≡ inputs_of (map items_of lists.items)) }
     ensures outputs { IfOk result (λ port. ⟦<MemPort as Drain>⟧.outputs port ≡ outputs_of ([] ∷ [])) }
     ensures fresh { IfOk result ⟦<MemPort as Port>⟧.fresh }
     ensures faults { IfOk result (λ port. ⟦<MemPort as Drain>⟧.drain_faults port ≡ 0) }
     ensures room { IfOk result (λ port. bits < room_of port 0) }
 {
-    let mut port = MemPort::open(alloc, leaves, 1)?;
+    let mut port = MemPort::open(alloc, lists, 1)?;
     // One more than is ever put, so that the list is never full.
     port.room(0, bits + 1)?;
     Ok(port)

@@ -5,10 +5,13 @@ ghost use Rattle.pdh_ops.specs.Run.{Does, Watches, Runs, Completes};
 ghost use Rattle.pdh_ops.specs.GivesBack.{GivesBack};
 ghost use Rattle.pdh_ops.specs.Packs.{Packs};
 ghost use Rattle.pdh_ops.specs.Tolerated.{HasNoEvent, IsDelayed};
+ghost use Rattle.pdh_ops.specs.InTime.{AreInTime};
 
 use crate::answer::{Done, Stop};
 use crate::clock::{check, make};
 use crate::demux::demux;
+use crate::disturb::disturb;
+use crate::drill::drill;
 use crate::e1::{e1pack, e1unpack};
 use crate::inspect::{inspect, inspect_e1};
 use crate::mux::mux;
@@ -41,7 +44,7 @@ fn answer<S: Shelf>(
         return Err(Stop::Usage);
     };
     match command {
-        Command::Demux { chain } => demux(alloc, chain, shelf),
+        Command::Demux { chain, bits } => demux(alloc, chain, bits, shelf),
         Command::Mux { chain, feac } => mux(alloc, chain, feac, shelf),
         Command::ClockCheck { chain } => check(alloc, chain, shelf),
         Command::ClockMake {
@@ -49,11 +52,17 @@ fn answer<S: Shelf>(
             frames,
             bias,
         } => make(alloc, chain, frames, bias, shelf),
-        Command::Inspect { chain } => inspect(alloc, chain, shelf, monitors),
+        Command::Inspect { chain, bits } => inspect(alloc, chain, bits, shelf, monitors),
         Command::InspectE1 => inspect_e1(alloc, shelf, monitors),
         Command::Show { chain, frame } => show(alloc, chain, frame, shelf),
         Command::E1Pack => e1pack(alloc, shelf),
         Command::E1Unpack => e1unpack(alloc, shelf),
+        Command::Disturb { chain } => disturb(alloc, chain, shelf),
+        Command::Drill {
+            chain,
+            seed,
+            frames,
+        } => drill(alloc, chain, seed, frames),
     }
 }
 
@@ -67,7 +76,7 @@ fn answer<S: Shelf>(
 /// fault; 7, the schedule has too few frames of a node below the top, a leaf's file too few bits, or the
 /// line no such frame to show; 8,
 /// an elastic store overflows or underflows, and the line ends before the frame in whose making that
-/// happens; 10, the line, or the schedule that is asked for, has too many frames; 11, no frame of the
+/// happens; 9, the script's text has a fault; 10, the line, or the schedule that is asked for, has too many frames; 11, no frame of the
 /// line, or in `e1unpack` no multiframe, was delivered, and the outputs hold what the search gives; 12, the payload doesn't fill
 /// whole multiframes.
 pub fn run<S: Shelf, K: Sink>(
@@ -86,6 +95,8 @@ pub fn run<S: Shelf, K: Sink>(
     // line gives back is at most the chain's delay behind arrival.
     ensures no_event { HasNoEvent (command_of (map string_bytes words.now)) (S.state shelf) result.status }
     ensures delay { IsDelayed (command_of (map string_bytes words.now)) (S.state shelf) (S.state result.shelf) result.status }
+    // What comes back in a drill is what was sent, in order, and at most the chain's delay behind arrival.
+    ensures in_time { AreInTime (command_of (map string_bytes words.now)) result.status }
     // The same as the first, said of inputs that are told and of a shelf without faults.
     ensures completes { Completes (command_of (map string_bytes words.now)) (S.state shelf) (S.state result.shelf) (K.state out) (K.state result.out) (map ⟦<Box<dyn Monitor> as Monitor>⟧.state monitors.new.items) result.status }
 {

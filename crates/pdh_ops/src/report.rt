@@ -3,7 +3,7 @@ ghost use Rattle.pdh_watch.specs.Monitors.{Says};
 ghost use Rattle.pdh_chain.specs.Chains.{name_of as name_of_chain};
 ghost use Rattle.pdh_line.specs.Paths.{steps_of, path_text};
 ghost use Rattle.pdh_ops.specs.Names.{name_of};
-ghost use Rattle.pdh_ops.specs.Answer.{done_text as done_of, stop_text as stop_of, place_text as place_of, outside_text as outside_of, counts_text};
+ghost use Rattle.pdh_ops.specs.Answer.{done_text as done_of, stop_text as stop_of, place_text as place_of, outside_text as outside_of, counts_text, drill_text};
 ghost use Rattle.pdh_edge.specs.Files.{Sends, FailsToSend};
 ghost use Rattle.pdh_ops.specs.Lines.{AreLines, IsText, IsTold};
 
@@ -11,12 +11,13 @@ use crate::answer::{Done, E1Counts, OutOfTolerance, Stop};
 use crate::file::File;
 use pdh_chain::Chain;
 use pdh_edge::{Failed, Sink};
+use pdh_lab::Drill;
 use pdh_shape::{Path, Place};
 use pdh_watch::Monitor;
 use pdh_words::Text;
 
 // A line of a part and a number.
-#[tactic(auto, using(crate::proofs::Texts::digits))]
+#[tactic(auto, using(pdh_text::proofs::Lengths::digits))]
 fn counted(part: &str, n: u64) -> Text
     requires { length part.now ≤ 100 }
     ensures { result ≡ part.now ++ decimal n ++ codes "\n" }
@@ -41,7 +42,7 @@ fn named(part: &str, file: File) -> Text
 }
 
 // A line of a part and a place.
-#[tactic(auto, using(crate::proofs::Texts::digits, crate::proofs::Texts::path_len))]
+#[tactic(auto, using(pdh_text::proofs::Lengths::digits, pdh_text::proofs::Lengths::path_len))]
 fn placed(part: &str, place: Place) -> Text
     requires { length part.now ≤ 100 }
     ensures { result ≡ part.now ++ place_of place ++ codes "\n" }
@@ -60,7 +61,7 @@ fn placed(part: &str, place: Place) -> Text
 }
 
 // The line of a command, its chain, a part and a number.
-#[tactic(auto, using(crate::proofs::Texts::digits))]
+#[tactic(auto, using(pdh_text::proofs::Lengths::digits))]
 fn chain_counted(command: &str, chain: Chain, part: &str, n: u64) -> Text
     requires command { length command.now ≤ 100 }
     requires part { length part.now ≤ 100 }
@@ -87,7 +88,7 @@ fn inside(chain: Chain) -> Text
 }
 
 // The line of a tributary that isn't within the tolerance.
-#[tactic(auto, using(crate::proofs::Texts::digits, crate::proofs::Texts::path_len))]
+#[tactic(auto, using(pdh_text::proofs::Lengths::digits, pdh_text::proofs::Lengths::path_len))]
 fn outside(chain: Chain, out: OutOfTolerance) -> Text
     ensures { result ≡ codes "clock " ++ name_of_chain chain ++ codes ": outside " ++ outside_of out ++ codes "\n" }
 {
@@ -109,7 +110,7 @@ fn outside(chain: Chain, out: OutOfTolerance) -> Text
 }
 
 // The line of what was found in a framed 2048 kbit/s line.
-#[tactic(auto, using(crate::proofs::Texts::digits))]
+#[tactic(auto, using(pdh_text::proofs::Lengths::digits))]
 fn unpacked(found: E1Counts) -> Text
     ensures { result ≡ codes "e1unpack: multiframes " ++ counts_text found ++ codes "\n" }
 {
@@ -120,6 +121,42 @@ fn unpacked(found: E1Counts) -> Text
     text.number(found.blocks);
     text.text(" errored ");
     text.number(found.errored);
+    text.text("\n");
+    text
+}
+
+// Appends the report of a drill.
+#[tactic(auto, using(pdh_text::proofs::Lengths::digits))]
+fn add_report(text: &mut Text, report: Drill)
+    requires { length text.old ≤ 150 }
+    ensures added { text.new ≡ text.old ++ drill_text report }
+    ensures short { length text.new ≤ 300 }
+{
+    text.number(u64::from(report.leaves));
+    text.text(" in ");
+    text.number(report.entered);
+    text.text(" out ");
+    text.number(report.out);
+    text.text(" equal ");
+    text.number(u64::from(report.equal));
+    text.text(" late ");
+    text.number(report.late);
+}
+
+// The line of a drill.
+#[tactic(auto, using(pdh_text::proofs::Lengths::digits))]
+fn drilled(chain: Chain, seed: u64, frames: u64, report: Drill) -> Text
+    ensures { result ≡ codes "drill " ++ name_of_chain chain ++ codes " seed " ++ decimal seed ++ codes " frames " ++ decimal frames ++ codes ": leaves " ++ drill_text report ++ codes "\n" }
+{
+    let mut text = Text::new();
+    text.text("drill ");
+    text.text(chain.name());
+    text.text(" seed ");
+    text.number(seed);
+    text.text(" frames ");
+    text.number(frames);
+    text.text(": leaves ");
+    add_report(&mut text, report);
     text.text("\n");
     text
 }
@@ -135,14 +172,15 @@ fn plain(part: &str) -> Text
     text
 }
 
-// The line of a fault in a line of the schedule.
-#[tactic(auto, using(crate::proofs::Texts::digits))]
-fn faulty(line: u32, fault: &str) -> Text
-    requires { length fault.now ≤ 100 }
-    ensures { result ≡ codes "schedule: line " ++ decimal line ++ fault.now ++ codes "\n" }
+// The line of a fault in a line of a text.
+#[tactic(auto, using(pdh_text::proofs::Lengths::digits))]
+fn faulty(place: &str, line: u32, fault: &str) -> Text
+    requires place { length place.now ≤ 100 }
+    requires fault { length fault.now ≤ 100 }
+    ensures { result ≡ place.now ++ decimal line ++ fault.now ++ codes "\n" }
 {
     let mut text = Text::new();
-    text.text("schedule: line ");
+    text.text(place);
     text.number(u64::from(line));
     text.text(fault);
     text.text("\n");
@@ -150,7 +188,7 @@ fn faulty(line: u32, fault: &str) -> Text
 }
 
 // The line of a count that is above the slots of a frame.
-#[tactic(auto, using(crate::proofs::Texts::digits))]
+#[tactic(auto, using(pdh_text::proofs::Lengths::digits))]
 fn over(line: u32, count: u64, most: u32) -> Text
     ensures { result ≡ codes "schedule: line " ++ decimal line ++ codes ": count " ++ decimal count ++ codes " over " ++ decimal most ++ codes "\n" }
 {
@@ -166,7 +204,7 @@ fn over(line: u32, count: u64, most: u32) -> Text
 }
 
 // The line of a line without an alignment.
-#[tactic(auto, using(crate::proofs::Texts::digits))]
+#[tactic(auto, using(pdh_text::proofs::Lengths::digits))]
 fn no_alignment(bits: u64) -> Text
     ensures { result ≡ codes "no alignment: " ++ decimal bits ++ codes " bits\n" }
 {
@@ -178,7 +216,7 @@ fn no_alignment(bits: u64) -> Text
 }
 
 // The line of a payload that doesn't fill whole multiframes.
-#[tactic(auto, using(crate::proofs::Texts::digits))]
+#[tactic(auto, using(pdh_text::proofs::Lengths::digits))]
 fn not_whole(octets: u64) -> Text
     ensures { result ≡ codes "not a whole multiframe: " ++ decimal octets ++ codes " octets\n" }
 {
@@ -190,7 +228,7 @@ fn not_whole(octets: u64) -> Text
 }
 
 // The line of a file with too few bits.
-#[tactic(auto, using(crate::proofs::Texts::digits))]
+#[tactic(auto, using(pdh_text::proofs::Lengths::digits))]
 fn short(file: File, have: u64, need: u64) -> Text
     ensures { result ≡ codes "short: " ++ name_of file ++ codes ": have " ++ decimal have ++ codes " bits, need " ++ decimal need ++ codes "\n" }
 {
@@ -206,7 +244,7 @@ fn short(file: File, have: u64, need: u64) -> Text
 }
 
 // The line of a node with too few frames.
-#[tactic(auto, using(crate::proofs::Texts::digits, crate::proofs::Texts::path_len))]
+#[tactic(auto, using(pdh_text::proofs::Lengths::digits, pdh_text::proofs::Lengths::path_len))]
 fn short_node(node: Path, have: u64, need: u64) -> Text
     ensures { result ≡ codes "short: " ++ path_text (steps_of node) ++ codes ": have " ++ decimal have ++ codes " frames, need " ++ decimal need ++ codes "\n" }
 {
@@ -222,7 +260,7 @@ fn short_node(node: Path, have: u64, need: u64) -> Text
 }
 
 // The line of what an inspection of a chain's line found.
-#[tactic(auto, using(crate::proofs::Texts::digits))]
+#[tactic(auto, using(pdh_text::proofs::Lengths::digits))]
 fn inspected(chain: Chain, frames: u64, events: u64) -> Text
     ensures { result ≡ codes "inspect " ++ name_of_chain chain ++ codes ": frames " ++ decimal frames ++ codes " events " ++ decimal events ++ codes "\n" }
 {
@@ -238,7 +276,7 @@ fn inspected(chain: Chain, frames: u64, events: u64) -> Text
 }
 
 // The line of what an inspection of a framed 2048 kbit/s line found.
-#[tactic(auto, using(crate::proofs::Texts::digits))]
+#[tactic(auto, using(pdh_text::proofs::Lengths::digits))]
 fn e1_inspected(multiframes: u64, events: u64) -> Text
     ensures { result ≡ codes "inspect e1: multiframes " ++ decimal multiframes ++ codes " events " ++ decimal events ++ codes "\n" }
 {
@@ -263,13 +301,16 @@ fn stop_text(stop: Stop) -> Text
         Stop::Write(file) => named("write fault: ", file),
         Stop::Missing(file) => named("missing: ", file),
         Stop::LongSchedule => plain("schedule: too long"),
-        Stop::BadRow(line) => faulty(line, ": bad row"),
-        Stop::UnknownNode(line) => faulty(line, ": unknown node"),
+        Stop::BadRow(line) => faulty("schedule: line ", line, ": bad row"),
+        Stop::UnknownNode(line) => faulty("schedule: line ", line, ": unknown node"),
         Stop::CountOver(line, count, most) => over(line, count, most),
         Stop::ShortNode(node, have, need) => short_node(node, have, need),
         Stop::Short(file, have, need) => short(file, have, need),
         Stop::Overflow(place) => placed("overflow: ", place),
         Stop::Underflow(place) => placed("underflow: ", place),
+        Stop::LongScript => plain("script: too long"),
+        Stop::BadScriptRow(line) => faulty("script: line ", line, ": bad row"),
+        Stop::PastEnd(line) => faulty("script: line ", line, ": past the end"),
         Stop::ManyFrames(frames) => counted("too many frames: ", frames),
         Stop::NoAlignment(bits) => no_alignment(bits),
         Stop::NotWhole(octets) => not_whole(octets),
@@ -328,6 +369,8 @@ fn write_done<K: Sink>(
         Done::ClockMade(chain, rows) => chain_counted("clock ", *chain, ": rows ", *rows),
         Done::E1Packed(multiframes) => counted("e1pack: multiframes ", *multiframes),
         Done::E1Unpacked(found) => unpacked(*found),
+        Done::Drilled(chain, seed, frames, report) => drilled(*chain, *seed, *frames, *report),
+        Done::Disturbed(chain, bits) => chain_counted("disturb ", *chain, ": bits ", *bits),
     };
     out.write(text.bytes())
 }

@@ -1,4 +1,4 @@
-ghost use Rattle.std.specs.Prelude.{◌≡◌, IfOk, IfErr, Some, Ok};
+ghost use Rattle.std.specs.Prelude.{◌≡◌, ◌≤◌, IfOk, IfErr, Some, Ok};
 ghost use Rattle.pdh_edge.specs.Files.{Looks, Holds};
 ghost use Rattle.pdh_words.specs.declared.commands.Command.TheVariants.{Show};
 ghost use Rattle.pdh_ops.specs.Names.{line_name};
@@ -18,9 +18,10 @@ use std::alloc::Global;
 fn read_line_to_show<S: Shelf>(
     alloc: Global,
     chain: Chain,
-    frame: u32,
+    frame: u64,
     shelf: &mut S,
 ) -> Result<Vec<u8>, Stop>
+    requires { frame ≤ 999999999 }
     ensures looks { Looks (S.state shelf.old) (S.state shelf.new) }
     ensures line { IfOk result (λ line. Holds ((S.state shelf.old).told line_name) line.items) }
     ensures served { IfOk result (λ line. line_to_show chain frame (Some line.items) ≡ Ok line.items) }
@@ -33,7 +34,7 @@ fn read_line_to_show<S: Shelf>(
     if frames > MOST_FRAMES {
         return Err(Stop::ManyFrames(frames));
     }
-    let need = (u64::from(frame) + 1) * frame_bytes;
+    let need = (frame + 1) * frame_bytes;
     if bytes < need {
         return Err(Stop::Short(File::Line, 8 * bytes, 8 * need));
     }
@@ -41,12 +42,13 @@ fn read_line_to_show<S: Shelf>(
 }
 
 /// Reads the line, and answers the text of one of its frames, whatever the alignment.
-pub fn show<S: Shelf>(alloc: Global, chain: Chain, frame: u32, shelf: &mut S) -> Result<Done, Stop>
+pub fn show<S: Shelf>(alloc: Global, chain: Chain, frame: u64, shelf: &mut S) -> Result<Done, Stop>
+    requires { frame ≤ 999999999 }
     ensures { Performs (Show chain frame) (S.state shelf.old) (S.state shelf.new) result }
 {
     let line = read_line_to_show(alloc, chain, frame, shelf)?;
     let bytes = frame_bytes(chain) as usize;
     let start = frame as usize * bytes;
-    let text = pdh_show::show(alloc, chain, frame, &line[start..start + bytes])?;
+    let text = pdh_show::show(alloc, chain, frame as u32, &line[start..start + bytes])?;
     Ok(Done::Shown(FrameText::new(text)))
 }

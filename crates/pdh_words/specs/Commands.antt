@@ -1,5 +1,5 @@
 -- The command that the words of a command line are.
-use Rattle.std.specs.Prelude.{ℕ, ◌<◌, ⊤, nat_le, ◌&&◌, List, [], ◌∷◌, codes, Option, Some, None, find, if◌then◌else◌}
+use Rattle.std.specs.Prelude.{ℕ, ◌<◌, ◌≤◌, ⊤, nat_le, ◌&&◌, List, [], ◌∷◌, codes, Option, Some, None, find, if◌then◌else◌}
 use Rattle.std.specs.Str.{bytes_eq}
 use Rattle.pdh_clock.specs.Text.{◌>>=◌, number_of}
 use Rattle.pdh_clock.specs.declared.bias.Bias.{Bias}
@@ -8,7 +8,9 @@ use Rattle.pdh_chain.specs.declared.chain.Chain.{Chain}
 use Rattle.pdh_chain.specs.declared.chain.Chain.TheVariants.{C13}
 use Rattle.pdh_chain.specs.Chains.{chains, name_of}
 use Rattle.pdh_words.specs.declared.commands.Command.{Command}
-use Rattle.pdh_words.specs.declared.commands.Command.TheVariants.{Demux, Mux, ClockCheck, ClockMake, Inspect, InspectE1, Show, E1Pack, E1Unpack}
+use Rattle.pdh_words.specs.declared.commands.Command.TheVariants.{Demux, Mux, ClockCheck, ClockMake, Inspect, InspectE1, Show, E1Pack, E1Unpack, Disturb, Drill}
+use Rattle.pdh_words.specs.declared.commands.Bits.{Bits}
+use Rattle.pdh_words.specs.declared.commands.Bits.TheVariants.{Line, Bent}
 
 -- the chain of a word
 abbrev pub chain_of : List ℕ → Option Chain
@@ -28,12 +30,17 @@ framing_of word =
     (if bytes_eq word (codes "e1pack") then Some E1Pack
     else (if bytes_eq word (codes "e1unpack") then Some E1Unpack else None))
 
--- `mux`, `demux` or `inspect` of a chain
+-- `demux` or `inspect` of a chain's line in this file
+abbrev pub reading_of : List ℕ → Chain → Bits → Option Command
+reading_of word chain bits =
+    (if bytes_eq word (codes "demux") then Some (Demux chain bits)
+    else (if bytes_eq word (codes "inspect") then Some (Inspect chain bits) else None))
+
+-- `mux`, `disturb`, `demux` or `inspect` of a chain
 abbrev pub conversion_of : List ℕ → Chain → Option Command
 conversion_of word chain =
-    (if bytes_eq word (codes "demux") then Some (Demux chain)
-    else (if bytes_eq word (codes "mux") then Some (Mux chain None)
-    else (if bytes_eq word (codes "inspect") then Some (Inspect chain) else None)))
+    (if bytes_eq word (codes "mux") then Some (Mux chain None)
+    else (if bytes_eq word (codes "disturb") then Some (Disturb chain) else reading_of word chain Line))
 
 -- `show` of a frame of a chain's line
 abbrev pub showing_of : List ℕ → List ℕ → Option Command
@@ -62,24 +69,58 @@ making_of chain_word frames_word bias_word = do
   bias ← bias_of bias_word
   Some (ClockMake chain frames bias)
 
--- the command of these words, if they are a row of the table: `mux CHAIN`, `demux CHAIN`, `clock check CHAIN`,
--- `mux c13 feac CODE`, `clock make CHAIN FRAMES BIAS`, `inspect CHAIN`, `inspect e1`, `show CHAIN NUMBER`, `e1pack`, and
--- `e1unpack`
+-- `drill` of a chain, with what its test patterns begin with and so many frames
+abbrev pub drilling_of : List ℕ → List ℕ → List ℕ → Option Command
+drilling_of chain_word seed_word frames_word = do
+  chain ← chain_of chain_word
+  seed ← number_of seed_word
+  frames ← number_of frames_word
+  Some (Drill chain seed frames)
+
+-- ---- by the number of the words
+
+-- `inspect e1`, or a word and a chain
+abbrev pub of_two : List ℕ → List ℕ → Option Command
+of_two first second =
+    if bytes_eq first (codes "inspect") && bytes_eq second (codes "e1") then Some InspectE1 else (do
+      chain ← chain_of second
+      conversion_of first chain)
+
+-- `show CHAIN NUMBER`, `clock check CHAIN`, or a word, a chain and `bent`
+abbrev pub of_three : List ℕ → List ℕ → List ℕ → Option Command
+of_three first second third =
+    if bytes_eq first (codes "show") then showing_of second third
+    else (if bytes_eq first (codes "clock") && bytes_eq second (codes "check") then checking_of third
+    else (if bytes_eq third (codes "bent") then (do
+      chain ← chain_of second
+      reading_of first chain Bent) else None))
+
+-- `mux c13 feac CODE`, or `drill CHAIN SEED FRAMES`
+abbrev pub of_four : List ℕ → List ℕ → List ℕ → List ℕ → Option Command
+of_four first second third fourth =
+    if bytes_eq first (codes "mux") && (bytes_eq second (codes "c13") && bytes_eq third (codes "feac")) then sending_of fourth
+    else (if bytes_eq first (codes "drill") then drilling_of second third fourth else None)
+
+-- `clock make CHAIN FRAMES BIAS`
+abbrev pub of_five : List ℕ → List ℕ → List ℕ → List ℕ → List ℕ → Option Command
+of_five first second third fourth fifth =
+    if bytes_eq first (codes "clock") && bytes_eq second (codes "make") then making_of third fourth fifth else None
+
+-- the command of these words, if they are a row of the table: `mux CHAIN`, `demux CHAIN`, `demux CHAIN bent`,
+-- `clock check CHAIN`, `mux c13 feac CODE`, `clock make CHAIN FRAMES BIAS`, `inspect CHAIN`, `inspect CHAIN bent`, `inspect e1`,
+-- `show CHAIN NUMBER`, `e1pack`, `e1unpack`, `disturb CHAIN`, and `drill CHAIN SEED FRAMES`
 abbrev pub command_of : List (List ℕ) → Option Command
 command_of (a ∷ []) = framing_of a
-command_of (a ∷ b ∷ []) =
-    if bytes_eq a (codes "inspect") && bytes_eq b (codes "e1") then Some InspectE1 else (do
-      chain ← chain_of b
-      conversion_of a chain)
-command_of (a ∷ b ∷ c ∷ []) =
-    if bytes_eq a (codes "show") then showing_of b c else (if bytes_eq a (codes "clock") && bytes_eq b (codes "check") then checking_of c else None)
-command_of (a ∷ chain_word ∷ b ∷ code ∷ []) =
-    if bytes_eq a (codes "mux") && (bytes_eq chain_word (codes "c13") && bytes_eq b (codes "feac")) then sending_of code else None
-command_of (a ∷ b ∷ chain_word ∷ frames ∷ bias ∷ []) =
-    if bytes_eq a (codes "clock") && bytes_eq b (codes "make") then making_of chain_word frames bias else None
+command_of (a ∷ b ∷ []) = of_two a b
+command_of (a ∷ b ∷ c ∷ []) = of_three a b c
+command_of (a ∷ b ∷ c ∷ d ∷ []) = of_four a b c d
+command_of (a ∷ b ∷ c ∷ d ∷ e ∷ []) = of_five a b c d e
 command_of _ = None
 
--- a code that is sent has six bits
-abbrev pub HasCode : Command → Type 0
-HasCode (Mux chain (Some code)) = code < 64
-HasCode _ = ⊤
+-- a code that is sent has six bits, and a frame that is shown, and what test patterns begin with, is at most the largest number
+-- that a word writes
+abbrev pub HasSmallNumbers : Command → Type 0
+HasSmallNumbers (Mux chain (Some code)) = code < 64
+HasSmallNumbers (Show chain frame) = frame ≤ 999999999
+HasSmallNumbers (Drill chain seed frames) = seed ≤ 999999999
+HasSmallNumbers _ = ⊤

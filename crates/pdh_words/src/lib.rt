@@ -4,6 +4,6 @@
 mod commands;
 mod words;
 
-pub use commands::Command;
+pub use commands::{Bits, Command};
 pub use pdh_text::Text;
 pub use words::command;

@@ -1,8 +1,8 @@
 ghost use Rattle.std.specs.Prelude.{◌≡◌, map, IfSome};
 ghost use Rattle.std.specs.String.{string_bytes};
-ghost use Rattle.pdh_words.specs.Commands.{chain_of, bias_of, framing_of, conversion_of, showing_of, checking_of, sending_of, making_of, command_of, HasCode};
+ghost use Rattle.pdh_words.specs.Commands.{chain_of, bias_of, framing_of, reading_of, conversion_of, showing_of, checking_of, sending_of, making_of, drilling_of, of_two as by_two, of_three as by_three, of_four as by_four, of_five as by_five, command_of, HasSmallNumbers};
 
-use crate::commands::Command;
+use crate::commands::{Bits, Command};
 use pdh_chain::{Chain, all_chains};
 use pdh_clock::{Bias, number};
 
@@ -40,24 +40,35 @@ fn framing(word: &str) -> Option<Command>
     }
 }
 
+// The command of one word and a chain that reads a line from this file.
+fn reading(word: &str, chain: Chain, bits: Bits) -> Option<Command>
+    ensures { result ≡ reading_of word.now chain bits }
+{
+    match word {
+        "demux" => Some(Command::Demux { chain, bits }),
+        "inspect" => Some(Command::Inspect { chain, bits }),
+        _ => None,
+    }
+}
+
 // The command of one word and a chain.
 fn conversion(word: &str, chain: Chain) -> Option<Command>
     ensures { result ≡ conversion_of word.now chain }
 {
     match word {
-        "demux" => Some(Command::Demux { chain }),
         "mux" => Some(Command::Mux { chain, feac: None }),
-        "inspect" => Some(Command::Inspect { chain }),
-        _ => None,
+        "disturb" => Some(Command::Disturb { chain }),
+        _ => reading(word, chain, Bits::Line),
     }
 }
 
 // The showing of a frame of a line, by its chain and its number.
 fn showing(chain_word: &str, frame: &str) -> Option<Command>
-    ensures { result ≡ showing_of chain_word.now frame.now }
+    ensures is { result ≡ showing_of chain_word.now frame.now }
+    ensures numbers { IfSome result HasSmallNumbers }
 {
     let chain = chain(chain_word)?;
-    let frame = number(frame.as_bytes())?;
+    let frame = u64::from(number(frame.as_bytes())?);
     Some(Command::Show { chain, frame })
 }
 
@@ -71,7 +82,8 @@ fn checking(chain_word: &str) -> Option<Command>
 
 // The making of a line with C-bit parity that sends a code.
 fn sending(code_word: &str) -> Option<Command>
-    ensures { result ≡ sending_of code_word.now }
+    ensures is { result ≡ sending_of code_word.now }
+    ensures numbers { IfSome result HasSmallNumbers }
 {
     let code = number(code_word.as_bytes())?;
     if code > 63 {
@@ -85,10 +97,11 @@ fn sending(code_word: &str) -> Option<Command>
 
 // The making of a schedule, by its chain, its number of frames and its offsets.
 fn making(chain_word: &str, frames: &str, bias_word: &str) -> Option<Command>
-    ensures { result ≡ making_of chain_word.now frames.now bias_word.now }
+    ensures is { result ≡ making_of chain_word.now frames.now bias_word.now }
+    ensures numbers { IfSome result HasSmallNumbers }
 {
     let chain = chain(chain_word)?;
-    let frames = number(frames.as_bytes())?;
+    let frames = u64::from(number(frames.as_bytes())?);
     let bias = bias(bias_word)?;
     Some(Command::ClockMake {
         chain,
@@ -97,34 +110,100 @@ fn making(chain_word: &str, frames: &str, bias_word: &str) -> Option<Command>
     })
 }
 
+// The drill of a chain, by what its test patterns begin with and its number of frames.
+fn drilling(chain_word: &str, seed: &str, frames: &str) -> Option<Command>
+    ensures is { result ≡ drilling_of chain_word.now seed.now frames.now }
+    ensures numbers { IfSome result HasSmallNumbers }
+{
+    let chain = chain(chain_word)?;
+    let seed = u64::from(number(seed.as_bytes())?);
+    let frames = u64::from(number(frames.as_bytes())?);
+    Some(Command::Drill {
+        chain,
+        seed,
+        frames,
+    })
+}
+
+// The command of two words.
+fn of_two(first: &str, second: &str) -> Option<Command>
+    ensures is { result ≡ by_two first.now second.now }
+    ensures numbers { IfSome result HasSmallNumbers }
+{
+    if first == "inspect" && second == "e1" {
+        return Some(Command::InspectE1);
+    }
+    conversion(first, chain(second)?)
+}
+
+// The command of three words.
+fn of_three(first: &str, second: &str, third: &str) -> Option<Command>
+    ensures is { result ≡ by_three first.now second.now third.now }
+    ensures numbers { IfSome result HasSmallNumbers }
+{
+    if first == "show" {
+        return showing(second, third);
+    }
+    if first == "clock" && second == "check" {
+        return checking(third);
+    }
+    if third == "bent" {
+        return reading(first, chain(second)?, Bits::Bent);
+    }
+    None
+}
+
+// The command of four words.
+fn of_four(first: &str, second: &str, third: &str, fourth: &str) -> Option<Command>
+    ensures is { result ≡ by_four first.now second.now third.now fourth.now }
+    ensures numbers { IfSome result HasSmallNumbers }
+{
+    if first == "mux" && second == "c13" && third == "feac" {
+        return sending(fourth);
+    }
+    if first == "drill" {
+        return drilling(second, third, fourth);
+    }
+    None
+}
+
+// The command of five words.
+fn of_five(first: &str, second: &str, third: &str, fourth: &str, fifth: &str) -> Option<Command>
+    ensures is { result ≡ by_five first.now second.now third.now fourth.now fifth.now }
+    ensures numbers { IfSome result HasSmallNumbers }
+{
+    if first == "clock" && second == "make" {
+        return making(third, fourth, fifth);
+    }
+    None
+}
+
 /// The command of the words, without the program's own name, if they are a row of the table: `mux CHAIN`, `demux CHAIN`,
-/// `mux c13 feac CODE` with a number of at most 63, `clock check CHAIN`, `clock make CHAIN FRAMES BIAS` with a number and
-/// `nominal`, `fast`, `slow` or `mixed`, `inspect CHAIN`, `inspect e1`, `show CHAIN NUMBER`, `e1pack`, or `e1unpack`. CHAIN
-/// is the name of a chain.
+/// `demux CHAIN bent`, `mux c13 feac CODE` with a number of at most 63, `clock check CHAIN`, `clock make CHAIN FRAMES BIAS`
+/// with a number and `nominal`, `fast`, `slow` or `mixed`, `inspect CHAIN`, `inspect CHAIN bent`, `inspect e1`,
+/// `show CHAIN NUMBER`, `e1pack`, `e1unpack`, `disturb CHAIN`, or `drill CHAIN SEED FRAMES` with two numbers. CHAIN is the name
+/// of a chain, and a number is `0`, or a digit 1 to 9 and at most eight digits.
 pub fn command(words: &[String]) -> Option<Command>
     ensures is { result ≡ command_of (map string_bytes words.now) }
-    ensures code { IfSome result HasCode }
+    ensures numbers { IfSome result HasSmallNumbers }
 {
     match words {
         [word] => framing(word.as_str()),
-        [first, second] if first.as_str() == "inspect" && second.as_str() == "e1" => {
-            Some(Command::InspectE1)
-        }
-        [first, chain_word] => conversion(first.as_str(), chain(chain_word.as_str())?),
-        [first, second, third] if first.as_str() == "show" => {
-            showing(second.as_str(), third.as_str())
-        }
-        [first, second, third] if first.as_str() == "clock" && second.as_str() == "check" => {
-            checking(third.as_str())
-        }
-        [first, second, third, code]
-            if first.as_str() == "mux" && second.as_str() == "c13" && third.as_str() == "feac" => {
-            sending(code.as_str())
-        }
-        [first, second, chain, frames, bias]
-            if first.as_str() == "clock" && second.as_str() == "make" => {
-            making(chain.as_str(), frames.as_str(), bias.as_str())
-        }
+        [first, second] => of_two(first.as_str(), second.as_str()),
+        [first, second, third] => of_three(first.as_str(), second.as_str(), third.as_str()),
+        [first, second, third, fourth] => of_four(
+            first.as_str(),
+            second.as_str(),
+            third.as_str(),
+            fourth.as_str(),
+        ),
+        [first, second, third, fourth, fifth] => of_five(
+            first.as_str(),
+            second.as_str(),
+            third.as_str(),
+            fourth.as_str(),
+            fifth.as_str(),
+        ),
         _ => None,
     }
 }

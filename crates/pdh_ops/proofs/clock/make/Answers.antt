@@ -1,5 +1,4 @@
-use Rattle.std.proofs.Common.{ℕ, ◌∙◌, ap, arith}
-use Rattle.pdh_ops.specs.Clock.{made_text as text_made}
+use Rattle.std.proofs.Common.{◌∙◌, arith}
 use Rattle.std.proofs.lemmas.Result.{err_from_is_err_and}
 use Rattle.pdh_ops.proofs.ClockComes.{make_start_refused, make_append_refused}
 use Rattle.pdh_ops.proofs.clock.make.Goals as goal
@@ -12,4 +11,4 @@ returns-in_err-start g c =
 pub returns-in_err-append : goal.returns-in_err-append
 returns-in_err-append g c =
     let p = err_from_is_err_and c.from_residual-in_err-append.result c.from_residual-in_err-append.ensures.1 in
-    rw (p.1, p.2) (make_append_refused c.args.chain _ (g.S.Shelf.state c.start.new.shelf) _ _ _ c.deref.result.now _ (omega arith) (c.deref.ensures.value ∙ c.in_ok-text.ensures.text ∙ ap (λ (n : ℕ). text_made c.args.chain n c.args.bias) c.from-frames.ensures) c.start.ensures.kept c.in_ok-start.ensures.ok c.append.ensures.kept c.in_err-append.ensures.err)
+    rw (p.1, p.2) (make_append_refused c.args.chain _ (g.S.Shelf.state c.start.new.shelf) _ _ _ c.deref.result.now _ (omega arith) (c.deref.ensures.value ∙ c.in_ok-text.ensures.text) c.start.ensures.kept c.in_ok-start.ensures.ok c.append.ensures.kept c.in_err-append.ensures.err)

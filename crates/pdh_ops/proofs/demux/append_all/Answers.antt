@@ -7,6 +7,7 @@ use Rattle.pdh_ops.specs.Names.{output_name}
 use Rattle.pdh_ops.specs.Writing.{HoldsAll}
 use Rattle.pdh_ops.specs.declared.file.File.TheVariants.{Output}
 use Rattle.pdh_words.specs.declared.commands.Command.TheVariants.{Demux}
+use Rattle.pdh_words.specs.declared.commands.Bits.TheVariants.{Line}
 use Rattle.pdh_ops.proofs.Touching.{touches_none, touches_then, counted_since}
 use Rattle.pdh_ops.proofs.DemuxFiles.{append_fails, other_same, grows_holds}
 use Rattle.pdh_ops.proofs.demux.append_all.Goals as goal
@@ -22,7 +23,7 @@ returns-in_err-append-clause-err g c =
     let outputs = c.args.outputs.now in
     let in_list : c.loop-leaf.leaf < length outputs = omega arith in
     let old = g.S.Shelf.state c.loop-leaf.shelf in
-    rw (p.1, p.2) (append_fails c.args.chain _ old _ outputs c.loop-leaf.leaf c.deref.result.now _ (Output c.loop-leaf.leaf) here inv.same inv.whole inv.empty
+    rw (p.1, p.2) (λ bits. append_fails c.args.chain bits _ old _ outputs c.loop-leaf.leaf c.deref.result.now _ (Output c.loop-leaf.leaf) here inv.same inv.whole inv.empty
     (λ d.
     let same : slice_index_or outputs c.loop-leaf.leaf d ≡ c.index-outputs-leaf.result = get_or_default outputs c.loop-leaf.leaf d c.index-outputs-leaf.result in_list ∙ sym c.index-outputs-leaf.is in
     c.deref.ensures.value ∙ ap (λ v. v.items) (sym same)) refl c.append.ensures.kept c.in_err-append.ensures.err)
@@ -43,7 +44,7 @@ loop-leaf-preserved g c =
     record {
       kept = touches_then _ (output_name c.loop-leaf.leaf) _ old new (c.loop-leaf.leaf, here, refl) inv.kept c.append.ensures.kept;
       same = c.in_ok-append.ensures.counted ∙ inv.same;
-      whole = below_more (HoldsAll (Demux c.args.chain) new outputs) c.loop-leaf.leaf
+      whole = below_more (HoldsAll (Demux c.args.chain Line) new outputs) c.loop-leaf.leaf
           (λ k h d.
           let low : k < leaves_of c.args.chain = omega (arith, c.leaf_count-leaf-end.ensures.value) in
           let ne : k ≢ c.loop-leaf.leaf = omega arith in

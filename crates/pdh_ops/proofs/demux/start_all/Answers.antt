@@ -17,13 +17,13 @@ returns-in_err-start-clause-err g c =
     let p = err_from_is_err_and c.from_residual.result c.from_residual.ensures.1 in
     let inv = c.loop-leaf.invariant in
     let stops = c.in_err-start.ensures.err in
-    rw (p.1, p.2) (record {
+    rw (p.1, p.2) (λ bits. record {
       file = Output c.loop-leaf.leaf;
       is = stops.0;
       at = c.loop-leaf.leaf;
       known = here;
       named = refl;
-      cut = start_fails c.args.chain _ (g.S.Shelf.state c.loop-leaf.shelf) _ c.loop-leaf.leaf here inv.same inv.empty inv.later c.start.ensures.kept stops.1;
+      cut = start_fails c.args.chain bits _ (g.S.Shelf.state c.loop-leaf.shelf) _ c.loop-leaf.leaf here inv.same inv.empty inv.later c.start.ensures.kept stops.1;
     })
 
 pub returns-in_err-start-clause-counted : goal.returns-in_err-start-clause-counted

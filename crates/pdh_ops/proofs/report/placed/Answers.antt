@@ -1,6 +1,6 @@
 use Rattle.std.proofs.Common.{◌≤◌, length, append_assoc, ap, arith}
 use Rattle.pdh_line.specs.Paths.{steps_of, path_text}
-use Rattle.pdh_ops.proofs.Texts.{path_len}
+use Rattle.pdh_text.proofs.Lengths.{path_len}
 use Rattle.pdh_ops.proofs.report.placed.Goals as goal
 
 pub path-requires : goal.path-requires

@@ -1,0 +1,7 @@
+pub mod Clocked
+pub mod InTime
+pub mod Lists
+pub mod MadeWithin
+pub mod Received
+pub mod Reported
+pub mod Sent

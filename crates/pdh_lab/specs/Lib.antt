@@ -1,0 +1,3 @@
+pub mod Drill
+pub mod Pattern
+pub mod Steps

@@ -1,0 +1,17 @@
+//! The test pattern of a leaf, and the drill, in which a chain is tested with itself from one number.
+#![tactic(auto)]
+
+mod drilling;
+mod laws;
+mod leaves;
+mod pattern;
+mod receiving;
+mod report;
+mod sending;
+#[cfg(test)]
+mod tests;
+
+pub use drilling::drill;
+pub use laws::drills_are_in_time;
+pub use pattern::Pattern;
+pub use report::Drill;

@@ -1,0 +1,5 @@
+pub mod Growing
+pub mod Words
+pub mod Rows
+pub mod Parts
+pub mod Disturbing

@@ -1,0 +1,340 @@
+-- Bits that pass from list 0 to list 0, one part after another.
+use Rattle.std.proofs.Common.{◌-◌, ◌≡◌, ℕ, zero, suc, ◌+◌, ◌==◌, ◌<◌, ◌≤◌, Bool, true, false, not, cond, List, [], ◌∷◌, ◌++◌, length, take, drop, get_or, refl, sym, ap, subst, ◌∙◌, arith, append_assoc, Some, None, Option, Result, Ok, Err, IfErr}
+use Rattle.std.proofs.lemmas.List.{append-nil, map-append, length-append, length-take-le, take-append-le, take-append-drop, take_more}
+use Rattle.std.proofs.lemmas.List.Concat.{flat_map-append}
+use Rattle.pdh_bits.specs.Bits.{bits_of, bits_of_byte}
+use Rattle.pdh_edge.specs.Files.{Rose}
+use Rattle.pdh_edge.specs.Ports.{Inputs, Outputs, Takes, Puts, PutsPart, IsPrefix, PrefixOf, before, for_leaf, nothing}
+use Rattle.pdh_edge.specs.declared.port.FeedStop.{FeedStop}
+use Rattle.pdh_edge.specs.declared.port.FeedStop.TheVariants.{Failed as FeedFailed, Ended as FeedEnded}
+use Rattle.pdh_edge.proofs.Runs.{for_leaf_then, puts_begin, puts_then, puts_part}
+use Rattle.pdh_script.specs.Scripts.{altered, bits_changed}
+use Rattle.pdh_script.specs.Stored.{becomes, change_by, change_in}
+use Rattle.pdh_script.specs.declared.step.Edit.{Edit}
+use Rattle.pdh_script.specs.declared.step.Edit.TheVariants as edits
+use Rattle.pdh_script.specs.declared.step.Effect.{Effect}
+use Rattle.pdh_script.specs.declared.step.Effect.TheVariants as effects
+use Rattle.pdh_script.specs.Applying.{Passes, PassesPart, IsPassStop, feed_stop}
+use Rattle.pdh_script.specs.declared.stop.ApplyStop.{ApplyStop}
+use Rattle.pdh_script.specs.declared.stop.ApplyStop.TheVariants.{Ended, ReadFailed, WriteFailed}
+
+-- ---- what is taken and put
+
+before_then : (a b : List Bool) (t : Option (List Bool)) → before a (before b t) ≡ before (a ++ b) t
+before_then a b None = refl
+before_then a b (Some list) = ap Some (sym (append_assoc a b list))
+
+before_none : (t : Option (List Bool)) → t ≡ before [] t
+before_none None = refl
+before_none (Some list) = refl
+
+when_none : (here : Bool) → [] ≡ cond {A = List Bool} here [] []
+when_none true = refl
+when_none false = refl
+
+-- no bits for one leaf are no bits for any
+no_bits : (k : ℕ) → nothing k ≡ for_leaf 0 [] k
+no_bits k = when_none (k == 0)
+
+takes_none : (x y : Inputs) → Takes nothing x y → Takes (for_leaf 0 []) x y
+takes_none x y h = record {
+  counts = λ k. h.counts k ∙ ap (λ bits. length bits + y.left k) (no_bits k);
+  bits = λ k. h.bits k ∙ ap (λ bits. before bits (y.told k)) (no_bits k);
+}
+
+takes_same : (x : Inputs) → Takes nothing x x
+takes_same x = record { counts = λ k. omega arith; bits = λ k. before_none (x.told k) }
+
+takes_more : (xs ys : List Bool) (x y z : Inputs) → Takes (for_leaf 0 xs) x y → Takes (for_leaf 0 ys) y z → Takes (for_leaf 0 (xs ++ ys)) x z
+takes_more xs ys x y z a b = record {
+  counts = λ k. (let both : x.left k ≡ length (for_leaf 0 xs k ++ for_leaf 0 ys k) + z.left k = omega (arith, a.counts k, b.counts k, length-append (for_leaf 0 xs k) (for_leaf 0 ys k)) in
+      both ∙ ap (λ bits. length bits + z.left k) (for_leaf_then 0 xs ys k));
+  bits = λ k. a.bits k ∙ ap (before (for_leaf 0 xs k)) (b.bits k) ∙ before_then (for_leaf 0 xs k) (for_leaf 0 ys k) (z.told k)
+      ∙ ap (λ bits. before bits (z.told k)) (for_leaf_then 0 xs ys k);
+}
+
+same_is_part : (bits : List Bool) (t : Option (List Bool)) → PrefixOf bits t t
+same_is_part bits None = tt
+same_is_part bits (Some list) = (bits, refl)
+
+part_none : (bits : List Bool) (o : Outputs) → PutsPart (for_leaf 0 bits) o o
+part_none bits o k = same_is_part (for_leaf 0 bits k) (o.told k)
+
+-- ---- prefixes
+
+pub prefix_same : (xs : List Bool) → IsPrefix xs xs
+prefix_same xs = ([], sym (append-nil xs))
+
+pub prefix_after : (xs ys zs : List Bool) → IsPrefix ys zs → IsPrefix (xs ++ ys) (xs ++ zs)
+prefix_after xs ys zs h = (h.0, ap (λ v. xs ++ v) h.1 ∙ sym (append_assoc xs ys h.0))
+
+-- ---- parts
+
+pub passes_none : (f : List Bool → List Bool) (x : Inputs) (o : Outputs) → f [] ≡ [] → Passes f 0 x x o o
+passes_none f x o none = record {
+  given = [];
+  count = refl;
+  takes = takes_none x x (takes_same x);
+  puts = subst (λ bits. Puts (for_leaf 0 bits) o o) (sym none) (puts_begin 0 o);
+}
+
+-- these bits were put, and none taken
+pub passes_put : (bits : List Bool) (x y : Inputs) (o p : Outputs) → y ≡ x → Puts (for_leaf 0 bits) o p → Passes (λ line. bits) 0 x y o p
+passes_put bits x y o p same puts = record {
+  given = [];
+  count = refl;
+  takes = subst (Takes (for_leaf 0 []) x) (sym same) (takes_none x x (takes_same x));
+  puts = puts;
+}
+
+-- these bits were taken, and what becomes of them was put
+pub passes_bits : (f : List Bool → List Bool) (bits put : List Bool) (x y z : Inputs) (o p q : Outputs) → z ≡ y → p ≡ o → put ≡ f bits
+    → Takes (for_leaf 0 bits) x y → Puts (for_leaf 0 put) p q → Passes f (length bits) x z o q
+passes_bits f bits put x y z o p q inputs outputs same takes puts = record {
+  given = bits;
+  count = refl;
+  takes = subst (Takes (for_leaf 0 bits) x) (sym inputs) takes;
+  puts = subst (λ v. Puts (for_leaf 0 v) o q) same (subst (λ v. Puts (for_leaf 0 put) v q) outputs puts);
+}
+
+-- two parts, one after the other
+pub passes_then : (f g h : List Bool → List Bool) (n m k : ℕ) (x y z : Inputs) (o p q : Outputs) → n + m ≡ k
+    → ((xs ys : List Bool) → length xs ≡ n → length ys ≡ m → f xs ++ g ys ≡ h (xs ++ ys))
+    → Passes f n x y o p → Passes g m y z p q → Passes h k x z o q
+passes_then f g h n m k x y z o p q all joined a b = record {
+  given = a.given ++ b.given;
+  count = omega (arith, length-append a.given b.given, a.count, b.count, all);
+  takes = takes_more a.given b.given x y z a.takes b.takes;
+  puts = subst (λ bits. Puts (for_leaf 0 bits) o q) (joined a.given b.given a.count b.count) (puts_then 0 (f a.given) (g b.given) o p q a.puts b.puts);
+}
+
+-- ---- the end of the passing
+
+-- a call for bits that gave none
+pub feed_stops : (f : List Bool → List Bool) (m : ℕ) (x y : Inputs) (o p : Outputs) (reads now writes writes_now : ℕ) (why : FeedStop) → 0 < m → p ≡ o → Takes nothing x y
+    → (why ≡ FeedFailed → Rose reads now) → (why ≡ FeedEnded → x.left 0 ≡ 0) → IsPassStop f m x y o p reads now writes writes_now (feed_stop why)
+feed_stops f m x y o p reads now writes writes_now why some outputs takes failed ended =
+    let part : PassesPart f m x y o p = record {
+      given = [];
+      upto = omega arith;
+      takes = takes_none x y takes;
+      puts = λ line count begins. subst (PutsPart (for_leaf 0 (f line)) o) (sym outputs) (part_none (f line) o);
+    } in
+    stops why part failed ended
+  where
+    stops : (why : FeedStop) → PassesPart f m x y o p → (why ≡ FeedFailed → Rose reads now) → (why ≡ FeedEnded → x.left 0 ≡ 0) → IsPassStop f m x y o p reads now writes writes_now (feed_stop why)
+    stops FeedFailed part failed ended = (failed refl, part)
+    stops FeedEnded part failed ended = (omega (arith, ended refl), omega (arith, takes.counts 0, ended refl), part)
+
+-- bits that were taken, and of which not all could be put that become of them
+pub put_stops : (f : List Bool → List Bool) (m : ℕ) (bits put : List Bool) (x y z : Inputs) (o p q : Outputs) (reads reads_now writes writes_now : ℕ) → z ≡ y → p ≡ o → put ≡ f bits → length bits ≤ m
+    → ((rest : List Bool) → IsPrefix (f bits) (f (bits ++ rest)))
+    → Takes (for_leaf 0 bits) x y → PutsPart (for_leaf 0 put) p q → Rose writes writes_now → IsPassStop f m x z o q reads reads_now writes writes_now WriteFailed
+put_stops f m bits put x y z o p q reads reads_now writes writes_now inputs outputs same upto longer takes puts rose = (
+  rose,
+  record {
+    given = bits;
+    upto = upto;
+    takes = subst (Takes (for_leaf 0 bits) x) (sym inputs) takes;
+    puts = λ line count begins.
+        let here : PutsPart (for_leaf 0 (f bits)) o q = subst (λ v. PutsPart (for_leaf 0 v) o q) same (subst (λ v. PutsPart (for_leaf 0 put) v q) outputs puts) in
+        let more : IsPrefix ([] ++ f bits) (f line) = subst (λ v. IsPrefix (f bits) (f v)) (sym begins.1) (longer begins.0) in
+        puts_part 0 [] (f bits) (f line) o o q (puts_begin 0 o) here more;
+  },
+)
+
+-- bits that couldn't all be put, where none were taken
+pub put_stops_alone : (bits put : List Bool) (x y : Inputs) (o p : Outputs) (reads reads_now writes writes_now : ℕ) → y ≡ x → IsPrefix put bits → PutsPart (for_leaf 0 put) o p → Rose writes writes_now
+    → IsPassStop (λ line. bits) 0 x y o p reads reads_now writes writes_now WriteFailed
+put_stops_alone bits put x y o p reads reads_now writes writes_now same begins puts rose = (
+  rose,
+  record {
+    given = [];
+    upto = omega arith;
+    takes = subst (Takes (for_leaf 0 []) x) (sym same) (takes_none x x (takes_same x));
+    puts = λ line count started. puts_part 0 [] put bits o o p (puts_begin 0 o) puts begins;
+  },
+)
+
+-- the first bits of a list that begins with others
+pub prefix_of_taken : (xs rest : List Bool) (m : ℕ) → length xs ≤ m → IsPrefix xs (take m (xs ++ rest))
+prefix_of_taken [] rest m h = (take m rest, refl)
+prefix_of_taken (x ∷ xs) rest zero h = absurd (let P : ⊥ = omega (arith, h) in P)
+prefix_of_taken (x ∷ xs) rest (suc m) h = let p = prefix_of_taken xs rest m (omega (arith, h)) in (p.0, ap (λ v. x ∷ v) p.1)
+
+-- a part of bits after others that passed
+part_then : (f g h : List Bool → List Bool) (n m k : ℕ) (x y z : Inputs) (o p q : Outputs) → n + m ≤ k
+    → ((xs ys rest : List Bool) → length xs ≡ n → length ys ≡ m → length ((xs ++ ys) ++ rest) ≡ k → IsPrefix (f xs ++ g ys) (h ((xs ++ ys) ++ rest)))
+    → Passes f n x y o p → PassesPart g m y z p q → PassesPart h k x z o q
+part_then f g h n m k x y z o p q within joined a b = record {
+  given = a.given ++ b.given;
+  upto = omega (arith, length-append a.given b.given, a.count, b.upto, within);
+  takes = takes_more a.given b.given x y z a.takes b.takes;
+  puts = λ line count begins.
+      let rest : List Bool = begins.0 in
+      let tail : List Bool = b.given ++ rest in
+      let ys : List Bool = take m tail in
+      let behind : List Bool = drop m tail in
+      let whole : line ≡ (a.given ++ ys) ++ behind =
+      begins.1 ∙ append_assoc a.given b.given rest ∙ ap (λ v. a.given ++ v) (sym (take-append-drop m tail)) ∙ sym (append_assoc a.given ys behind) in
+      let lens : length line ≡ length (a.given ++ tail) = ap length (begins.1 ∙ append_assoc a.given b.given rest) in
+      let long : m ≤ length tail = omega (arith, lens, count, length-append a.given tail, a.count, within) in
+      let taken : length ys ≡ m = length-take-le m tail long in
+      let starts : IsPrefix b.given ys = prefix_of_taken b.given rest m b.upto in
+      puts_part 0 (f a.given) (g ys) (h line) o p q a.puts (b.puts ys taken starts)
+      (subst (λ v. IsPrefix (f a.given ++ g ys) (h v)) (sym whole) (joined a.given ys behind a.count taken (sym (ap length whole) ∙ count)));
+}
+
+-- what ends the passing of bits after others that passed
+pub stop_then : (f g h : List Bool → List Bool) (n m k : ℕ) (x y z : Inputs) (o p q : Outputs) (first reads now first' writes now' : ℕ) (stop : ApplyStop) → n + m ≤ k
+    → ((xs ys rest : List Bool) → length xs ≡ n → length ys ≡ m → length ((xs ++ ys) ++ rest) ≡ k → IsPrefix (f xs ++ g ys) (h ((xs ++ ys) ++ rest)))
+    → first ≤ reads → first' ≤ writes → Passes f n x y o p → IsPassStop g m y z p q reads now writes now' stop → IsPassStop h k x z o q first now first' now' stop
+stop_then f g h n m k x y z o p q first reads now first' writes now' Ended within joined later later' a b = (
+  omega (arith, a.takes.counts 0, a.count, b.0, within),
+  b.1,
+  part_then f g h n m k x y z o p q within joined a b.2,
+)
+stop_then f g h n m k x y z o p q first reads now first' writes now' ReadFailed within joined later later' a b =
+    (omega (arith, later, b.0), part_then f g h n m k x y z o p q within joined a b.1)
+stop_then f g h n m k x y z o p q first reads now first' writes now' WriteFailed within joined later later' a b =
+    (omega (arith, later', b.0), part_then f g h n m k x y z o p q within joined a b.1)
+
+-- ---- bits that have an effect, or none
+
+pub becomes_nothing : (effect : Option Effect) → becomes effect [] ≡ []
+becomes_nothing None = refl
+becomes_nothing (Some effects.Flip) = refl
+becomes_nothing (Some effects.Ones) = refl
+becomes_nothing (Some effects.Zeros) = refl
+becomes_nothing (Some effects.Drop) = refl
+
+pub becomes_joined : (effect : Option Effect) (xs ys : List Bool) → becomes effect xs ++ becomes effect ys ≡ becomes effect (xs ++ ys)
+becomes_joined None xs ys = refl
+becomes_joined (Some effects.Flip) xs ys = sym (map-append not xs ys)
+becomes_joined (Some effects.Ones) xs ys = sym (map-append (λ bit. true) xs ys)
+becomes_joined (Some effects.Zeros) xs ys = sym (map-append (λ bit. false) xs ys)
+becomes_joined (Some effects.Drop) xs ys = refl
+
+pub becomes_longer : (effect : Option Effect) (xs rest : List Bool) → IsPrefix (becomes effect xs) (becomes effect (xs ++ rest))
+becomes_longer effect xs rest = (becomes effect rest, sym (becomes_joined effect xs rest))
+
+-- what becomes of bits that a row changes, as it is stored
+pub altered_is : (effect : Effect) (n : ℕ) (bits : List Bool) → altered (change_by effect n) bits ≡ becomes (Some effect) bits
+altered_is effects.Flip n bits = refl
+altered_is effects.Ones n bits = refl
+altered_is effects.Zeros n bits = refl
+altered_is effects.Drop n bits = refl
+
+pub joined_begins : (effect : Option Effect) (xs ys rest : List Bool) → IsPrefix (becomes effect xs ++ becomes effect ys) (becomes effect ((xs ++ ys) ++ rest))
+joined_begins effect xs ys rest =
+    subst (λ v. IsPrefix v (becomes effect ((xs ++ ys) ++ rest))) (sym (becomes_joined effect xs ys)) (becomes_longer effect (xs ++ ys) rest)
+
+-- ---- the passing of bits, where some passed so far
+
+-- some bits more
+pub passes_more : (effect : Option Effect) (n : ℕ) (bits put : List Bool) (x y z w : Inputs) (o p q r : Outputs) → w ≡ z → q ≡ p → put ≡ becomes effect bits
+    → Passes (becomes effect) n x y o p → Takes (for_leaf 0 bits) y z → Puts (for_leaf 0 put) q r → Passes (becomes effect) (n + length bits) x w o r
+passes_more effect n bits put x y z w o p q r inputs outputs same passes takes puts =
+    let f = becomes effect in
+    passes_then f f f n (length bits) (n + length bits) x y w o p r refl (λ xs ys lens more. becomes_joined effect xs ys) passes
+    (passes_bits f bits put y z w p q r inputs outputs same takes puts)
+
+-- a call for bits gave none
+pub pass_ends : (effect : Option Effect) (n bits : ℕ) (x y z : Inputs) (o p q : Outputs) (first reads now first' writes now' : ℕ) (why : FeedStop) → n < bits → q ≡ p → Passes (becomes effect) n x y o p → Takes nothing y z
+    → first ≤ reads → first' ≤ writes → (why ≡ FeedFailed → Rose reads now) → (why ≡ FeedEnded → y.left 0 ≡ 0) → IsPassStop (becomes effect) bits x z o q first now first' now' (feed_stop why)
+pass_ends effect n bits x y z o p q first reads now first' writes now' why less outputs passes takes since since' failed ended =
+    let f = becomes effect in
+    stop_then f f f n (bits - n) bits x y z o p q first reads now first' writes now' (feed_stop why) (omega (arith, less)) (λ xs ys rest lens more all. joined_begins effect xs ys rest) since since' passes
+    (feed_stops f (bits - n) y z p q reads now writes now' why (omega (arith, less)) outputs takes failed ended)
+
+-- of bits that were taken, not all could be put that become of them
+pub pass_fails : (effect : Option Effect) (n bits : ℕ) (taken put : List Bool) (x y z w : Inputs) (o p q r : Outputs) (first reads now first' writes now' : ℕ) → n + length taken ≤ bits → w ≡ z → q ≡ p → put ≡ becomes effect taken
+    → Passes (becomes effect) n x y o p → Takes (for_leaf 0 taken) y z → PutsPart (for_leaf 0 put) q r → first ≤ reads → first' ≤ writes → Rose writes now' → IsPassStop (becomes effect) bits x w o r first now first' now' WriteFailed
+pass_fails effect n bits taken put x y z w o p q r first reads now first' writes now' upto inputs outputs same passes takes puts since since' rose =
+    let f = becomes effect in
+    stop_then f f f n (bits - n) bits x y w o p r first reads now first' writes now' WriteFailed (omega (arith, upto)) (λ xs ys rest lens more all. joined_begins effect xs ys rest) since since' passes
+    (put_stops f (bits - n) taken put y z w p q r reads now writes now' inputs outputs same (omega (arith, upto)) (λ rest. becomes_longer effect taken rest) takes puts rose)
+
+-- what is put of a buffer whose first bits were taken and then altered
+pub put_is : (effect : Option Effect) (n left : ℕ) (taken altered_bits behind behind_them : List Bool) → n ≤ length taken → left ≤ length altered_bits
+    → take left altered_bits ≡ becomes effect (take n (taken ++ behind)) → take left (altered_bits ++ behind_them) ≡ becomes effect (take n taken)
+put_is effect n left taken altered_bits behind behind_them within few same =
+    take-append-le left altered_bits behind_them few ∙ same ∙ ap (becomes effect) (take-append-le n taken behind within)
+
+-- ---- bytes that are added
+
+byte_more : (bytes : List ℕ) (i d : ℕ) → i < length bytes → bits_of (take i bytes) ++ bits_of_byte (get_or bytes i d) ≡ bits_of (take (i + 1) bytes)
+byte_more bytes i d h =
+    ap (λ v. bits_of (take i bytes) ++ v) (sym (append-nil (bits_of_byte (get_or bytes i d)))) ∙ sym (flat_map-append bits_of_byte (take i bytes) (get_or bytes i d ∷ []))
+    ∙ ap bits_of (sym (take_more bytes i d h))
+
+byte_begins : (bytes : List ℕ) (i d : ℕ) → i < length bytes → IsPrefix (bits_of (take i bytes) ++ bits_of_byte (get_or bytes i d)) (bits_of bytes)
+byte_begins bytes i d h =
+    (bits_of (drop (i + 1) bytes), ap bits_of (sym (take-append-drop (i + 1) bytes)) ∙ flat_map-append bits_of_byte (take (i + 1) bytes) (drop (i + 1) bytes) ∙ ap (λ v. v ++ bits_of (drop (i + 1) bytes)) (sym (byte_more bytes i d h)))
+
+pub byte_fails : (bytes : List ℕ) (i d : ℕ) (put : List Bool) (x y z : Inputs) (o p q : Outputs) (first now first' writes now' : ℕ) → i < length bytes → z ≡ y → put ≡ bits_of_byte (get_or bytes i d)
+    → Passes (λ line. bits_of (take i bytes)) 0 x y o p → PutsPart (for_leaf 0 put) p q → first' ≤ writes → Rose writes now' → IsPassStop (λ line. bits_of bytes) 0 x z o q first now first' now' WriteFailed
+byte_fails bytes i d put x y z o p q first now first' writes now' h inputs same passes puts since rose =
+    stop_then (λ line. bits_of (take i bytes)) (λ line. put) (λ line. bits_of bytes) 0 0 0 x y z o p q first first now first' writes now' WriteFailed (omega arith)
+    (λ xs ys rest lens more all. subst (λ v. IsPrefix (bits_of (take i bytes) ++ v) (bits_of bytes)) (sym same) (byte_begins bytes i d h)) (omega arith) since passes
+    (put_stops_alone put put y z p q first now writes now' inputs (prefix_same put) puts rose)
+
+-- ---- what ends the passing of bits that a row changes, as it is stored
+
+part_as : (f g : List Bool → List Bool) (n : ℕ) (x y : Inputs) (o p : Outputs) → ((bits : List Bool) → g bits ≡ f bits) → PassesPart f n x y o p → PassesPart g n x y o p
+part_as f g n x y o p same h = record {
+  given = h.given;
+  upto = h.upto;
+  takes = h.takes;
+  puts = λ line count begins. subst (λ bits. PutsPart (for_leaf 0 bits) o p) (sym (same line)) (h.puts line count begins);
+}
+
+pub stop_as : (f g : List Bool → List Bool) (n : ℕ) (x y : Inputs) (o p : Outputs) (reads now writes now' : ℕ) (stop : ApplyStop) → ((bits : List Bool) → g bits ≡ f bits)
+    → IsPassStop f n x y o p reads now writes now' stop → IsPassStop g n x y o p reads now writes now' stop
+stop_as f g n x y o p reads now writes now' Ended same h = (h.0, h.1, part_as f g n x y o p same h.2)
+stop_as f g n x y o p reads now writes now' ReadFailed same h = (h.0, part_as f g n x y o p same h.1)
+stop_as f g n x y o p reads now writes now' WriteFailed same h = (h.0, part_as f g n x y o p same h.1)
+
+bits_changed_is : (effect : Effect) (n : ℕ) → n ≡ bits_changed (change_by effect n)
+bits_changed_is effects.Flip n = refl
+bits_changed_is effects.Ones n = refl
+bits_changed_is effects.Zeros n = refl
+bits_changed_is effects.Drop n = refl
+
+err_as : (P Q : ApplyStop → Type 0) (r : Result Unit ApplyStop) → ((stop : ApplyStop) → P stop → Q stop) → IfErr r P → IfErr r Q
+err_as P Q (Ok done) goes h = h
+err_as P Q (Err stop) goes h = goes stop h
+
+-- bits that are altered
+pub altering_stops : (edit : Edit) (effect : Effect) (bits n : ℕ) (added : List ℕ) (x y : Inputs) (o p : Outputs) (reads now writes now' : ℕ) (r : Result Unit ApplyStop) → edit ≡ edits.Alter effect bits → n ≡ bits
+    → IfErr r (IsPassStop (becomes (Some effect)) n x y o p reads now writes now')
+    → IfErr r (IsPassStop (altered (change_in edit added)) (bits_changed (change_in edit added)) x y o p reads now writes now')
+altering_stops edit effect bits n added x y o p reads now writes now' r is same h =
+    let P : Edit → Type 0 = λ e. IfErr r (IsPassStop (altered (change_in e added)) (bits_changed (change_in e added)) x y o p reads now writes now') in
+    let change = change_by effect bits in
+    let Q : ℕ → Type 0 = λ k. IfErr r (IsPassStop (altered change) k x y o p reads now writes now') in
+    subst P (sym is) (subst Q (same ∙ bits_changed_is effect bits)
+    (err_as (IsPassStop (becomes (Some effect)) n x y o p reads now writes now') (IsPassStop (altered change) n x y o p reads now writes now') r
+    (λ stop. stop_as (becomes (Some effect)) (altered change) n x y o p reads now writes now' stop (altered_is effect bits)) h))
+
+-- bits that are added
+pub adding_stops : (edit : Edit) (count : ℕ) (added : List ℕ) (x y : Inputs) (o p : Outputs) (reads now writes now' : ℕ) (r : Result Unit ApplyStop) → edit ≡ edits.Add count
+    → IfErr r (IsPassStop (λ line. bits_of (take count added)) 0 x y o p reads now writes now')
+    → IfErr r (IsPassStop (altered (change_in edit added)) (bits_changed (change_in edit added)) x y o p reads now writes now')
+adding_stops edit count added x y o p reads now writes now' r is h =
+    let P : Edit → Type 0 = λ e. IfErr r (IsPassStop (altered (change_in e added)) (bits_changed (change_in e added)) x y o p reads now writes now') in
+    subst P (sym is) h
+
+-- ---- a start that failed
+
+pub start_fails : (f : List Bool → List Bool) (bits : ℕ) (x y : Inputs) (o p : Outputs) (reads reads_now writes writes_now : ℕ) → y ≡ x → p ≡ o → Rose writes writes_now
+    → IsPassStop f bits x y o p reads reads_now writes writes_now WriteFailed
+start_fails f bits x y o p reads reads_now writes writes_now inputs outputs rose = (
+  rose,
+  record {
+    given = [];
+    upto = omega arith;
+    takes = subst (Takes (for_leaf 0 []) x) (sym inputs) (takes_none x x (takes_same x));
+    puts = λ line count begins. subst (PutsPart (for_leaf 0 (f line)) o) (sym outputs) (part_none (f line) o);
+  },
+)

@@ -1,0 +1,59 @@
+-- What a script takes of a port and puts to it.
+use Rattle.std.specs.Prelude.{◌≡◌, ⊤, ℕ, ◌<◌, ◌≤◌, Bool, List, length, Result, Ok, Err}
+use Rattle.pdh_edge.specs.Files.{Rose}
+use Rattle.pdh_edge.specs.Ports.{Inputs, Outputs, Takes, Puts, PutsPart, IsPrefix, for_leaf}
+use Rattle.pdh_edge.specs.declared.port.FeedStop.{FeedStop}
+use Rattle.pdh_edge.specs.declared.port.FeedStop.TheVariants.{Failed as FeedFailed, Ended as FeedEnded}
+use Rattle.pdh_script.specs.declared.stop.ApplyStop.{ApplyStop}
+use Rattle.pdh_script.specs.declared.stop.ApplyStop.TheVariants.{Ended, ReadFailed, WriteFailed}
+use Rattle.pdh_script.specs.Scripts.{Row, disturbed}
+
+-- so many bits of the line were taken, and what becomes of them was put
+pub record Passes (becomes : List Bool → List Bool) (bits : ℕ) (inputs inputs_now : Inputs) (outputs outputs_now : Outputs) : Type 0 where
+  pub given : List Bool
+  pub count : length given ≡ bits
+  pub takes : Takes (for_leaf 0 given) inputs inputs_now
+  pub puts : Puts (for_leaf 0 (becomes given)) outputs outputs_now
+
+-- Some of so many bits were taken, and a part of what becomes of them was put: of every line of so many bits that begins with
+-- those that were taken, it is a prefix of what becomes of the line.
+pub record PassesPart (becomes : List Bool → List Bool) (bits : ℕ) (inputs inputs_now : Inputs) (outputs outputs_now : Outputs) : Type 0 where
+  pub given : List Bool
+  pub upto : length given ≤ bits
+  pub takes : Takes (for_leaf 0 given) inputs inputs_now
+  pub puts : (line : List Bool) → length line ≡ bits → IsPrefix given line → PutsPart (for_leaf 0 (becomes line)) outputs outputs_now
+
+-- why not all of so many bits pass: the line has fewer, and is used up; a call for bits failed; a call that puts bits failed
+abbrev pub IsPassStop : (List Bool → List Bool) → ℕ → Inputs → Inputs → Outputs → Outputs → ℕ → ℕ → ℕ → ℕ → ApplyStop → Type 0
+IsPassStop becomes bits inputs inputs_now outputs outputs_now reads reads_now writes writes_now Ended =
+    (inputs.left 0 < bits) × (inputs_now.left 0 ≡ 0) × PassesPart becomes bits inputs inputs_now outputs outputs_now
+IsPassStop becomes bits inputs inputs_now outputs outputs_now reads reads_now writes writes_now ReadFailed =
+    Rose reads reads_now × PassesPart becomes bits inputs inputs_now outputs outputs_now
+IsPassStop becomes bits inputs inputs_now outputs outputs_now reads reads_now writes writes_now WriteFailed =
+    Rose writes writes_now × PassesPart becomes bits inputs inputs_now outputs outputs_now
+
+-- a line of so many bits was taken, and the disturbed line put
+abbrev pub Applies : List Row → ℕ → Inputs → Inputs → Outputs → Outputs → Type 0
+Applies rows bits inputs inputs_now outputs outputs_now =
+    Passes (λ line. disturbed line rows) bits inputs inputs_now outputs outputs_now
+
+-- part of a line of so many bits was taken, and part of the disturbed line put
+abbrev pub AppliesPart : List Row → ℕ → Inputs → Inputs → Outputs → Outputs → Type 0
+AppliesPart rows bits inputs inputs_now outputs outputs_now =
+    PassesPart (λ line. disturbed line rows) bits inputs inputs_now outputs outputs_now
+
+-- why not the whole line is disturbed: it has fewer bits, and is used up; a call for bits failed; a call that puts bits failed
+abbrev pub IsApplyStop : List Row → ℕ → Inputs → Inputs → Outputs → Outputs → ℕ → ℕ → ℕ → ℕ → ApplyStop → Type 0
+IsApplyStop rows bits inputs inputs_now outputs outputs_now reads reads_now writes writes_now stop =
+    IsPassStop (λ line. disturbed line rows) bits inputs inputs_now outputs outputs_now reads reads_now writes writes_now stop
+
+-- the port is ready, unless a call that puts bits failed
+abbrev pub IsLeftReady : Type 0 → Result Unit ApplyStop → Type 0
+IsLeftReady ready (Ok done) = ready
+IsLeftReady ready (Err WriteFailed) = ⊤
+IsLeftReady ready (Err stop) = ready
+
+-- how a call for bits ends `apply`
+abbrev pub feed_stop : FeedStop → ApplyStop
+feed_stop FeedFailed = ReadFailed
+feed_stop FeedEnded = Ended

@@ -1,0 +1,157 @@
+//! Passing bits of a port's list 0 on to its list 0, as they are or altered.
+
+ghost use Rattle.std.specs.Prelude.{◌≡◌, ◌<◌, ◌≤◌, not, length, map, take, OnOk, IfErr, IsTrue};
+ghost use Rattle.pdh_bits.specs.Bits.{bits_of};
+ghost use Rattle.pdh_script.specs.Scripts.{altered, bits_changed, FitIn};
+ghost use Rattle.pdh_script.specs.Stored.{becomes, change_in, count_added, rows_in, steps_add};
+ghost use Rattle.pdh_script.specs.Applying.{Passes, IsPassStop, Applies, IsApplyStop};
+
+use crate::bytes::bits_of_byte;
+use crate::step::{Edit, Effect, Step};
+use crate::stop::ApplyStop;
+use pdh_edge::Port;
+
+/// How many bits to take at once, where so many are left and there is room for so many.
+fn part(left: u64, room: usize) -> usize
+    requires left { 0 < left }
+    requires room { 0 < room }
+    ensures some { 0 < result }
+    ensures left { result ≤ left }
+    ensures room { result ≤ room }
+{
+    left.min(room as u64) as usize
+}
+
+/// Inverts bits.
+fn invert(bits: &mut [bool])
+    ensures { bits.new ≡ map not bits.old }
+{
+    for bit in bits.iter_mut() {
+        *bit = !*bit;
+    }
+}
+
+/// Sets bits to one value.
+fn set_all(bits: &mut [bool], value: bool)
+    ensures { bits.new ≡ map (λ bit. value) bits.old }
+{
+    bits.fill(value);
+}
+
+/// Alters bits, the first of which are what becomes of them, and answers how many these are.
+fn alter(effect: Option<Effect>, bits: &mut [bool]) -> usize
+    ensures within { result ≤ length bits.old }
+    ensures altered { take result bits.new ≡ becomes effect bits.old }
+{
+    match effect {
+        None => {}
+        Some(Effect::Flip) => invert(bits),
+        Some(Effect::Ones) => set_all(bits, true),
+        Some(Effect::Zeros) => set_all(bits, false),
+        Some(Effect::Drop) => return 0,
+    }
+    bits.len()
+}
+
+/// Passes so many bits on, as they are or with this effect; `buffer` holds those that were taken.
+fn pass<P: Port>(
+    bits: u64,
+    effect: Option<Effect>,
+    buffer: &mut [bool],
+    port: &mut P,
+) -> Result<(), ApplyStop>
+    requires some { 0 < length buffer.old }
+    requires line { IsTrue ((P.inputs port.old).holds 0) }
+    requires out { IsTrue ((P.outputs port.old).holds 0) }
+    ensures kept { P.kept port.old port.new }
+    ensures ok { OnOk result (Passes (becomes effect) bits
+        (P.inputs port.old) (P.inputs port.new) (P.outputs port.old) (P.outputs port.new)) }
+    ensures err { IfErr result (IsPassStop (becomes effect) bits
+        (P.inputs port.old) (P.inputs port.new) (P.outputs port.old) (P.outputs port.new)
+        (P.feed_faults port.old) (P.feed_faults port.new)
+        (P.drain_faults port.old) (P.drain_faults port.new)) }
+{
+    let mut passed = 0;
+    while passed < bits {
+        let most = part(bits - passed, buffer.len());
+        let count = port.bits(0, &mut buffer[..most])?;
+        let left = alter(effect, &mut buffer[..count]);
+        port.put_all(0, &buffer[..left])?;
+        passed += count as u64;
+    }
+    Ok(())
+}
+
+/// Puts the bits of bytes.
+fn put_bytes<P: Port>(bytes: &[u8], port: &mut P) -> Result<(), ApplyStop>
+    requires { IsTrue ((P.outputs port.old).holds 0) }
+    ensures kept { P.kept port.old port.new }
+    ensures ok { OnOk result (Passes (λ line. bits_of bytes.now) 0
+        (P.inputs port.old) (P.inputs port.new) (P.outputs port.old) (P.outputs port.new)) }
+    ensures err { IfErr result (IsPassStop (λ line. bits_of bytes.now) 0
+        (P.inputs port.old) (P.inputs port.new) (P.outputs port.old) (P.outputs port.new)
+        (P.feed_faults port.old) (P.feed_faults port.new)
+        (P.drain_faults port.old) (P.drain_faults port.new)) }
+{
+    for byte in bytes {
+        port.put_all(0, &bits_of_byte(*byte))?;
+    }
+    Ok(())
+}
+
+/// Passes the bits that a change alters, or puts those that it adds; its bytes are the next of those that are added.
+fn make_change<P: Port>(
+    edit: Edit,
+    added: &[u8],
+    buffer: &mut [bool],
+    port: &mut P,
+) -> Result<(), ApplyStop>
+    requires enough { count_added edit ≤ length added.now }
+    requires some { 0 < length buffer.old }
+    requires line { IsTrue ((P.inputs port.old).holds 0) }
+    requires out { IsTrue ((P.outputs port.old).holds 0) }
+    ensures kept { P.kept port.old port.new }
+    ensures ok { let change = change_in edit added.now in OnOk result (Passes (altered change) (bits_changed change)
+        (P.inputs port.old) (P.inputs port.new) (P.outputs port.old) (P.outputs port.new)) }
+    ensures err { let change = change_in edit added.now in IfErr result (IsPassStop (altered change) (bits_changed change)
+        (P.inputs port.old) (P.inputs port.new) (P.outputs port.old) (P.outputs port.new)
+        (P.feed_faults port.old) (P.feed_faults port.new)
+        (P.drain_faults port.old) (P.drain_faults port.new)) }
+{
+    match edit {
+        Edit::Alter { effect, bits } => pass(u64::from(bits), Some(effect), buffer, port),
+        Edit::Add { bytes } => put_bytes(&added[..bytes as usize], port),
+    }
+}
+
+/// Passes a line of so many bits on, disturbed by the rows of these steps and the bytes that they add.
+pub fn disturb<P: Port>(
+    steps: &[Step],
+    bytes: &[u8],
+    bits: u64,
+    buffer: &mut [bool],
+    port: &mut P,
+) -> Result<(), ApplyStop>
+    requires fit { FitIn bits (rows_in steps.now bytes.now) }
+    requires enough { steps_add steps.now ≤ length bytes.now }
+    requires some { 0 < length buffer.old }
+    requires line { IsTrue ((P.inputs port.old).holds 0) }
+    requires out { IsTrue ((P.outputs port.old).holds 0) }
+    ensures kept { P.kept port.old port.new }
+    ensures ok { OnOk result (Applies (rows_in steps.now bytes.now) bits
+        (P.inputs port.old) (P.inputs port.new) (P.outputs port.old) (P.outputs port.new)) }
+    ensures err { IfErr result (IsApplyStop (rows_in steps.now bytes.now) bits
+        (P.inputs port.old) (P.inputs port.new) (P.outputs port.old) (P.outputs port.new)
+        (P.feed_faults port.old) (P.feed_faults port.new)
+        (P.drain_faults port.old) (P.drain_faults port.new)) }
+{
+    let mut place = 0;
+    let mut added = bytes;
+    for step in steps {
+        pass(u64::from(step.at) - place, None, buffer, port)?;
+        make_change(step.edit, added, buffer, port)?;
+        place = step.end();
+        added = &added[step.edit.bytes()..];
+    }
+    pass(bits - place, None, buffer, port)
+}
