@@ -1,0 +1,43 @@
+use Rattle.std.proofs.Common.{◌+◌, ◌*◌, ◌≤◌, ◌++◌, Bool, List, length, take, drop, ap, sym, ◌∙◌, arith, length-append}
+use Rattle.std.proofs.lemmas.List.{drop-drop}
+use Rattle.pdh_packed.specs.Words.{bits_of_words}
+use Rattle.pdh_packed.proofs.PackedLaws.{read_across, read_within, length-bits_of_words}
+use Rattle.pdh_packed.proofs.BoundedLaws.{length-ring, bits_inside}
+use Rattle.pdh_packed.proofs.ring.BitRing.read.Goals as goal
+
+pub overflow_add-from : goal.overflow_add-from
+overflow_add-from c =
+    let words = c.self.inside.words in
+    let long = length-ring (64 * words.capacity) c.self.inside.dropped words.items c.self.inside.tail c.args.self.now c.self.view_is in
+    omega (arith, long.0, long.1, c.requires.within, c.self.invariant)
+
+pub across-requires-clause-begun : goal.across-requires-clause-begun
+across-requires-clause-begun c =
+    let words = c.self.inside.words in
+    let tail = c.self.inside.tail in
+    let inside : List Bool = bits_of_words words.items ++ tail in
+    let from = c.self.inside.dropped + c.args.place in
+    let long = length-ring (64 * words.capacity) c.self.inside.dropped words.items tail c.args.self.now c.self.view_is in
+    let within : from + c.args.count ≤ length inside = omega (arith, long.0, c.requires.within, c.self.invariant, length-append (bits_of_words words.items) tail, length-bits_of_words words.items) in
+    (read_within inside c.word_at-first.result c.word_at-next.result from c.args.count c.word_at-first.ensures c.word_at-next.ensures c.requires.few within).0
+
+pub across-requires-clause-within : goal.across-requires-clause-within
+across-requires-clause-within c =
+    let words = c.self.inside.words in
+    let tail = c.self.inside.tail in
+    let inside : List Bool = bits_of_words words.items ++ tail in
+    let from = c.self.inside.dropped + c.args.place in
+    let long = length-ring (64 * words.capacity) c.self.inside.dropped words.items tail c.args.self.now c.self.view_is in
+    let within : from + c.args.count ≤ length inside = omega (arith, long.0, c.requires.within, c.self.invariant, length-append (bits_of_words words.items) tail, length-bits_of_words words.items) in
+    (read_within inside c.word_at-first.result c.word_at-next.result from c.args.count c.word_at-first.ensures c.word_at-next.ensures c.requires.few within).1
+
+pub returns : goal.returns
+returns c =
+    let words = c.self.inside.words in
+    let tail = c.self.inside.tail in
+    let inside : List Bool = bits_of_words words.items ++ tail in
+    let d = c.self.inside.dropped in
+    let from = d + c.args.place in
+    let moved = ap (take c.args.count) (drop-drop c.args.place d inside) in
+    c.across.ensures ∙ read_across inside c.word_at-first.result c.word_at-next.result from c.args.count c.word_at-first.ensures c.word_at-next.ensures c.requires.few
+    ∙ sym moved ∙ ap (λ (bits : List Bool). take c.args.count (drop c.args.place bits)) (bits_inside (64 * words.capacity) (drop d inside) c.args.self.now c.self.view_is)
