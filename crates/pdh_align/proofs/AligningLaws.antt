@@ -1,7 +1,8 @@
 -- The steps of an alignment machine are the growth of the tracking.
-use Rattle.std.proofs.Common.{◌≡◌, ℕ, suc, ◌+◌, ◌-◌, ◌*◌, ◌/◌, ◌<◌, ◌≤◌, Bool, true, false, ltb, List, [], ◌∷◌, ◌++◌, length, map, take, drop, refl, sym, ap, ◌∙◌, subst, inl, inr, arith, append_assoc, add-zero, add-one, length-append, length-drop}
+use Rattle.std.proofs.Common.{◌≡◌, ℕ, zero, suc, ◌+◌, ◌-◌, ◌*◌, ◌/◌, ◌<◌, ◌≤◌, Bool, true, false, ltb, List, [], ◌∷◌, ◌++◌, length, map, take, drop, refl, sym, ap, ◌∙◌, subst, inl, inr, arith, append_assoc, add-zero, add-one, length-append, length-drop}
 use Rattle.std.specs.List.{range_with_len}
-use Rattle.std.proofs.lemmas.List.{drop-append-le, drop-drop, append-nil, take_all, drop_all}
+use Rattle.std.proofs.lemmas.List.{drop-append-le, drop-drop, append-nil, take_all, drop_all, take-append-drop, length-take-le}
+use Rattle.std.proofs.lemmas.List.Sums.{sum_by-cons, sum_by-append}
 use Rattle.std.proofs.lemmas.List.FromFn.{map-range_with_len_more}
 use Rattle.std.proofs.lemmas.Nat.{div-mul-add}
 use Rattle.std.proofs.Math.Nat.{lt-div-mul-add}
@@ -13,7 +14,9 @@ use Rattle.pdh_shape.specs.Frame.{FrameShape, IsFrame, wrong, clean}
 use Rattle.pdh_line.specs.Least.{least_below}
 use Rattle.pdh_line.specs.Tracking.{Piece, frame_of, is_confirmed, positions, gap_of, is_found, aligned, completes_loss, frames_in, delivered, is_lost, after_loss, one_search, track}
 use Rattle.pdh_line.specs.Tracking.Piece.{Gap, Delivered}
-use Rattle.pdh_align.specs.Aligning.{Phase, Describes, StandsFor, Grows, Turn, turn, Held, Turns, Tracks, frames_gained}
+use Rattle.pdh_align.specs.OpenGap.{bits_covered, covered}
+use Rattle.pdh_align.specs.Searching.{Sought, Searches}
+use Rattle.pdh_align.specs.Aligning.{Phase, Describes, Follows, SearchesSince, StandsFor, Grows, Turn, turn, Held, SearchGoesOn, Turns, Tracks, frames_gained}
 use Rattle.pdh_align.specs.Aligning.Phase.{Searching, Tracking}
 use Rattle.pdh_line.proofs.LeastLaws.{least_below-le, least_below_same, least_below_yes, least_below_no}
 use Rattle.pdh_line.proofs.FrameLaws.{wrong_of_right}
@@ -283,52 +286,99 @@ alignment_frame s l bit shape found kept long fine =
           ∙ ap (λ x. Gap (gap_of s l) ∷ x) frames ∙ ap (λ x. x ++ Delivered (after_loss s l ++ bit ∷ []) ∷ []) (sym (track_aligned s l kept)),
     )
 
+-- ---- what pieces cover
+
+pub covered-append : (s : FrameShape) (a b : List Piece) → covered s (a ++ b) ≡ covered s a + covered s b
+covered-append s a b = sum_by-append (bits_covered s) a b
+
+-- frames, one after another
+covered_frames : (s : FrameShape) (f : ℕ → List Bool) (from n : ℕ) → covered s (map (λ k. Delivered (f k)) (range_with_len from n)) ≡ n * s.len
+covered_frames s f from zero = omega arith
+covered_frames s f from (suc n) =
+    let rest : covered s (map (λ k. Delivered (f k)) (range_with_len (from + 1) n)) ≡ n * s.len = covered_frames s f (from + 1) n in
+    sum_by-cons (bits_covered s) (Delivered (f from)) (map (λ k. Delivered (f k)) (range_with_len (from + 1) n)) ∙ omega (arith, rest)
+
+-- the pieces of a search that ended in an alignment cover the bits before what follows them
+pub search_covered : (s : FrameShape) (l : List Bool) → IsFrame s → is_found s l ≡ true → (front : List Bool) × (l ≡ front ++ after_loss s l) × (length front ≡ covered s (one_search s l))
+search_covered s l shape found =
+    let gap : ℕ = gap_of s l in
+    let frames : ℕ = delivered s l * s.len in
+    let lt : gap < positions s l = ltb-true _ _ found in
+    let within : frames ≤ length (aligned s l) = laws.delivered_within s l shape found in
+    let long : length (aligned s l) ≡ length l - gap = length-drop gap l in
+    let pieces : List Piece = map (λ k. Delivered (frame_of s (aligned s l) k)) (range_with_len 0 (delivered s l)) in
+    let sum : covered s (one_search s l) ≡ gap + frames =
+    ap (covered s) (laws.one_search_is s l) ∙ sum_by-cons (bits_covered s) (Gap gap) pieces ∙ ap (λ n. gap + n) (covered_frames s (frame_of s (aligned s l)) 0 (delivered s l)) in
+    let count : length (take (gap + frames) l) ≡ gap + frames = length-take-le (gap + frames) l (omega (arith, within, long, lt)) in
+    let after : drop (gap + frames) l ≡ after_loss s l = sym (drop-drop frames gap l) ∙ sym (laws.after_loss_is s l) in
+    (take (gap + frames) l, sym (take-append-drop (gap + frames) l) ∙ ap (λ x. take (gap + frames) l ++ x) after, count ∙ sym sum)
+
 -- ---- a turn of the machine
 
 -- the settled pieces and those since
-pub stands_now : (s : FrameShape) (phase : Phase) (line : List Bool) (h : StandsFor s phase line) → track s line ≡ h.settled ++ track s h.since
+pub stands_now : (s : FrameShape) (phase : Phase) (line : List Bool) (h : Follows s phase line) → track s line ≡ h.settled ++ track s h.since
 stands_now s phase line h = ap (track s) (sym (append-nil line)) ∙ h.splits [] ∙ ap (λ x. h.settled ++ track s x) (append-nil h.since)
 
 -- with one more bit
-pub stands_push : (s : FrameShape) (phase : Phase) (line : List Bool) (h : StandsFor s phase line) (bit : Bool) (more : List Bool)
+pub stands_push : (s : FrameShape) (phase : Phase) (line : List Bool) (h : Follows s phase line) (bit : Bool) (more : List Bool)
     → track s (line ++ bit ∷ [] ++ more) ≡ h.settled ++ track s (h.since ++ bit ∷ [] ++ more)
 stands_push s phase line h bit more =
     ap (track s) (append_assoc line (bit ∷ []) more) ∙ h.splits (bit ∷ more) ∙ ap (λ x. h.settled ++ track s x) (sym (append_assoc h.since (bit ∷ []) more))
 
+-- a search that holds these bits follows from the line, and these are the bits since it began
+abbrev pub Began : FrameShape → List Bool → List Bool → List Bool → Type 0
+Began s held since line = (next : Follows s (Searching held) line) × (next.since ≡ since)
+
 -- a machine that has taken no bit
-pub stands_empty : (s : FrameShape) → IsFrame s → StandsFor s (Searching []) []
-stands_empty s shape =
+pub stands_empty : (s : FrameShape) (search : Sought) → IsFrame s → Searches s search [] [] → StandsFor s (record { phase = Searching []; search = search; ready = [] }) []
+stands_empty s search shape begun =
     let some : 0 < s.len = shape.some_slots in
-    record { settled = []; since = []; splits = λ more. refl; describes = ((short_search s [] (omega arith)).0, ap (λ n. drop n []) (none s some)) }
-  where
-    none : (s : FrameShape) → 0 < s.len → 0 ≡ positions s []
-    none s some = omega arith
+    let none : 0 ≡ positions s [] = omega (arith, some) in
+    record {
+      follows = record { settled = []; front = []; since = []; parts = refl; covers = refl; splits = λ more. refl; describes = ((short_search s [] (omega arith)).0, ap (λ n. drop n []) none) };
+      searches = begun;
+    }
+
+-- the bits since a search began, one bit on; a loss begins another one
+abbrev pub SinceGoes : Bool → Phase → List Bool → Phase → List Bool → Type 0
+SinceGoes bit (Searching held) since (Searching now) after = after ≡ since ++ bit ∷ []
+SinceGoes bit (Tracking a b c part) since (Searching now) after = after ≡ now
+SinceGoes bit before since (Tracking a b c part) after = Unit {0}
 
 -- what a turn keeps and tells
-abbrev pub IsTurn : FrameShape → List Bool → Bool → Turn → Type 0
-IsTurn s line bit t = StandsFor s t.phase (line ++ bit ∷ []) × Grows t.step t.ready (track s line) (track s (line ++ bit ∷ []))
+abbrev pub IsTurn : (s : FrameShape) (phase : Phase) (line : List Bool) → Follows s phase line → Bool → Turn → Type 0
+IsTurn s phase line h bit t =
+    (next : Follows s t.phase (line ++ bit ∷ [])) × Grows t.step t.ready (track s line) (track s (line ++ bit ∷ [])) × SinceGoes bit phase h.since t.phase next.since
 
 -- the machine's bits since a settled place, one bit on
-keeps : (s : FrameShape) (before after : Phase) (line : List Bool) (bit : Bool) (h : StandsFor s before line)
-    → Describes s after (h.since ++ bit ∷ []) → StandsFor s after (line ++ bit ∷ [])
-keeps s before after line bit h d =
-    record { settled = h.settled; since = h.since ++ bit ∷ []; splits = stands_push s before line h bit; describes = d }
+abbrev pub keeps : (s : FrameShape) (before after : Phase) (line : List Bool) (bit : Bool) (h : Follows s before line)
+    → Describes s after (h.since ++ bit ∷ []) → Follows s after (line ++ bit ∷ [])
+keeps s before after line bit h d = record {
+  settled = h.settled;
+  front = h.front;
+  since = h.since ++ bit ∷ [];
+  parts = ap (λ x. x ++ bit ∷ []) h.parts ∙ append_assoc h.front h.since (bit ∷ []);
+  covers = h.covers;
+  splits = stands_push s before line h bit;
+  describes = d;
+}
 
 -- a search goes on with no position more
-pub search_waits : (s : FrameShape) (held line : List Bool) (bit : Bool) → IsFrame s → StandsFor s (Searching held) line → length (held ++ bit ∷ []) < 3 * s.len
-    → IsTurn s line bit (record { phase = Searching (held ++ bit ∷ []); step = Nothing; ready = [] })
+pub search_waits : (s : FrameShape) (held line : List Bool) (bit : Bool) → IsFrame s → (h : Follows s (Searching held) line) → length (held ++ bit ∷ []) < 3 * s.len
+    → IsTurn s (Searching held) line h bit (record { phase = Searching (held ++ bit ∷ []); step = Nothing; ready = [] })
 search_waits s held line bit shape h short =
     let is : held ≡ drop (positions s h.since) h.since = h.describes.1 in
     let short' : length (drop (positions s h.since) h.since ++ bit ∷ []) < 3 * s.len = rw (← is) short in
     let facts = search_short s h.since bit shape h.describes.0 short' in (
       keeps s (Searching held) (Searching (held ++ bit ∷ [])) line bit h (facts.0, ap (λ x. x ++ bit ∷ []) is ∙ facts.1),
       (refl, h.splits (bit ∷ []) ∙ ap (λ x. h.settled ++ x) facts.2 ∙ sym (stands_now s (Searching held) line h)),
+      refl,
     )
 
 -- a search gives up a position
-search_gives_up : (s : FrameShape) (held line : List Bool) (bit : Bool) → IsFrame s → StandsFor s (Searching held) line → 3 * s.len ≤ length (held ++ bit ∷ [])
+search_gives_up : (s : FrameShape) (held line : List Bool) (bit : Bool) → IsFrame s → (h : Follows s (Searching held) line) → 3 * s.len ≤ length (held ++ bit ∷ [])
     → is_confirmed s (held ++ bit ∷ []) ≡ false
-    → IsTurn s line bit (record { phase = Searching (drop 1 (held ++ bit ∷ [])); step = Rejected; ready = [] })
+    → IsTurn s (Searching held) line h bit (record { phase = Searching (drop 1 (held ++ bit ∷ [])); step = Rejected; ready = [] })
 search_gives_up s held line bit shape h long rejected =
     let is : held ≡ drop (positions s h.since) h.since = h.describes.1 in
     let long' : 3 * s.len ≤ length (drop (positions s h.since) h.since ++ bit ∷ []) = rw (← is) long in
@@ -342,12 +392,13 @@ search_gives_up s held line bit shape h long rejected =
         stands_now s (Searching held) line h ∙ ap (λ x. h.settled ++ x) (track_searching s h.since h.describes.0),
         h.splits (bit ∷ []) ∙ ap (λ x. h.settled ++ x) facts.2,
       ),
+      refl,
     )
 
 -- a search ends
-search_ends : (s : FrameShape) (held line : List Bool) (bit : Bool) → IsFrame s → StandsFor s (Searching held) line → 3 * s.len ≤ length (held ++ bit ∷ [])
+search_ends : (s : FrameShape) (held line : List Bool) (bit : Bool) → IsFrame s → (h : Follows s (Searching held) line) → 3 * s.len ≤ length (held ++ bit ∷ [])
     → is_confirmed s (held ++ bit ∷ []) ≡ true
-    → IsTurn s line bit (record { phase = Tracking (clean) (clean) (clean) []; step = Aligned; ready = map (frame_of s (held ++ bit ∷ [])) (0 ∷ 1 ∷ 2 ∷ []) })
+    → IsTurn s (Searching held) line h bit (record { phase = Tracking (clean) (clean) (clean) []; step = Aligned; ready = map (frame_of s (held ++ bit ∷ [])) (0 ∷ 1 ∷ 2 ∷ []) })
 search_ends s held line bit shape h long confirmed =
     let is : held ≡ drop (positions s h.since) h.since = h.describes.1 in
     let long' : 3 * s.len ≤ length (drop (positions s h.since) h.since ++ bit ∷ []) = rw (← is) long in
@@ -375,11 +426,12 @@ search_ends s held line bit shape h long confirmed =
             ∙ ap (λ x. h.settled ++ (Gap (positions s h.since) ∷ frames (map (frame_of s x) (0 ∷ 1 ∷ 2 ∷ [])))) now
             ∙ sym (append_assoc h.settled (Gap (positions s h.since) ∷ []) ready) ∙ ap (λ x. x ++ ready) (sym was),
       ),
+      tt,
     )
 
 -- an alignment goes on within a frame
-pub alignment_waits : (s : FrameShape) (a b c : Marks) (part line : List Bool) (bit : Bool) → IsFrame s → StandsFor s (Tracking a b c part) line → length (part ++ bit ∷ []) < s.len
-    → IsTurn s line bit (record { phase = Tracking a b c (part ++ bit ∷ []); step = Nothing; ready = [] })
+pub alignment_waits : (s : FrameShape) (a b c : Marks) (part line : List Bool) (bit : Bool) → IsFrame s → (h : Follows s (Tracking a b c part) line) → length (part ++ bit ∷ []) < s.len
+    → IsTurn s (Tracking a b c part) line h bit (record { phase = Tracking a b c (part ++ bit ∷ []); step = Nothing; ready = [] })
 alignment_waits s a b c part line bit shape h short =
     let is : part ≡ after_loss s h.since = h.describes.5 in
     let short' : length (after_loss s h.since ++ bit ∷ []) < s.len = rw (← is) short in
@@ -399,6 +451,7 @@ alignment_waits s a b c part line bit shape h short =
       keeps s (Tracking a b c part) (Tracking a b c (part ++ bit ∷ [])) line bit h
           (laws.is_found-append s h.since (bit ∷ []) found, facts.1, there.0 ∙ sym (now_is.0), there.1 ∙ sym (now_is.1), there.2 ∙ sym (now_is.2), ap (λ x. x ++ bit ∷ []) is ∙ sym facts.2),
       (refl, h.splits (bit ∷ []) ∙ ap (λ x. h.settled ++ x) facts.3 ∙ sym (stands_now s (Tracking a b c part) line h)),
+      tt,
     )
 
 -- the pieces of an alignment end with a frame
@@ -414,7 +467,7 @@ ends_with_frame s l shape found kept =
     )
 
 -- so do the pieces of a line that is aligned
-line_ends_with_frame : (s : FrameShape) (a b c : Marks) (part line : List Bool) → IsFrame s → StandsFor s (Tracking a b c part) line → (others : List Piece) × (last : List Bool) × (track s line ≡ others ++ Delivered last ∷ [])
+pub line_ends_with_frame : (s : FrameShape) (a b c : Marks) (part line : List Bool) → IsFrame s → Follows s (Tracking a b c part) line → (others : List Piece) × (last : List Bool) × (track s line ≡ others ++ Delivered last ∷ [])
 line_ends_with_frame s a b c part line shape h =
     let ends = ends_with_frame s h.since shape h.describes.0 h.describes.1 in (
       h.settled ++ ends.0,
@@ -423,9 +476,9 @@ line_ends_with_frame s a b c part line shape h =
     )
 
 -- a frame ends and completes a loss
-alignment_ends : (s : FrameShape) (a b c : Marks) (part line : List Bool) (bit : Bool) → IsFrame s → StandsFor s (Tracking a b c part) line → s.len ≤ length (part ++ bit ∷ [])
+alignment_ends : (s : FrameShape) (a b c : Marks) (part line : List Bool) (bit : Bool) → IsFrame s → (h : Follows s (Tracking a b c part) line) → s.len ≤ length (part ++ bit ∷ [])
     → s.loses a b c (wrong s (part ++ bit ∷ [])) ≡ true
-    → IsTurn s line bit (record { phase = Searching (part ++ bit ∷ []); step = Lost; ready = [] })
+    → IsTurn s (Tracking a b c part) line h bit (record { phase = Searching (part ++ bit ∷ []); step = Lost; ready = [] })
 alignment_ends s a b c part line bit shape h long loses =
     let some : 0 < s.len = shape.some_slots in
     let is : part ≡ after_loss s h.since = h.describes.5 in
@@ -446,10 +499,15 @@ alignment_ends s a b c part line bit shape h long loses =
     let short = short_search s (part ++ bit ∷ []) none in
     let pieces : List Piece = one_search s (h.since ++ bit ∷ []) in
     let open_before : track s h.since ≡ pieces = laws.track_open s h.since kept ∙ sym facts.2 in
+    let cut = search_covered s (h.since ++ bit ∷ []) shape (laws.is_lost_found s (h.since ++ bit ∷ []) facts.0) in
     let ends = line_ends_with_frame s a b c part line shape h in (
       record {
         settled = h.settled ++ pieces;
+        front = h.front ++ cut.0;
         since = part ++ bit ∷ [];
+        parts = ap (λ x. x ++ bit ∷ []) h.parts ∙ append_assoc h.front h.since (bit ∷ []) ∙ ap (λ x. h.front ++ x) (cut.1 ∙ ap (λ x. cut.0 ++ x) rest)
+            ∙ sym (append_assoc h.front cut.0 (part ++ bit ∷ []));
+        covers = length-append h.front cut.0 ∙ ap (λ n. n + length cut.0) h.covers ∙ ap (λ n. covered s h.settled + n) cut.2 ∙ sym (covered-append s h.settled pieces);
         splits = λ more. stands_push s (Tracking a b c part) line h bit more
             ∙ ap (λ x. h.settled ++ x) (laws.track_lost-append s (h.since ++ bit ∷ []) more shape facts.0)
             ∙ ap (λ x. h.settled ++ (pieces ++ track s (x ++ more))) rest
@@ -466,12 +524,13 @@ alignment_ends s a b c part line bit shape h long loses =
             ∙ sym (append_assoc h.settled pieces (Gap 0 ∷ []))
             ∙ ap (λ x. h.settled ++ x ++ Gap 0 ∷ []) (sym open_before) ∙ ap (λ x. x ++ Gap 0 ∷ []) (sym (stands_now s (Tracking a b c part) line h)),
       ),
+      refl,
     )
 
 -- a frame ends and is delivered
-alignment_delivers : (s : FrameShape) (a b c : Marks) (part line : List Bool) (bit : Bool) → IsFrame s → StandsFor s (Tracking a b c part) line → s.len ≤ length (part ++ bit ∷ [])
+alignment_delivers : (s : FrameShape) (a b c : Marks) (part line : List Bool) (bit : Bool) → IsFrame s → (h : Follows s (Tracking a b c part) line) → s.len ≤ length (part ++ bit ∷ [])
     → s.loses a b c (wrong s (part ++ bit ∷ [])) ≡ false
-    → IsTurn s line bit (record { phase = Tracking b c (wrong s (part ++ bit ∷ [])) []; step = Frame; ready = (part ++ bit ∷ []) ∷ [] })
+    → IsTurn s (Tracking a b c part) line h bit (record { phase = Tracking b c (wrong s (part ++ bit ∷ [])) []; step = Frame; ready = (part ++ bit ∷ []) ∷ [] })
 alignment_delivers s a b c part line bit shape h long fine =
     let is : part ≡ after_loss s h.since = h.describes.5 in
     let long' : s.len ≤ length (after_loss s h.since ++ bit ∷ []) = rw (← is) long in
@@ -503,10 +562,11 @@ alignment_delivers s a b c part line bit shape h long fine =
             ∙ ap (λ x. x ++ Delivered (after_loss s h.since ++ bit ∷ []) ∷ []) (sym (stands_now s (Tracking a b c part) line h))
             ∙ ap (λ x. track s line ++ Delivered (x ++ bit ∷ []) ∷ []) (sym is),
       ),
+      tt,
     )
 
 -- the steps of a machine are the growth of the tracking
-pub turn_grows : (s : FrameShape) (phase : Phase) (line : List Bool) (bit : Bool) → IsFrame s → StandsFor s phase line → IsTurn s line bit (turn s phase bit)
+pub turn_grows : (s : FrameShape) (phase : Phase) (line : List Bool) (bit : Bool) → IsFrame s → (h : Follows s phase line) → IsTurn s phase line h bit (turn s phase bit)
 unfolding turn
 turn_grows s (Searching held) line bit shape h =
     elim (cases_Bool (ltb (length (held ++ bit ∷ [])) (3 * s.len))) [
@@ -525,13 +585,22 @@ turn_grows s (Tracking a b c part) line bit shape h =
       ]
     ]
 
+-- what the search keeps goes on with the bits since it began
+goes_on : (s : FrameShape) (bit : Bool) (old new : Sought) (before after : Phase) (since now : List Bool)
+    → SinceGoes bit before since after now → SearchGoesOn s bit old new before after → SearchesSince s old before since → SearchesSince s new after now
+goes_on s bit old new (Searching held) (Searching next) since now e go h = subst (λ x. Searches s new next x) (sym e) (go since h)
+goes_on s bit old new (Searching held) (Tracking a b c part) since now e go h = tt
+goes_on s bit old new (Tracking a b c part) (Searching next) since now e go h = subst (λ x. Searches s new next x) (sym e) go
+goes_on s bit old new (Tracking a b c part) (Tracking a' b' c' part') since now e go h = tt
+
 -- a turn of the machine tracks the line
 pub turns_tracks : (s : FrameShape) (before after : Held) (bit : Bool) (step : Step) (line : List Bool) → IsFrame s
-    → Turns s before after bit step → StandsFor s before.phase line → Tracks s before after bit step line
+    → Turns s before after bit step → StandsFor s before line → Tracks s before after bit step line
 turns_tracks s before after bit step line shape t h =
-    let facts = turn_grows s before.phase line bit shape h in
+    let facts = turn_grows s before.phase line bit shape h.follows in
+    let next = subst (λ p. (f : Follows s p (line ++ bit ∷ [])) × SinceGoes bit before.phase h.follows.since p f.since) (sym t.phase) (facts.0, facts.2) in
     record {
-      stands = rw t.phase facts.0;
+      stands = record { follows = next.0; searches = goes_on s bit before.search after.search before.phase after.phase h.follows.since (next.0).since next.1 t.search h.searches };
       grows = rw (t.step_is, t.ready) facts.1;
     }
 

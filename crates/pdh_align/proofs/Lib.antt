@@ -1,7 +1,9 @@
 pub mod AligningLaws
 pub mod SignalLaws
+mod StartLaws
+pub mod SearchLaws
+mod OpenGaps
 pub mod Turns
 pub mod ReadyFrames
-mod Copies
 mod Waiting
 mod Passing

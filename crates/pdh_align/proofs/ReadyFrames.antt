@@ -1,17 +1,18 @@
 -- The frames that are ready, and what a push leaves of the fields.
-use Rattle.std.proofs.Common.{◌≡◌, ◌⊎◌, ℕ, suc, ◌+◌, ◌-◌, ◌*◌, ◌/◌, ◌<◌, ◌≤◌, Bool, true, false, cond, List, [], ◌∷◌, ◌++◌, length, map, take, drop, refl, sym, ap, ◌∙◌, inl, inr, arith, get_or, add-zero, length-append}
+use Rattle.std.proofs.Common.{◌≡◌, ◌⊎◌, ℕ, suc, ◌+◌, ◌-◌, ◌*◌, ◌/◌, ◌<◌, ◌≤◌, Bool, true, false, cond, List, [], ◌∷◌, ◌++◌, length, map, take, drop, refl, sym, ap, ◌∙◌, subst, inl, inr, arith, get_or, add-zero, length-append}
 use Rattle.std.specs.List.{range_with_len, slice_index_or}
 use Rattle.std.proofs.lemmas.List.FromFn.{get_or-map-range_with_len, length-map-range_with_len}
 use Rattle.std.proofs.lemmas.Nat.{div-mul-add}
 use Rattle.std.proofs.Math.Nat.{add-mul}
-use Rattle.circular_buffer.specs.Buffer.{Buffer}
+use Rattle.pdh_bits.specs.BitOut.{BoundedBits}
 use Rattle.pdh_shape.specs.declared.role.Marks.{Marks}
 use Rattle.pdh_shape.specs.Frame.{FrameShape, clean, wrong}
 use Rattle.pdh_line.specs.Tracking.{frame_of, is_confirmed}
 use Rattle.pdh_line.proofs.FrameLaws.{wrong_of_right}
 use Rattle.pdh_line.proofs.TrackingLaws.{confirmed_right}
-use Rattle.pdh_align.specs.declared.signals.Signal.{Signal}
-use Rattle.pdh_align.specs.Signals.{AreSignals}
+use Rattle.pdh_align.specs.declared.signals.Signals.{Signals}
+use Rattle.pdh_align.specs.Signals.{Judges}
+use Rattle.pdh_align.specs.Searching.{Sought, Searches, Takes}
 use Rattle.pdh_align.specs.Aligning.{frame_back}
 use Rattle.pdh_align.specs.View.{held_frame, ready_of, HoldsEnough}
 use Rattle.pdh_align.proofs.Turns.{three_ready, one_ready}
@@ -73,33 +74,57 @@ length_part false bit bits now len some e h = rw e (omega (arith, length-append 
 no : {X : Type 0} → false ≡ true → X
 no h = cc
 
+-- a search that took one more bit
+pub begun_push : (s : FrameShape) (old new : Sought) (fresh : Bool) (bits now : List Bool) (bit : Bool) → fresh ≡ false → now ≡ cond fresh [] bits ++ bit ∷ [] → Takes s old new (bit ∷ [])
+    → (since : List Bool) × Searches s old bits since → (since : List Bool) × Searches s new now since
+begun_push s old new true bits now bit idle e takes begun = no (sym idle)
+begun_push s old new false bits now bit idle e takes (since, h) = (since ++ bit ∷ [], subst (λ x. Searches s new x (since ++ bit ∷ [])) (sym e) (takes bits since h))
+
 -- the fields of an alignment that begins
-pub holds_aligned : (s : FrameShape) (len : ℕ) (signals : List Signal) (held : Buffer Bool) (a b c : Marks) → AreSignals s signals → held.capacity ≡ 3 * len → 0 < len → s.len ≡ len
-    → length held.items ≡ 3 * len → is_confirmed s held.items ≡ true → c ≡ clean → HoldsEnough s len false true signals held (a ∷ b ∷ c ∷ [])
-holds_aligned s len signals held a b c are room some e h confirmed is =
-    let third : wrong s (frame_of s held.items 2) ≡ clean = wrong_of_right s (frame_of s held.items 2) (confirmed_right s held.items confirmed).2 in
+pub holds_aligned : (s : FrameShape) (len : ℕ) (signals : Signals) (held : BoundedBits) (search : Sought) (a b c : Marks) → Judges s signals → 3 * len ≤ held.capacity → 0 < len → s.len ≡ len
+    → length held.bits ≡ 3 * len → is_confirmed s held.bits ≡ true → c ≡ clean → HoldsEnough s len false true signals held search (a ∷ b ∷ c ∷ [])
+holds_aligned s len signals held search a b c are room some e h confirmed is =
+    let third : wrong s (frame_of s held.bits 2) ≡ clean = wrong_of_right s (frame_of s held.bits 2) (confirmed_right s held.bits confirmed).2 in
     record {
       judges = are;
       room = room;
       three = refl;
-      search = λ k. no k;
+      short = λ k. no k;
+      begun = λ k. no k;
       idle = λ k. no k;
       part = λ k k'. no (sym k');
       whole = λ k. inr h;
-      newest = λ k. is ∙ sym third ∙ ap (λ r. wrong s (frame_back r 0)) (sym (three_ready s len held.items some e h));
+      newest = λ k. is ∙ sym third ∙ ap (λ r. wrong s (frame_back r 0)) (sym (three_ready s len held.bits some e h));
     }
 
 -- the fields of an alignment with one more frame
-pub holds_frame : (s : FrameShape) (len : ℕ) (signals : List Signal) (searching : Bool) (held : Buffer Bool) (a b c : Marks) → AreSignals s signals → held.capacity ≡ 3 * len → 0 < len → searching ≡ false
-    → length held.items ≡ len → c ≡ wrong s held.items → HoldsEnough s len searching true signals held (a ∷ b ∷ c ∷ [])
-holds_frame s len signals searching held a b c are room some follows h is =
+pub holds_frame : (s : FrameShape) (len : ℕ) (signals : Signals) (searching : Bool) (held : BoundedBits) (search : Sought) (a b c : Marks) → Judges s signals → 3 * len ≤ held.capacity → 0 < len → searching ≡ false
+    → length held.bits ≡ len → c ≡ wrong s held.bits → HoldsEnough s len searching true signals held search (a ∷ b ∷ c ∷ [])
+holds_frame s len signals searching held search a b c are room some follows h is =
     record {
       judges = are;
       room = room;
       three = refl;
-      search = λ k. no (sym follows ∙ k);
+      short = λ k. no (sym follows ∙ k);
+      begun = λ k. no (sym follows ∙ k);
       idle = λ k. no (sym follows ∙ k);
       part = λ k k'. no (sym k');
       whole = λ k. inl h;
-      newest = λ k. is ∙ ap (λ r. wrong s (frame_back r 0)) (sym (one_ready len held.items some h));
+      newest = λ k. is ∙ ap (λ r. wrong s (frame_back r 0)) (sym (one_ready len held.bits some h));
+    }
+
+-- the fields of a search
+pub holds_search : (s : FrameShape) (len : ℕ) (signals : Signals) (searching fresh : Bool) (held : BoundedBits) (search : Sought) (before : List Marks) → Judges s signals → 3 * len ≤ held.capacity → length before ≡ 3
+    → searching ≡ true → fresh ≡ false → length held.bits < 3 * len → (since : List Bool) → Searches s search held.bits since → HoldsEnough s len searching fresh signals held search before
+holds_search s len signals searching fresh held search before are room three is idle short since begun =
+    record {
+      judges = are;
+      room = room;
+      three = three;
+      short = λ k. short;
+      begun = λ k. (since, begun);
+      idle = λ k. idle;
+      part = λ k k'. no (sym k ∙ is);
+      whole = λ k. no (sym idle ∙ k);
+      newest = λ k. no (sym idle ∙ k);
     }

@@ -1,3 +1,5 @@
 pub mod Signals
+pub mod Searching
+pub mod OpenGap
 pub mod Aligning
 pub mod View

@@ -1,19 +1,18 @@
 -- The alignment slots of a shape with their bits, as a list that is found once and by which frames are judged.
-use Rattle.std.specs.Prelude.{◌≡◌, ◌<◌, Bool, false, not, List, All}
-use Rattle.std.specs.List.{list_all, slice_index_or}
+use Rattle.std.specs.Prelude.{◌≡◌, List, map, filter, All}
+use Rattle.pdh_bits.specs.Bits.{number_of}
 use Rattle.pdh_shape.specs.declared.role.Role.TheVariants.{Align}
-use Rattle.pdh_shape.specs.Frame.{FrameShape, breaks, is_right}
+use Rattle.pdh_shape.specs.Frame.{FrameShape, slots, is_align}
+use Rattle.pdh_phases.specs.Runs.{signal_bits}
 use Rattle.pdh_align.specs.declared.signals.Signal.{Signal}
+use Rattle.pdh_align.specs.declared.signals.Signals.{Signals}
 
--- an alignment slot has its bit in a frame
-abbrev pub has_bit : List Bool → Signal → Bool
-has_bit frame signal = not (breaks (Align signal.bit) (slice_index_or frame signal.slot false))
-
--- every alignment slot of the list has its bit in a frame
-abbrev pub agrees : List Signal → List Bool → Bool
-agrees signals frame = list_all (has_bit frame) signals
-
--- the list names slots of the shape's frame, and a frame is right exactly where it agrees with the list
+-- the list names the alignment slots of the shape's frame, in slot order, each with the bit that it has in a right frame
 pub record AreSignals (s : FrameShape) (signals : List Signal) : Type 0 where
-  pub within : All (λ signal. signal.slot < s.len) signals
-  pub tells : (frame : List Bool) → agrees signals frame ≡ is_right s frame
+  pub all : map (λ signal. signal.slot) signals ≡ filter (λ t. is_align (s.role t)) (slots s)
+  pub bits : All (λ signal. s.role signal.slot ≡ Align signal.bit) signals
+
+-- what frames are judged by: the alignment slots, and the number that the bits of the signal write that begins the frame
+pub record Judges (s : FrameShape) (signals : Signals) : Type 0 where
+  pub slots : AreSignals s signals.slots.items
+  pub number : signals.number ≡ number_of (signal_bits s)

@@ -1,11 +1,12 @@
 -- What the fields of an aligner stand for.
-use Rattle.std.specs.Prelude.{◌≡◌, ◌⊎◌, ℕ, ◌*◌, ◌/◌, ◌<◌, Bool, true, false, cond, List, [], length, map, take, drop}
+use Rattle.std.specs.Prelude.{◌≡◌, ◌⊎◌, ℕ, ◌*◌, ◌/◌, ◌<◌, ◌≤◌, Bool, true, false, cond, List, [], length, map, take, drop}
 use Rattle.std.specs.List.{range_with_len, slice_index_or}
-use Rattle.circular_buffer.specs.Buffer.{Buffer}
+use Rattle.pdh_bits.specs.BitOut.{BoundedBits}
 use Rattle.pdh_shape.specs.declared.role.Marks.{Marks}
 use Rattle.pdh_shape.specs.Frame.{FrameShape, clean, wrong}
-use Rattle.pdh_align.specs.declared.signals.Signal.{Signal}
-use Rattle.pdh_align.specs.Signals.{AreSignals}
+use Rattle.pdh_align.specs.declared.signals.Signals.{Signals}
+use Rattle.pdh_align.specs.Signals.{Judges}
+use Rattle.pdh_align.specs.Searching.{Sought, Searches}
 use Rattle.pdh_align.specs.Aligning.{Phase, Held, frame_back}
 use Rattle.pdh_align.specs.Aligning.Phase.{Searching, Tracking}
 
@@ -21,20 +22,21 @@ phase_of searching fresh before bits =
 abbrev pub ready_of : ℕ → Bool → List Bool → List (List Bool)
 ready_of len fresh bits = cond fresh (map (held_frame len bits) (range_with_len 0 (length bits / len))) []
 
-abbrev pub held_of : ℕ → Bool → Bool → List Marks → List Bool → Held
-held_of len searching fresh before bits = record { phase = phase_of searching fresh before bits; ready = ready_of len fresh bits }
+abbrev pub held_of : ℕ → Bool → Bool → List Marks → List Bool → Sought → Held
+held_of len searching fresh before bits search = record { phase = phase_of searching fresh before bits; search = search; ready = ready_of len fresh bits }
 
 -- what holds of the fields between two calls
-pub record HoldsEnough (s : FrameShape) (len : ℕ) (searching fresh : Bool) (signals : List Signal) (held : Buffer Bool) (before : List Marks) : Type 0 where
-  pub judges : AreSignals s signals
+pub record HoldsEnough (s : FrameShape) (len : ℕ) (searching fresh : Bool) (signals : Signals) (held : BoundedBits) (search : Sought) (before : List Marks) : Type 0 where
+  pub judges : Judges s signals
   -- room for three frames
-  pub room : held.capacity ≡ 3 * len
+  pub room : 3 * len ≤ held.capacity
   pub three : length before ≡ 3
-  -- a search holds less than three frames, and makes no frame ready
-  pub search : searching ≡ true → length held.items < 3 * len
+  -- a search holds less than three frames of the bits since it began, and makes no frame ready
+  pub short : searching ≡ true → length held.bits < 3 * len
+  pub begun : searching ≡ true → (since : List Bool) × Searches s search held.bits since
   pub idle : searching ≡ true → fresh ≡ false
   -- an alignment holds less than a frame, beside the frames that are ready
-  pub part : searching ≡ false → fresh ≡ false → length held.items < len
-  pub whole : fresh ≡ true → (length held.items ≡ len) ⊎ (length held.items ≡ 3 * len)
+  pub part : searching ≡ false → fresh ≡ false → length held.bits < len
+  pub whole : fresh ≡ true → (length held.bits ≡ len) ⊎ (length held.bits ≡ 3 * len)
   -- the last marks are those of the newest ready frame
-  pub newest : fresh ≡ true → slice_index_or before 2 clean ≡ wrong s (frame_back (ready_of len fresh held.items) 0)
+  pub newest : fresh ≡ true → slice_index_or before 2 clean ≡ wrong s (frame_back (ready_of len fresh held.bits) 0)

@@ -1,27 +1,31 @@
-ghost use Rattle.std.specs.Prelude.{◌≡◌, ◌+◌, ◌*◌, ◌<◌, ◌≤◌, Bool, true, false, List, [], ◌∷◌, ◌++◌, length, take, drop, cond, IfOk};
+ghost use Rattle.std.specs.Prelude.{◌≡◌, ◌↔◌, ◌+◌, ◌*◌, ◌<◌, ◌≤◌, ℕ, Bool, true, false, List, [], ◌++◌, length, take, drop, cond, IfOk, IfSome, IsSome};
 ghost use Rattle.std.specs.List.{slice_index_or};
-ghost use Rattle.circular_buffer.specs.Buffer.{buffer};
 ghost use Rattle.pdh_shape.specs.Frame.{wrong as wrong_in};
-ghost use Rattle.pdh_align.specs.Aligning.{Phase, Held, Turns, Tracks, Waits, Passes, StandsFor, frame_back, frames_gained};
+ghost use Rattle.pdh_phases.specs.Keeping.{StandsFor as PhasesStandFor};
+ghost use Rattle.pdh_align.specs.Aligning.{Held, Turns, Tracks, Waits, Passes, StandsFor, frame_back, frames_gained};
+ghost use Rattle.pdh_align.specs.Searching.{Takes};
+ghost use Rattle.pdh_align.specs.OpenGap.{EndsInGap};
 
 use crate::Step;
 use crate::copying::copy_held;
-use crate::signals::{Signal, bit_at, clean, is_confirmed, signals_of, wrong, wrong_starts};
-use circular_buffer::HeapCircularBuffer;
+use crate::search::Search;
+use crate::signals::{Signals, clean, completes_loss, wrong};
+use pdh_packed::{BitRing, Packed};
+use pdh_phases::Phases;
 use pdh_shape::{Marks, Shape};
 use std::alloc::{AllocError, Global};
 use std::marker::{Model, PhantomData};
 
-/// Finds frame alignment in a line, and loses it (ITU-T G.742, 4), one bit at a time. Only `open`
-/// takes memory.
+/// Finds frame alignment in a line, and loses it (ITU-T G.742, 4). Only `open` takes memory.
 pub struct Aligner<S: Shape> {
     searching: bool,
     // the bits that are held are the frames that the last step made ready
     fresh: bool,
     // what was wrong in the last three frames
     before: [Marks; 3],
-    signals: Vec<Signal>,
-    held: HeapCircularBuffer<bool>,
+    signals: Signals,
+    held: BitRing,
+    search: Search<S>,
     of: PhantomData<S>,
 }
 
@@ -33,6 +37,7 @@ impl<S: Shape> Drop for Aligner<S> {
             before: _,
             signals: _,
             held: _,
+            search: _,
             of: _,
         } = self;
     }
@@ -40,19 +45,19 @@ impl<S: Shape> Drop for Aligner<S> {
 
 impl<S: Shape> Model for Aligner<S> {
     ghost use Rattle.std.specs.Prelude.{◌≡◌};
-    ghost use Rattle.pdh_align.specs.Aligning.{Phase, Held};
+    ghost use Rattle.pdh_align.specs.Aligning.{Held};
     ghost use Rattle.pdh_align.specs.View.{held_of, HoldsEnough};
 
     ghost Value = { Held };
 
-    ghost view = { λ a. held_of S.LEN a.searching a.fresh a.before a.held.items };
+    ghost view = { λ a. held_of S.LEN a.searching a.fresh a.before a.held.bits a.search };
 
-    ghost invariant = { λ a. HoldsEnough S.shape S.LEN a.searching a.fresh a.signals.items a.held a.before };
+    ghost invariant = { λ a. HoldsEnough S.shape S.LEN a.searching a.fresh a.signals a.held a.search a.before };
 }
 
 // Forgets the frames that the last step made ready.
-fn clear_ready(held: &mut HeapCircularBuffer<bool>, fresh: &mut bool)
-    ensures held { held.new ≡ buffer (cond fresh.old [] held.old.items) held.old.capacity }
+fn clear_ready(held: &mut BitRing, fresh: &mut bool)
+    ensures held { held.new ≡ record held.old { bits = cond fresh.old [] held.old.bits } }
     ensures fresh { fresh.new ≡ false }
 {
     if *fresh {
@@ -61,92 +66,94 @@ fn clear_ready(held: &mut HeapCircularBuffer<bool>, fresh: &mut bool)
     }
 }
 
-// Adds a bit, for which there is room.
-fn append(held: &mut HeapCircularBuffer<bool>, bit: bool)
-    requires { length held.old.items < held.old.capacity }
-    ensures { held.new ≡ buffer (held.old.items ++ bit ∷ []) held.old.capacity }
-{
-    held.push_back(bit);
-}
-
-// Adds the first of these bits, as many as leave less than `most` of them held, and answers how many.
-fn append_below(held: &mut HeapCircularBuffer<bool>, most: usize, bits: &[bool]) -> usize
-    requires below { length held.old.items < most }
-    requires room { most ≤ held.old.capacity }
-    ensures count { result ≤ length bits.now }
-    ensures below { length held.old.items + result < most }
-    ensures held { held.new ≡ buffer (held.old.items ++ take result bits.now) held.old.capacity }
-{
-    let room = most - 1 - held.len();
-    let count = bits.len().min(room);
-    held.fill_from_slice(&bits[..count]);
-    count
-}
-
-// Drops the oldest bits that are held, and adds as many.
-fn slide(held: &mut HeapCircularBuffer<bool>, bits: &[bool])
-    requires { length bits.now ≤ length held.old.items }
-    ensures { held.new ≡ buffer (drop (length bits.now) held.old.items ++ bits.now) held.old.capacity }
-{
-    held.truncate_front(held.len() - bits.len());
-    held.fill_from_slice(bits);
-}
-
 // How many bits end a search's three frames, or an alignment's frame.
-fn frame_end<S: Shape>(searching: bool) -> usize
+fn frame_end<S: Shape>(searching: bool) -> u32
     ensures { result ≡ cond searching (3 * S.LEN) S.LEN }
 {
     if searching {
-        return 3 * S::LEN as usize;
+        return 3 * S::LEN;
     }
-    S::LEN as usize
+    S::LEN
+}
+
+// Lets a search take bits of a list, so many from a place on.
+fn search_all<S: Shape>(
+    searching: bool,
+    search: &mut Search<S>,
+    bits: &Packed,
+    from: usize,
+    count: usize,
+)
+    requires { from + count ≤ length bits.now.bits }
+    ensures idle { searching ≡ false → search.new ≡ search.old }
+    ensures taken { searching ≡ true → Takes S.shape search.old search.new (take count (drop from bits.now.bits)) }
+{
+    if searching {
+        search.push_all(bits, from, count);
+    }
+}
+
+// Drops the oldest bits that are held, and adds as many of a list.
+fn slide(held: &mut BitRing, bits: &Packed, from: usize, count: u32)
+    requires within { from + count ≤ length bits.now.bits }
+    requires held { count ≤ length held.old.bits }
+    requires room { length held.old.bits ≤ held.old.capacity }
+    ensures { held.new ≡ record held.old { bits = drop count held.old.bits ++ take count (drop from bits.now.bits) } }
+{
+    held.drop_oldest(count);
+    held.append_from(bits, from, count as usize);
 }
 
 impl<S: Shape> Aligner<S> {
     /// An aligner that searches, and has taken no bit; or it finds no memory.
     pub fn open(alloc: Global) -> Result<Aligner<S>, AllocError>
-        ensures stands { IfOk result (λ a. StandsFor S.shape a.phase []) }
+        ensures stands { IfOk result (λ a. StandsFor S.shape a []) }
         ensures ready { IfOk result (λ a. a.ready ≡ []) }
     {
-        let signals = signals_of::<S>(alloc)?;
-        let held = HeapCircularBuffer::with_capacity(alloc, 3 * S::LEN as usize)?;
+        let signals = Signals::of::<S>(alloc)?;
+        let held = BitRing::open(alloc, (3 * S::LEN + 63) / 64 * 64)?;
+        let search = Search::open(alloc)?;
         Ok(Aligner {
             searching: true,
             fresh: false,
             before: [clean(), clean(), clean()],
             signals,
             held,
+            search,
             of: PhantomData,
         })
     }
 
-    // Takes a bit of the line.
-    fn turn(&mut self, bit: bool) -> Step
+    // Takes a bit of the line, at which a frame may end or after which frames were ready.
+    #[inline(never)]
+    fn end_turn(&mut self, bit: bool) -> Step
         ensures { Turns S.shape self.old self.new bit result }
     {
-        let len = S::LEN as usize;
         clear_ready(&mut self.held, &mut self.fresh);
-        append(&mut self.held, bit);
+        self.held.append_bit(bit);
         if self.searching {
-            if self.held.len() < 3 * len {
+            self.search.push(bit);
+            if self.held.held() < 3 * S::LEN {
                 return Step::Nothing;
             }
-            if is_confirmed::<S>(&self.signals, &self.held) {
+            if self.search.is_confirmed(&self.signals, &self.held) {
                 self.searching = false;
                 self.fresh = true;
                 self.before = [clean(), clean(), clean()];
                 return Step::Aligned;
             }
-            self.held.pop_front();
+            self.search.give_up(1);
+            self.held.drop_oldest(1);
             return Step::Rejected;
         }
-        if self.held.len() < len {
+        if self.held.held() < S::LEN {
             return Step::Nothing;
         }
         let [a, b, c] = self.before;
         let d = wrong::<S>(&self.signals, &self.held);
-        if S::loses(&a, &b, &c, &d) {
+        if completes_loss::<S>(&a, &b, &c, &d) {
             self.searching = true;
+            self.search.restart(&self.held);
             return Step::Lost;
         }
         self.before = [b, c, d];
@@ -154,47 +161,69 @@ impl<S: Shape> Aligner<S> {
         Step::Frame
     }
 
+    // Takes a bit of the line.
+    fn turn(&mut self, bit: bool) -> Step
+        ensures { Turns S.shape self.old self.new bit result }
+    {
+        let whole = self.held.held() + 1 >= S::LEN;
+        if whole || self.fresh || self.searching {
+            return self.end_turn(bit);
+        }
+        self.held.append_bit(bit);
+        Step::Nothing
+    }
+
     /// Takes a bit of the line. The step is what the tracking of all bits so far gained by it.
     pub fn push(&mut self, bit: bool) -> Step
-        ensures tracks { (line : List Bool) → StandsFor S.shape self.old.phase line → Tracks S.shape self.old self.new bit result line }
+        ensures tracks { (line : List Bool) → StandsFor S.shape self.old line → Tracks S.shape self.old self.new bit result line }
         ensures ready { length self.new.ready ≡ frames_gained result }
     {
         self.turn(bit)
     }
 
-    /// Takes the first of these bits of the line, up to the one at which a frame ends, and answers
-    /// how many. Nothing is gained by them, and no frame is ready.
-    pub fn take(&mut self, bits: &[bool]) -> usize
-        ensures count { result ≤ length bits.now }
-        ensures waits { (line : List Bool) → StandsFor S.shape self.old.phase line → Waits S.shape self.new (take result bits.now) line }
+    /// Takes bits of the line from a place on, up to the one at which a frame ends, and answers how
+    /// many. Nothing is gained by them, and no frame is ready.
+    pub fn take(&mut self, bits: &Packed, from: usize) -> usize
+        requires begun { from ≤ length bits.now.bits }
+        ensures count { from + result ≤ length bits.now.bits }
+        ensures waits { (line : List Bool) → StandsFor S.shape self.old line → Waits S.shape self.new (take result (drop from bits.now.bits)) line }
         ensures ready { self.new.ready ≡ [] }
     {
         clear_ready(&mut self.held, &mut self.fresh);
-        append_below(&mut self.held, frame_end::<S>(self.searching), bits)
+        let room = frame_end::<S>(self.searching) - 1 - self.held.held();
+        let count = (bits.len() - from).min(room as usize);
+        search_all::<S>(self.searching, &mut self.search, bits, from, count);
+        self.held.append_from(bits, from, count);
+        count
     }
 
-    /// Takes the first of these bits in a search that waits for the bit at which its three frames end:
-    /// those at each of which the oldest position is given up, since the frame there isn't right. It
-    /// answers how many; where that is none, nothing changes.
-    pub fn pass(&mut self, bits: &[bool]) -> usize
-        ensures count { result ≤ length bits.now }
-        ensures passes { 0 < result → (line : List Bool) → StandsFor S.shape self.old.phase line → Passes S.shape self.new (take result bits.now) line }
+    /// Takes bits of the line from a place on, so many at most, in a search that waits for the bit at
+    /// which its three frames end: those at each of which the oldest position is given up. It answers
+    /// how many; where that is none, nothing changes.
+    pub fn pass(&mut self, bits: &Packed, from: usize, most: usize) -> usize
+        requires begun { from ≤ length bits.now.bits }
+        ensures count { from + result ≤ length bits.now.bits }
+        ensures most { result ≤ most }
+        ensures passes { 0 < result → (line : List Bool) → StandsFor S.shape self.old line → Passes S.shape self.new (take result (drop from bits.now.bits)) line }
         ensures ready { 0 < result → self.new.ready ≡ [] }
         ensures none { result ≡ 0 → self.new ≡ self.old }
     {
-        let len = S::LEN as usize;
         if !self.searching {
             return 0;
         }
-        if self.held.len() + 1 < 3 * len {
+        if self.held.held() + 1 < 3 * S::LEN {
             return 0;
         }
-        let count = wrong_starts::<S>(&self.signals, &self.held, bits.len().min(len));
+        let most = most.min(bits.len() - from).min(S::LEN as usize);
+        let count = self.search.rejected(&self.signals, &self.held, most as u32);
         if count == 0 {
             return 0;
         }
-        slide(&mut self.held, &bits[..count]);
-        count
+        let taken = count as usize;
+        self.search.push_all(bits, from, taken);
+        self.search.give_up(count);
+        slide(&mut self.held, bits, from, count);
+        taken
     }
 
     /// Copies out the frame that stands `back` frames before the newest of the ready ones.
@@ -203,8 +232,20 @@ impl<S: Shape> Aligner<S> {
         requires room { length into.old ≡ S.LEN }
         ensures { into.new ≡ frame_back self.now.ready back }
     {
-        let after = (back as usize + 1) * S::LEN as usize;
-        copy_held(&self.held, self.held.len() - after, into);
+        let after = (u32::from(back) + 1) * S::LEN;
+        copy_held(&self.held, self.held.held() - after, into);
+    }
+
+    /// Appends the frame that stands `back` frames before the newest of the ready ones to a list that
+    /// has room for it.
+    pub fn append_frame(&self, back: u8, into: &mut Packed)
+        requires ready { back < length self.now.ready }
+        requires room { length into.old.bits + S.LEN ≤ into.old.capacity }
+        ensures appended { into.new ≡ record into.old { bits = into.old.bits ++ frame_back self.now.ready back } }
+        ensures whole { length (frame_back self.now.ready back) ≡ S.LEN }
+    {
+        let after = (u32::from(back) + 1) * S::LEN;
+        self.held.append_to(self.held.held() - after, S::LEN, into);
     }
 
     /// A bit of the frame that stands `back` frames before the newest of the ready ones.
@@ -213,8 +254,8 @@ impl<S: Shape> Aligner<S> {
         requires in_frame { slot < S.LEN }
         ensures { result ≡ slice_index_or (frame_back self.now.ready back) slot false }
     {
-        let after = (back as usize + 1) * S::LEN as usize;
-        bit_at(&self.held, self.held.len() - after + slot as usize)
+        let after = (u32::from(back) + 1) * S::LEN;
+        self.held.bit(self.held.held() - after + slot)
     }
 
     /// What is wrong in the newest of the ready frames.
@@ -223,5 +264,15 @@ impl<S: Shape> Aligner<S> {
         ensures { result ≡ wrong_in S.shape (frame_back self.now.ready 0) }
     {
         self.before[2]
+    }
+
+    /// The phases that a search goes by, which took the bits since its first; none where the shape's
+    /// frame doesn't begin with its alignment signal.
+    pub fn phases(&self) -> Option<&Phases<S>>
+        ensures some { IsSome result ↔ (0 < S.SIGNAL) }
+        ensures stands { IfSome result (λ phases. (line : List Bool) (q : ℕ) → StandsFor S.shape self.now line
+            → EndsInGap S.shape line q → PhasesStandFor S.shape phases.now (drop q line)) }
+    {
+        self.search.phases()
     }
 }

@@ -1,9 +1,12 @@
-//! The alignment machine: it finds frame alignment in a line, and loses it, one bit at a time.
+//! The alignment machine: it finds frame alignment in a line, and loses it, bit by bit or by many bits at
+//! once.
 #![tactic(auto)]
 
 mod aligner;
 mod copying;
+mod search;
 mod signals;
+mod starts;
 mod step;
 #[cfg(test)]
 mod tests;

@@ -1,11 +1,11 @@
-ghost use Rattle.std.specs.Prelude.{◌≡◌, ◌<◌, ◌≤◌, ◌+◌, ◌*◌, ◌&&◌, ◌||◌, ℕ, false, length, take, drop, IfOk};
-ghost use Rattle.std.specs.List.{slice_index_or};
+ghost use Rattle.std.specs.Prelude.{◌≡◌, ◌<◌, ◌≤◌, ◌+◌, ◌*◌, ◌&&◌, ◌||◌, ℕ, true, false, length, take, drop, IfOk};
 ghost use Rattle.pdh_shape.specs.Frame.{is_right as is_right_in, wrong as wrong_in, clean as clean_marks, framing_mark, is_multi};
 ghost use Rattle.pdh_shape.specs.declared.role.Mark.TheVariants.{Framing};
 ghost use Rattle.pdh_line.specs.Tracking.{is_confirmed as is_confirmed_in};
-ghost use Rattle.pdh_align.specs.Signals.{AreSignals};
+ghost use Rattle.pdh_align.specs.Signals.{AreSignals, Judges};
 
-use circular_buffer::HeapCircularBuffer;
+use pdh_packed::BitRing;
+use pdh_phases::signal_number;
 use pdh_shape::{Mark, Marks, Role, Shape};
 use std::alloc::{AllocError, Global};
 
@@ -18,38 +18,64 @@ pub struct Signal {
     pub bit: bool,
 }
 
-/// The alignment slots of a shape, in slot order.
-pub fn signals_of<S: Shape>(alloc: Global) -> Result<Vec<Signal>, AllocError>
-    ensures { IfOk result (λ signals. AreSignals S.shape signals.items) }
+/// What frames of a shape are judged by.
+#[derive(Drop)]
+pub struct Signals {
+    /// The alignment slots, in slot order.
+    pub slots: Vec<Signal>,
+    /// The number that the bits of the alignment signal write, where it begins the frame.
+    pub number: u64,
+}
+
+impl Signals {
+    /// Those of a shape; or it finds no memory.
+    pub fn of<S: Shape>(alloc: Global) -> Result<Signals, AllocError>
+        ensures { IfOk result (λ signals. Judges S.shape signals) }
+    {
+        let slots = slots_of::<S>(alloc)?;
+        Ok(Signals {
+            slots,
+            number: signal_number::<S>(),
+        })
+    }
+}
+
+// The alignment slots of a shape, in slot order.
+fn slots_of<S: Shape>(alloc: Global) -> Result<Vec<Signal>, AllocError>
+    ensures { IfOk result (λ slots. AreSignals S.shape slots.items) }
 {
-    let mut signals = Vec::new(alloc);
+    let mut slots = Vec::new(alloc);
     for slot in 0..S::LEN {
         if let Role::Align(bit) = S::role(slot) {
-            signals.push(Signal { slot, bit })?;
+            slots.push(Signal { slot, bit })?;
         }
     }
-    Ok(signals)
+    Ok(slots)
 }
 
-/// A bit of those that are held, counted from the oldest.
-pub fn bit_at(held: &HeapCircularBuffer<bool>, index: usize) -> bool
-    requires { index < length held.now.items }
-    ensures { result ≡ slice_index_or held.now.items index false }
+/// Whether the frame that begins at a bit of those that are held has its alignment signal. Where the
+/// signal doesn't begin the frame, it reads the alignment slots alone, up to the first wrong one.
+pub fn is_right<S: Shape>(signals: &Signals, held: &BitRing, start: u32) -> bool
+    requires judges { Judges S.shape signals.now }
+    requires whole { start + S.LEN ≤ length held.now.bits }
+    ensures { result ≡ is_right_in S.shape (take S.LEN (drop start held.now.bits)) }
 {
-    held.get(index).copied().unwrap_or(false)
+    if S::SIGNAL > 0 {
+        return held.read(start, S::SIGNAL).number() == signals.number;
+    }
+    has_bits::<S>(&signals.slots, held, start)
 }
 
-/// Whether the frame that begins at a bit of those that are held has its alignment signal. It reads
-/// the alignment slots alone, up to the first wrong one.
-pub fn is_right<S: Shape>(signals: &[Signal], held: &HeapCircularBuffer<bool>, start: usize) -> bool
-    requires signals { AreSignals S.shape signals.now }
-    requires whole { start + S.LEN ≤ length held.now.items }
-    ensures { result ≡ is_right_in S.shape (take S.LEN (drop start held.now.items)) }
+// The same by the alignment slots one by one.
+fn has_bits<S: Shape>(slots: &[Signal], held: &BitRing, start: u32) -> bool
+    requires signals { AreSignals S.shape slots.now }
+    requires whole { start + S.LEN ≤ length held.now.bits }
+    ensures { result ≡ is_right_in S.shape (take S.LEN (drop start held.now.bits)) }
 {
-    // a buffer's length is bounded, and so is each place in it
-    let _held = held.len();
-    for signal in signals {
-        if bit_at(held, start + signal.slot as usize) != signal.bit {
+    // a ring's length is bounded, and so is each place in it
+    let _held = held.held();
+    for signal in slots {
+        if held.bit(start + signal.slot) != signal.bit {
             return false;
         }
     }
@@ -57,38 +83,18 @@ pub fn is_right<S: Shape>(signals: &[Signal], held: &HeapCircularBuffer<bool>, s
 }
 
 /// Whether three right frames are held. A frame is judged only where those before it are right.
-pub fn is_confirmed<S: Shape>(signals: &[Signal], held: &HeapCircularBuffer<bool>) -> bool
-    requires signals { AreSignals S.shape signals.now }
-    requires whole { length held.now.items ≡ 3 * S.LEN }
-    ensures { result ≡ is_confirmed_in S.shape held.now.items }
+pub fn three_right<S: Shape>(signals: &Signals, held: &BitRing) -> bool
+    requires judges { Judges S.shape signals.now }
+    requires whole { length held.now.bits ≡ 3 * S.LEN }
+    ensures { result ≡ is_confirmed_in S.shape held.now.bits }
 {
-    let len = S::LEN as usize;
     if !is_right::<S>(signals, held, 0) {
         return false;
     }
-    if !is_right::<S>(signals, held, len) {
+    if !is_right::<S>(signals, held, S::LEN) {
         return false;
     }
-    is_right::<S>(signals, held, 2 * len)
-}
-
-/// At how many of the oldest positions, one after another and so many at most, the frame isn't right.
-pub fn wrong_starts<S: Shape>(
-    signals: &[Signal],
-    held: &HeapCircularBuffer<bool>,
-    most: usize,
-) -> usize
-    requires signals { AreSignals S.shape signals.now }
-    requires whole { most + S.LEN ≤ length held.now.items }
-    ensures count { result ≤ most }
-    ensures wrong { (i : ℕ) → i < result → is_right_in S.shape (take S.LEN (drop i held.now.items)) ≡ false }
-{
-    for start in 0..most {
-        if is_right::<S>(signals, held, start) {
-            return start;
-        }
-    }
-    most
+    is_right::<S>(signals, held, 2 * S::LEN)
 }
 
 /// No alignment slot is wrong.
@@ -99,6 +105,24 @@ pub fn clean() -> Marks
         framing: 0,
         multi: false,
     }
+}
+
+// Whether no alignment slot is wrong.
+fn is_clean(marks: &Marks) -> bool
+    ensures { result ≡ true → marks.now ≡ clean_marks }
+{
+    marks.framing == 0 && !marks.multi
+}
+
+/// Whether a frame with marks d completes a loss of alignment, after frames with marks a, b and c. The
+/// shape's rule is asked only where something is wrong in one of them.
+pub fn completes_loss<S: Shape>(a: &Marks, b: &Marks, c: &Marks, d: &Marks) -> bool
+    ensures { result ≡ S.shape.loses a.now b.now c.now d.now }
+{
+    if is_clean(a) && is_clean(b) && is_clean(c) && is_clean(d) {
+        return false;
+    }
+    S::loses(a, b, c, d)
 }
 
 // The value of a framing slot's bit in the marks, where the slot is wrong.
@@ -124,30 +148,31 @@ fn multi_bit(before: bool, mark: Mark, broken: bool) -> bool
     }
 }
 
-// What is wrong in the frame that is held, by all its slots.
-fn wrong_slots<S: Shape>(held: &HeapCircularBuffer<bool>) -> Marks
-    requires { length held.now.items ≡ S.LEN }
-    ensures { result ≡ wrong_in S.shape held.now.items }
+// What is wrong in the frame that is held, by its alignment slots.
+fn wrong_slots<S: Shape>(slots: &[Signal], held: &BitRing) -> Marks
+    requires signals { AreSignals S.shape slots.now }
+    requires whole { length held.now.bits ≡ S.LEN }
+    ensures { result ≡ wrong_in S.shape held.now.bits }
 {
     let mut framing = 0u64;
     let mut multi = false;
-    for slot in 0..S::LEN {
-        let broken = S::role(slot).breaks(bit_at(held, slot as usize));
-        let mark = S::mark(slot);
+    for signal in slots {
+        let broken = held.bit(signal.slot) != signal.bit;
+        let mark = S::mark(signal.slot);
         framing += framing_bit(mark, broken);
         multi = multi_bit(multi, mark, broken);
     }
     Marks { framing, multi }
 }
 
-/// What is wrong in the frame that is held. All its slots are looked at only where it isn't right.
-pub fn wrong<S: Shape>(signals: &[Signal], held: &HeapCircularBuffer<bool>) -> Marks
-    requires signals { AreSignals S.shape signals.now }
-    requires whole { length held.now.items ≡ S.LEN }
-    ensures { result ≡ wrong_in S.shape held.now.items }
+/// What is wrong in the frame that is held. Its slots are looked at only where it isn't right.
+pub fn wrong<S: Shape>(signals: &Signals, held: &BitRing) -> Marks
+    requires judges { Judges S.shape signals.now }
+    requires whole { length held.now.bits ≡ S.LEN }
+    ensures { result ≡ wrong_in S.shape held.now.bits }
 {
     if is_right::<S>(signals, held, 0) {
         return clean();
     }
-    wrong_slots::<S>(held)
+    wrong_slots::<S>(&signals.slots, held)
 }

@@ -1,6 +1,8 @@
 -- What is taken of lists and put to them, one call after another.
-use Rattle.std.proofs.Common.{◌≡◌, ℕ, ◌+◌, ◌==◌, Bool, true, false, cond, List, [], ◌++◌, length, refl, sym, ap, ◌∙◌, arith, append_assoc, Some, None, Option}
+use Rattle.std.proofs.Common.{◌≡◌, ℕ, ◌+◌, ◌==◌, Bool, true, false, cond, List, [], ◌++◌, length, drop, refl, sym, ap, ◌∙◌, arith, append_assoc, Some, None, Option}
 use Rattle.std.proofs.lemmas.List.{length-append}
+use Rattle.pdh_bits.specs.BitOut.{BoundedBits}
+use Rattle.pdh_packed.specs.Gaining.{gained}
 use Rattle.pdh_edge.specs.Ports.{Inputs, Outputs, Takes, Puts, PutsPart, IsPrefix, before, nothing}
 use Rattle.pdh_edge.proofs.Runs.{puts_begin, puts_then as puts_then_of, puts_part as puts_part_of}
 use Rattle.pdh_chain.specs.Muxing.{as_line}
@@ -63,3 +65,7 @@ takes_no_line x = record {
   counts = λ k. let none : length (as_line [] k) ≡ 0 = ap length (sym (line_none k)) in omega (arith, none);
   bits = λ k. before_none (x.told k) ∙ ap (λ bits. before bits (x.told k)) (line_none k);
 }
+
+-- a list that was empty gained all that it has
+pub gained_whole : (old new : BoundedBits) → old.bits ≡ [] → gained old new ≡ new.bits
+gained_whole old new none = ap (λ (bits : List Bool). drop (length bits) new.bits) none

@@ -13,6 +13,7 @@ use crate::sending::{SendStop, send_frames};
 use crate::stop::MuxStop;
 use pdh_clock::Schedule;
 use pdh_edge::{Failed, Port};
+use pdh_packed::Packed;
 use pdh_shape::{Level, TOP};
 use pdh_tx::TxStop;
 use std::alloc::Global;
@@ -62,16 +63,17 @@ pub fn mux_with<T: ChainTop, P: Port>(
     let mut next_leaf = 0;
     let tables = T::tables(alloc)?;
     let mut top = T::open(alloc, &tables, TOP, &mut next_leaf)?;
-    let mut frame = vec![in alloc; false; T::LEN as usize]?;
+    let len = T::LEN;
+    let mut frame = Packed::open(alloc, len as usize)?;
     let unhindered = is_unhindered(levels, clock, frames, port);
     if let Err(Failed) = port.start() {
         return Err(MuxStop::WriteFailed);
     }
     if unhindered {
-        send_clear_frames(&mut top, clock, frames, feac, &mut frame, port)?;
+        send_clear_frames(&mut top, clock, len, frames, feac, &mut frame, port)?;
         return Ok(());
     }
-    match send_frames(&mut top, clock, T::LEN, frames, feac, &mut frame, port) {
+    match send_frames(&mut top, clock, len, frames, feac, &mut frame, port) {
         Ok(()) => Ok(()),
         Err(SendStop::Sender(stop)) => Err(stop_of(stop)),
         Err(SendStop::WriteFailed) => Err(MuxStop::WriteFailed),

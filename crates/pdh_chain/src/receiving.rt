@@ -8,6 +8,7 @@ ghost use Rattle.pdh_chain.specs.declared.stop.DemuxStop.TheVariants.{Memory};
 use crate::stop::DemuxStop;
 use crate::trees::ChainRx;
 use pdh_edge::Port;
+use pdh_packed::Packed;
 use pdh_rx::{Rx, RxNode};
 use pdh_shape::{Shape, TOP};
 use pdh_watch::Watch;
@@ -40,6 +41,9 @@ fn receive<R: Rx, P: Port, W: Watch>(
     Ok(())
 }
 
+// How many bits of a line are taken at once, at most.
+const BUFFER: usize = 32768;
+
 // How many bits to take at once, where so many are left and there is room for so many.
 fn part(left: u64, room: usize) -> usize
     requires left { 0 < left }
@@ -56,10 +60,10 @@ fn part(left: u64, room: usize) -> usize
 fn receive_many<R: Rx, P: Port>(
     receiver: &mut R,
     bits: u64,
-    buffer: &mut [bool],
+    buffer: &mut Packed,
     port: &mut P,
 ) -> Result<(), DemuxStop>
-    requires some { 0 < length buffer.old }
+    requires some { 0 < buffer.old.capacity }
     requires stands { R.stands receiver.old [] }
     requires lists { HoldsAll (R.meaning receiver.old).leaves (P.outputs port.old) }
     requires line { IsTrue ((P.inputs port.old).holds 0) }
@@ -75,9 +79,10 @@ fn receive_many<R: Rx, P: Port>(
 {
     let mut received = 0;
     while received < bits {
-        let most = part(bits - received, buffer.len());
-        let count = port.bits(0, &mut buffer[..most])?;
-        receiver.take(&buffer[..count], port)?;
+        let most = part(bits - received, buffer.capacity());
+        buffer.clear();
+        let count = port.bits(0, most, buffer)?;
+        receiver.take(buffer, port)?;
         received += count as u64;
     }
     Ok(())
@@ -87,11 +92,11 @@ fn receive_many<R: Rx, P: Port>(
 fn receive_all<R: Rx, P: Port, W: Watch>(
     receiver: &mut R,
     bits: u64,
-    buffer: &mut [bool],
+    buffer: &mut Packed,
     port: &mut P,
     watch: &mut W,
 ) -> Result<(), DemuxStop>
-    requires some { 0 < length buffer.old }
+    requires some { 0 < buffer.old.capacity }
     requires tells { R.tells receiver.old [] }
     requires lists { HoldsAll (R.meaning receiver.old).leaves (P.outputs port.old) }
     requires line { IsTrue ((P.inputs port.old).holds 0) }
@@ -140,7 +145,7 @@ pub fn demux_with<S: Shape, C: ChainRx, P: Port, W: Watch>(
     let mut next_leaf = 0;
     let tables = <RxNode<S, C> as ChainRx>::tables(alloc)?;
     let mut node = <RxNode<S, C> as ChainRx>::open(alloc, &tables, TOP, &mut next_leaf)?;
-    let mut buffer = vec![in alloc; false; 4096]?;
+    let mut buffer = Packed::open(alloc, BUFFER)?;
     port.start()?;
     receive_all(&mut node, bits, &mut buffer, port, watch)?;
     Ok(node.frames())

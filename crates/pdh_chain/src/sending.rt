@@ -1,4 +1,4 @@
-ghost use Rattle.std.specs.Prelude.{◌≡◌, ◌≤◌, ◌<◌, ℕ, ◌+◌, ◌*◌, IsTrue, false, All, OnOk, IfErr, IfSome, OnErr, vec_capacity};
+ghost use Rattle.std.specs.Prelude.{◌≡◌, ◌≤◌, ◌<◌, ℕ, ◌+◌, ◌*◌, IsTrue, false, All, OnOk, IfErr, IfSome, OnErr};
 ghost use Rattle.pdh_shape.specs.declared.role.Service.{Service};
 ghost use Rattle.pdh_edge.specs.Ports.{Puts, PutsPart, HasCause};
 ghost use Rattle.pdh_tx.specs.Meaning.{plan_of, IsNodeOf, HoldsAll};
@@ -9,6 +9,7 @@ use crate::multiplexer::Multiplexer;
 use crate::saying::{channel_of, next_service};
 use pdh_clock::Schedule;
 use pdh_edge::{Drain, Failed, Feed, Port};
+use pdh_packed::Packed;
 use pdh_tx::{Tx, TxStop};
 
 /// Why not all frames were sent.
@@ -25,25 +26,25 @@ fn make_frame<T: Tx, F: Feed>(
     sender: &mut T,
     clock: &Schedule,
     len: u32,
-    frame: &mut Vec<bool>,
+    frame: &mut Packed,
     feed: &mut F,
 ) -> Result<(), TxStop>
     requires running { T.is_stopped sender.old ≡ false }
     requires lists { HoldsAll (T.meaning sender.old).leaves (F.inputs feed.old) }
     requires nodes { All (IsNodeOf clock.now.levels) (T.meaning sender.old).nodes }
     requires stands { (x : ℕ) × T.stands_at sender.old (plan_of clock.now) x }
-    requires room { len ≤ vec_capacity frame.old }
+    requires room { len ≤ frame.old.capacity }
     ensures made { OnOk result ((x : ℕ) (says : ℕ → Service) → T.stands_at sender.old (plan_of clock.now) x
         → SayInFrames (T.meaning sender.old) says (T.says sender.old) x (x + len)
         → MakesBits (T.meaning sender.old) says (T.stands_at sender.new (plan_of clock.now))
         (T.stands_for sender.old) (T.stands_for sender.new) (plan_of clock.now) x (x + len)
-        frame.new.items (F.inputs feed.old) (F.inputs feed.new)) }
+        frame.new.bits (F.inputs feed.old) (F.inputs feed.new)) }
     ensures stops { IfErr result (λ stop. (x : ℕ) → T.stands_at sender.old (plan_of clock.now) x
         → StopsMaking (T.meaning sender.old) (plan_of clock.now) x (x + len) stop
         (F.inputs feed.old) (F.inputs feed.new)
         (F.feed_faults feed.old) (F.feed_faults feed.new)) }
     ensures running { OnOk result (T.is_stopped sender.new ≡ false) }
-    ensures room { vec_capacity frame.new ≡ vec_capacity frame.old }
+    ensures room { frame.new.capacity ≡ frame.old.capacity }
     ensures fed { F.fed feed.old feed.new }
     ensures same { T.meaning sender.new ≡ T.meaning sender.old }
     ensures same_says { T.says sender.new ≡ T.says sender.old }
@@ -51,7 +52,7 @@ fn make_frame<T: Tx, F: Feed>(
     frame.clear();
     for _made in 0..len {
         let bit = sender.next(clock, feed)?;
-        frame.push_reserved(bit);
+        frame.push(bit);
     }
     Ok(())
 }
@@ -65,7 +66,7 @@ pub fn send_frames<T: Multiplexer, P: Port>(
     len: u32,
     frames: u64,
     feac: Option<u8>,
-    frame: &mut Vec<bool>,
+    frame: &mut Packed,
     port: &mut P,
 ) -> Result<(), SendStop>
     requires running { T.is_stopped sender.old ≡ false }
@@ -75,7 +76,7 @@ pub fn send_frames<T: Multiplexer, P: Port>(
     requires frames { HasFrames (T.meaning sender.old) len }
     requires code { IfSome feac (λ code. code < 64) }
     requires stands { T.stands_at sender.old (plan_of clock.now) 0 }
-    requires room { len ≤ vec_capacity frame.old }
+    requires room { len ≤ frame.old.capacity }
     ensures sent { OnOk result
         (Sends (T.meaning sender.old) (says_of feac) (T.stands_at sender.new (plan_of clock.now))
         (T.stands_for sender.old) (T.stands_for sender.new) (plan_of clock.now) (frames * len)
@@ -89,7 +90,7 @@ pub fn send_frames<T: Multiplexer, P: Port>(
         (P.inputs port.old) (P.inputs port.new) (P.outputs port.old) (P.outputs port.new)
         (P.drain_faults port.old) (P.drain_faults port.new))) }
     ensures running { OnOk result (T.is_stopped sender.new ≡ false) }
-    ensures room { vec_capacity frame.new ≡ vec_capacity frame.old }
+    ensures room { frame.new.capacity ≡ frame.old.capacity }
     ensures kept { P.kept port.old port.new }
     ensures same { T.meaning sender.new ≡ T.meaning sender.old }
 {

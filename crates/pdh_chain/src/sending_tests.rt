@@ -5,6 +5,7 @@ ghost use Rattle.pdh_clock.specs.Contents.{frame_count};
 use crate::{Chain, leaves, mux};
 use pdh_clock::{Bias, Schedule};
 use pdh_edge::{Feed, MemPort};
+use pdh_packed::Packed;
 use pdh_shape::TOP;
 use std::alloc::{AllocError, Global};
 use std::test::Fail;
@@ -25,6 +26,17 @@ fn patterns(alloc: Global, chain: Chain, bits: usize) -> Result<Vec<Vec<bool>>, 
     Ok(lists)
 }
 
+// The same lists in packed words.
+fn packed(alloc: Global, lists: &[Vec<bool>]) -> Result<Vec<Packed>, AllocError>
+    ensures { IfOk result (λ packed. length packed.items ≡ length lists.now) }
+{
+    let mut packed = Vec::new(alloc);
+    for list in lists {
+        packed.push(Packed::of_bits(alloc, list)?)?;
+    }
+    Ok(packed)
+}
+
 // What a run of `mux` over a schedule makes of these lists, with this code sent where its top has a channel for it: its line, if it ends well, and how many
 // bits it leaves of each list.
 fn sent(
@@ -39,7 +51,7 @@ fn sent(
     requires lists { length lists.items ≡ leaves_of chain }
     ensures { IfOk result (λ sent. length sent.1.items ≡ leaves_of chain) }
 {
-    let mut port = MemPort::open(alloc, lists, 1)?;
+    let mut port = MemPort::open(alloc, packed(alloc, &lists)?, 1)?;
     port.room(0, 100_000)?;
     if mux(alloc, chain, clock, clock.frames(&TOP), feac, &mut port).is_err() {
         return Err(Fail::new("mux stopped"));
@@ -48,7 +60,7 @@ fn sent(
     for leaf in 0..leaves(chain) {
         left.push(port.left(leaf))?;
     }
-    Ok((port.output(0).to_vec(alloc)?, left))
+    Ok((port.output(0).to_bits(alloc)?, left))
 }
 
 // Takes so many bits off the ends of the lists.

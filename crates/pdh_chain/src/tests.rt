@@ -4,20 +4,27 @@ ghost use Rattle.pdh_chain.specs.Chains.{leaves_of};
 use crate::{Chain, DemuxStop, MuxStop, demux, leaves, mux};
 use pdh_clock::Schedule;
 use pdh_edge::MemPort;
+use pdh_packed::Packed;
 use pdh_shape::{Place, TOP};
 use pdh_watch::{Event, Quiet, Watch};
 use std::alloc::{AllocError, Global};
 use std::test::Fail;
 
+// So many zeros.
+fn no_ones(alloc: Global, count: usize) -> Result<Packed, AllocError> {
+    let bits = vec![in alloc; false; count]?;
+    Packed::of_bits(alloc, &bits)
+}
+
 // A list of zeros for each leaf, of these lengths.
-fn zeros(alloc: Global, lengths: [usize; 4]) -> Result<Vec<Vec<bool>>, AllocError>
+fn zeros(alloc: Global, lengths: [usize; 4]) -> Result<Vec<Packed>, AllocError>
     ensures { IfOk result (λ lists. length lists.items ≡ 4) }
 {
     let mut lists = Vec::new(alloc);
-    lists.push(vec![in alloc; false; lengths[0]]?)?;
-    lists.push(vec![in alloc; false; lengths[1]]?)?;
-    lists.push(vec![in alloc; false; lengths[2]]?)?;
-    lists.push(vec![in alloc; false; lengths[3]]?)?;
+    lists.push(no_ones(alloc, lengths[0])?)?;
+    lists.push(no_ones(alloc, lengths[1])?)?;
+    lists.push(no_ones(alloc, lengths[2])?)?;
+    lists.push(no_ones(alloc, lengths[3])?)?;
     Ok(lists)
 }
 
@@ -119,7 +126,7 @@ fn run_demux(
     bits: u32,
 ) -> Result<(Result<u64, DemuxStop>, usize), Fail> {
     let mut lists = Vec::new(alloc);
-    lists.push(vec![in alloc; false; zeros]?)?;
+    lists.push(no_ones(alloc, zeros)?)?;
     let count = leaves(chain);
     let mut port = MemPort::open(alloc, lists, count)?;
     for leaf in 0..count {
@@ -193,8 +200,8 @@ fn made(
     port.room(0, 40_000)?;
     mux(alloc, chain, &clock, clock.frames(&TOP), None, &mut port).is_ok();
     let mut line = Vec::new(alloc);
-    for bit in port.output(0) {
-        line.push(*bit != (inverted[0] <= line.len() && line.len() < inverted[1]))?;
+    for bit in port.output(0).to_bits(alloc)? {
+        line.push(bit != (inverted[0] <= line.len() && line.len() < inverted[1]))?;
     }
     Ok(line)
 }
@@ -208,7 +215,7 @@ fn demuxed<W: Watch>(
 ) -> Result<(Result<u64, DemuxStop>, Vec<bool>), Fail> {
     let bits = line.len();
     let mut lists = Vec::new(alloc);
-    lists.push(line)?;
+    lists.push(Packed::of_bits(alloc, &line)?)?;
     let count = leaves(chain);
     let mut port = MemPort::open(alloc, lists, count)?;
     for leaf in 0..count {
@@ -217,7 +224,7 @@ fn demuxed<W: Watch>(
     let end = demux(alloc, chain, bits as u64, &mut port, watch);
     let mut got = Vec::new(alloc);
     for leaf in 0..count {
-        got.extend_from_slice(port.output(leaf))?;
+        got.extend_from_slice(&port.output(leaf).to_bits(alloc)?)?;
     }
     Ok((end, got))
 }

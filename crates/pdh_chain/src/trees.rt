@@ -7,6 +7,7 @@ ghost use Rattle.pdh_events.specs.Chain.{child_path as path_of_child};
 ghost use Rattle.pdh_chain.specs.Trees.{HasNoStores, sender_of, senders_below, receiver_of};
 
 use pdh_locked::Locked;
+use pdh_runs::Layout;
 use pdh_rx::{Rx, RxNode, Tail};
 use pdh_shape::{Path, Shape};
 use pdh_slots::SlotTables;
@@ -34,23 +35,54 @@ fn child_path(path: Path, trib: u8) -> Path
     }
 }
 
-/// The tables of the slots of a level's frame, and those of the levels below.
+/// How the frames of a level are put together, and those of the levels below.
+pub struct LevelLayouts<S: Shape, T: Drop> {
+    here: Rc<Layout<S>>,
+    below: T,
+}
+
+impl<S: Shape, T: Drop> Drop for LevelLayouts<S, T> {
+    fn drop(self) {
+        let Self { here: _, below: _ } = self;
+    }
+}
+
+impl<S: Shape, T: Drop> LevelLayouts<S, T> {
+    // Makes the layout of a level above these, or finds no memory.
+    fn open(alloc: Global, below: T) -> Result<LevelLayouts<S, T>, AllocError> {
+        let here = Rc::new(alloc, Layout::open(alloc)?)?;
+        Ok(LevelLayouts { here, below })
+    }
+}
+
+/// How the frames of a level are taken apart, bit by bit and many bits at a time, and those of the
+/// levels below.
 pub struct LevelTables<S: Shape, T: Drop> {
-    here: Rc<SlotTables<S>>,
+    slots: Rc<SlotTables<S>>,
+    layout: Rc<Layout<S>>,
     below: T,
 }
 
 impl<S: Shape, T: Drop> Drop for LevelTables<S, T> {
     fn drop(self) {
-        let Self { here: _, below: _ } = self;
+        let Self {
+            slots: _,
+            layout: _,
+            below: _,
+        } = self;
     }
 }
 
 impl<S: Shape, T: Drop> LevelTables<S, T> {
     // Makes the tables of a level above these, or finds no memory.
     fn open(alloc: Global, below: T) -> Result<LevelTables<S, T>, AllocError> {
-        let here = Rc::new(alloc, SlotTables::open(alloc)?)?;
-        Ok(LevelTables { here, below })
+        let slots = Rc::new(alloc, SlotTables::open(alloc)?)?;
+        let layout = Rc::new(alloc, Layout::open(alloc)?)?;
+        Ok(LevelTables {
+            slots,
+            layout,
+            below,
+        })
     }
 }
 
@@ -62,10 +94,10 @@ pub trait ChainTx: Tx {
     /// Its nodes are of the kind of their frames: with stores where the frame has control copies, and else without.
     ghost fits: { Type 0 };
 
-    /// The tables of its levels' slots, which all nodes of a level share.
+    /// The layouts of its levels' frames, which all nodes of a level share.
     type Tables: Drop;
 
-    /// Makes these tables, or finds no memory.
+    /// Makes these layouts, or finds no memory.
     fn tables(alloc: Global) -> Result<Self::Tables, AllocError>;
 
     /// Makes it, with no bit made, or finds no memory. `path` is its place, where it is a
@@ -172,15 +204,15 @@ impl<S: Shape, C: ChainTx> ChainTx for Node<S, C> {
 
     ghost read_evenly = { (λ stores. S.reads_evenly, C.read_evenly) };
 
-    type Tables = LevelTables<S, C::Tables>;
+    type Tables = LevelLayouts<S, C::Tables>;
 
-    fn tables(alloc: Global) -> Result<LevelTables<S, C::Tables>, AllocError> {
-        LevelTables::open(alloc, C::tables(alloc)?)
+    fn tables(alloc: Global) -> Result<LevelLayouts<S, C::Tables>, AllocError> {
+        LevelLayouts::open(alloc, C::tables(alloc)?)
     }
 
     fn open(
         alloc: Global,
-        tables: &LevelTables<S, C::Tables>,
+        tables: &LevelLayouts<S, C::Tables>,
         path: Path,
         next: &mut u32,
     ) -> Result<Self, AllocError> {
@@ -198,21 +230,20 @@ impl<S: Shape, C: ChainTx> ChainTx for Locked<S, C> {
 
     ghost read_evenly = { (λ stores. S.reads_evenly, C.read_evenly) };
 
-    type Tables = LevelTables<S, C::Tables>;
+    type Tables = LevelLayouts<S, C::Tables>;
 
-    fn tables(alloc: Global) -> Result<LevelTables<S, C::Tables>, AllocError> {
-        LevelTables::open(alloc, C::tables(alloc)?)
+    fn tables(alloc: Global) -> Result<LevelLayouts<S, C::Tables>, AllocError> {
+        LevelLayouts::open(alloc, C::tables(alloc)?)
     }
 
     fn open(
         alloc: Global,
-        tables: &LevelTables<S, C::Tables>,
+        tables: &LevelLayouts<S, C::Tables>,
         path: Path,
         next: &mut u32,
     ) -> Result<Self, AllocError> {
         let children = open_tributaries::<S, C>(alloc, &tables.below, path, next)?;
-        let queue = vec![in alloc; false; S::LOW as usize]?;
-        Ok(Locked::new(path, tables.here.clone()?, queue, children))
+        Locked::open(alloc, path, tables.here.clone()?, children)
     }
 }
 
@@ -255,6 +286,12 @@ impl<S: Shape, C: ChainRx> ChainRx for RxNode<S, C> {
         for trib in 0..S::TRIBS {
             children.push(C::open(alloc, &tables.below, child_path(path, trib), next)?)?;
         }
-        RxNode::open(alloc, path, tables.here.clone()?, children)
+        RxNode::open(
+            alloc,
+            path,
+            tables.slots.clone()?,
+            tables.layout.clone()?,
+            children,
+        )
     }
 }

@@ -30,7 +30,7 @@ impl Model for Schedule {
 }
 
 impl Schedule {
-    ghost use Rattle.std.specs.Prelude.{◌≡◌, ℕ, ◌<◌, ◌≤◌, ◌*◌, List, [], All, IsNone, IsSome, IfSome, IfOk, Ok, Some, option_map, length};
+    ghost use Rattle.std.specs.Prelude.{◌≡◌, ℕ, ◌<◌, ◌≤◌, ◌*◌, List, [], All, IsNone, IsSome, IfSome, IfOk, Ok, Some, option_map, length, slice_index};
     ghost use Rattle.pdh_shape.specs.Frame.{FrameShape};
     ghost use Rattle.pdh_shape.specs.declared.place.Level.{Level};
     ghost use Rattle.pdh_line.specs.Progress.{arrived};
@@ -80,6 +80,19 @@ impl Schedule {
         ensures most { result ≤ len_at self.now.levels (steps_of node.now) }
     {
         self.tree.table_of(node).count(frame, usize::from(trib))
+    }
+
+    /// How many bits of each tributary that has a store arrive in a frame.
+    pub fn counts(&self, node: &Path, frame: u64) -> &[u32]
+        requires node { IsSome (level_at self.now.levels (steps_of node.now)) }
+        requires scheduled { frame < frame_count self.now.rows (steps_of node.now) }
+        ensures len { length result.now ≡ stores_at self.now.levels (steps_of node.now) }
+        ensures value { (trib : ℕ) → trib < stores_at self.now.levels (steps_of node.now)
+            → slice_index result.now trib ≡ counts self.now.rows (steps_of node.now) trib frame }
+        ensures most { (trib : ℕ) → trib < stores_at self.now.levels (steps_of node.now)
+            → slice_index result.now trib ≤ len_at self.now.levels (steps_of node.now) }
+    {
+        self.tree.table_of(node).counts_in(frame)
     }
 
     /// How many bits of a tributary, counted from 0, arrive in the first frames.

@@ -47,6 +47,7 @@ in_blocks plan overhead inverted duty service = record {
   tribs = plan.tribs;
   copies = plan.copies;
   low = plan.low;
+  signal = 0;
   role = block_role plan overhead;
   mark = block_mark plan overhead;
   inverted = inverted;

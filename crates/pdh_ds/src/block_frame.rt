@@ -24,7 +24,7 @@ pub struct BlockFrame<P> {
 impl<P: InBlocks> Shape for BlockFrame<P> {
     ghost use Rattle.std.specs.Prelude.{refl};
     ghost use Rattle.pdh_ds.specs.Blocks.{in_blocks};
-    ghost use Rattle.pdh_shape.specs.laws.LawsOfTest.{laws-is_frame, laws-has_marks, laws-has_tributaries, laws-reads_evenly};
+    ghost use Rattle.pdh_shape.specs.laws.LawsOfTest.{laws-is_frame, laws-has_marks, laws-has_signal, laws-has_tributaries, laws-reads_evenly, laws-in_turn};
 
     ghost shape = { in_blocks P.PLAN P.overhead P.inverted P.duty P.service };
 
@@ -43,6 +43,10 @@ impl<P: InBlocks> Shape for BlockFrame<P> {
     ghost LOW = { P.PLAN.low };
 
     const LOW: u32 = P::PLAN.low;
+
+    ghost SIGNAL = { 0 };
+
+    const SIGNAL: u32 = 0;
 
     fn role(slot: u32) -> Role {
         block_role::<P>(slot)
@@ -76,11 +80,17 @@ impl<P: InBlocks> Shape for BlockFrame<P> {
 
     ghost low_is = { refl };
 
+    ghost signal_is = { refl };
+
     ghost is_frame = { laws-is_frame (in_blocks P.PLAN P.overhead P.inverted P.duty P.service) P.lawful };
 
     ghost has_marks = { laws-has_marks (in_blocks P.PLAN P.overhead P.inverted P.duty P.service) P.lawful };
 
+    ghost has_signal = { laws-has_signal (in_blocks P.PLAN P.overhead P.inverted P.duty P.service) P.lawful };
+
     ghost has_tributaries = { laws-has_tributaries (in_blocks P.PLAN P.overhead P.inverted P.duty P.service) P.lawful };
 
     ghost reads_evenly = { laws-reads_evenly (in_blocks P.PLAN P.overhead P.inverted P.duty P.service) P.lawful };
+
+    ghost in_turn = { laws-in_turn (in_blocks P.PLAN P.overhead P.inverted P.duty P.service) P.lawful };
 }

@@ -1,4 +1,4 @@
-mod ListSteps
+pub mod ListSteps
 pub mod Runs
 pub mod Rooms
 pub mod Holding

@@ -1,15 +1,16 @@
 -- Bits of one list.
-use Rattle.std.specs.Global.{Vec}
-use Rattle.std.proofs.Common.{◌≡◌, inl, inr, ℕ, zero, suc, ◌+◌, ◌-◌, ◌<◌, take, Bool, List, [], ◌∷◌, ◌++◌, length, map, get_or, ◌≤◌, append_assoc, cond, refl, sym, ◌∙◌, ap, subst, arith, Option, Some, None, slice_get, slice_set}
+use Rattle.pdh_bits.specs.BitOut.{BoundedBits}
+use Rattle.std.proofs.Common.{◌≡◌, inl, inr, ◌⊎◌, ℕ, zero, suc, ◌+◌, ◌-◌, ◌<◌, take, Bool, List, [], ◌∷◌, ◌++◌, length, map, get_or, ◌≤◌, append_assoc, cond, refl, sym, ◌∙◌, ap, subst, arith, Option, Some, None, slice_get, slice_set}
 use Rattle.std.specs.Prelude.{IsTrue, nat_lt}
 use Rattle.std.proofs.lemmas.Bool.{cases_eq, ne_eqb, eq-eqb, ltb-true, lt-ltb}
-use Rattle.std.proofs.lemmas.List.{append-nil, length-append, length-map, length-set, map-set, length-take-le, get_or-map, get_or-set_same, get_or-set_other}
+use Rattle.std.proofs.lemmas.List.{append-nil, length-append, length-map, length-set, map-set, get_or-map, get_or-set_same, get_or-set_other}
 use Rattle.std.proofs.lemmas.Option.{slice_get-map}
 use Rattle.std.specs.Option.{option_map}
 use Rattle.pdh_edge.specs.Ports.{Takes, Puts, PutsPart, PrefixOf, for_leaf, before, after}
-use Rattle.pdh_edge.specs.MemLists.{length_of, inputs_of, outputs_of, mem_outputs, items_of, capacity_of, bits_held, room_in, IsFull, room_left, PutInRoom, PutAllInRoom, IsRefused, IsCutShort, StaysInRoom}
+use Rattle.pdh_edge.specs.MemLists.{length_of, inputs_of, outputs_of, mem_outputs, items_of, bits_held, room_in, IsFull, room_left, PutInRoom, PutAllInRoom, IsRefused, IsCutShort, StaysInRoom}
 use Rattle.pdh_edge.specs.Counts.{one_more}
-use Rattle.pdh_edge.proofs.Rooms.{map_set_same}
+use Rattle.pdh_packed.specs.Words.{bounded}
+use Rattle.pdh_edge.proofs.Rooms.{capacity_of, map_set_same}
 
 get_set_same : {C : Type 0} (xs : List C) (i : ℕ) (y : C) → i < length xs → slice_get (slice_set xs i y) i ≡ Some y
 get_set_same [] i y h = absurd (omega arith)
@@ -126,19 +127,19 @@ within_lists f xs k h =
 -- ---- the room of a list
 
 -- the room of a list that is held
-pub room_at : (lists : List (Vec Bool)) (i : ℕ) (d : Vec Bool) → i < length lists → room_in lists i ≡ capacity_of (get_or lists i d)
+pub room_at : (lists : List BoundedBits) (i : ℕ) (d : BoundedBits) → i < length lists → room_in lists i ≡ capacity_of (get_or lists i d)
 room_at lists i d h = get_or-map capacity_of lists i d 0 h
 
-pub room_now : (lists : List (Vec Bool)) (i : ℕ) (y : Vec Bool) → i < length lists → room_in (slice_set lists i y) i ≡ capacity_of y
+pub room_now : (lists : List BoundedBits) (i : ℕ) (y : BoundedBits) → i < length lists → room_in (slice_set lists i y) i ≡ capacity_of y
 room_now lists i y h =
     room_at (slice_set lists i y) i y (omega (arith, length-set lists i y, h)) ∙ ap capacity_of (get_or-set_same lists i y y h)
 
 -- a list is changed, and its room stays
-pub room_same : (lists : List (Vec Bool)) (i : ℕ) (y d : Vec Bool) → i < length lists → capacity_of y ≡ capacity_of (get_or lists i d) → (k : ℕ) → room_in (slice_set lists i y) k ≡ room_in lists k
+pub room_same : (lists : List BoundedBits) (i : ℕ) (y d : BoundedBits) → i < length lists → capacity_of y ≡ capacity_of (get_or lists i d) → (k : ℕ) → room_in (slice_set lists i y) k ≡ room_in lists k
 room_same lists i y d h same k = ap (λ rooms. get_or rooms k 0) (map_set_same capacity_of lists i y d h same)
 
 -- its room grows
-pub room_grows : (lists : List (Vec Bool)) (i : ℕ) (y d : Vec Bool) → i < length lists → capacity_of (get_or lists i d) ≤ capacity_of y → (k : ℕ) → room_in lists k ≤ room_in (slice_set lists i y) k
+pub room_grows : (lists : List BoundedBits) (i : ℕ) (y d : BoundedBits) → i < length lists → capacity_of (get_or lists i d) ≤ capacity_of y → (k : ℕ) → room_in lists k ≤ room_in (slice_set lists i y) k
 room_grows lists i y d h more k =
     let rooms : List ℕ = map capacity_of lists in
     let long : length rooms ≡ length lists = length-map lists capacity_of in
@@ -152,14 +153,14 @@ room_grows lists i y d h more k =
     ]
 
 -- how many bits it holds
-pub held_at : (lists : List (Vec Bool)) (i : ℕ) (y : Vec Bool) → slice_get lists i ≡ Some y → bits_held (mem_outputs lists) i ≡ length (items_of y)
+pub held_at : (lists : List BoundedBits) (i : ℕ) (y : BoundedBits) → slice_get lists i ≡ Some y → bits_held (mem_outputs lists) i ≡ length (items_of y)
 held_at lists i y here = ap length_of (slice_get-map items_of lists i ∙ ap (option_map items_of) here)
 
-pub held_now : (lists : List (Vec Bool)) (i : ℕ) (y : Vec Bool) → i < length lists → bits_held (mem_outputs (slice_set lists i y)) i ≡ length (items_of y)
+pub held_now : (lists : List BoundedBits) (i : ℕ) (y : BoundedBits) → i < length lists → bits_held (mem_outputs (slice_set lists i y)) i ≡ length (items_of y)
 held_now lists i y h = held_at (slice_set lists i y) i y (get_set_same lists i y h)
 
 -- no list holds fewer bits
-pub held_grows : (lists : List (Vec Bool)) (i : ℕ) (y d : Vec Bool) → i < length lists → slice_get lists i ≡ Some d → length (items_of d) ≤ length (items_of y) → (k : ℕ) → bits_held (mem_outputs lists) k ≤ bits_held (mem_outputs (slice_set lists i y)) k
+pub held_grows : (lists : List BoundedBits) (i : ℕ) (y d : BoundedBits) → i < length lists → slice_get lists i ≡ Some d → length (items_of d) ≤ length (items_of y) → (k : ℕ) → bits_held (mem_outputs lists) k ≤ bits_held (mem_outputs (slice_set lists i y)) k
 held_grows lists i y d h here more k = elim (cases_eq k i) [
   | inl same ↦
       let old : bits_held (mem_outputs lists) k ≡ length (items_of d) = ap (bits_held (mem_outputs lists)) same ∙ held_at lists i d here in
@@ -174,76 +175,90 @@ held_grows lists i y d h here more k = elim (cases_eq k i) [
 -- ---- a put
 
 -- the leaves stay the same
-pub same_holds : (lists : List (Vec Bool)) (i : ℕ) (y : Vec Bool) → (mem_outputs (slice_set lists i y)).holds ≡ (mem_outputs lists).holds
+pub same_holds : (lists : List BoundedBits) (i : ℕ) (y : BoundedBits) → (mem_outputs (slice_set lists i y)).holds ≡ (mem_outputs lists).holds
 same_holds lists i y = ap (λ n k. nat_lt k n) (length-map (slice_set lists i y) items_of ∙ length-set lists i y ∙ sym (length-map lists items_of))
 
-module _ (lists : List (Vec Bool)) (i : ℕ) (old : Vec Bool) (within : i < length lists) (here : slice_get lists i ≡ Some old) where
+-- bits are appended to a list, or none
+module _ (lists : List BoundedBits) (i : ℕ) (old new : BoundedBits) (bits : List Bool) (within : i < length lists) (here : slice_get lists i ≡ Some old) (grown : new ≡ record old { bits = old.bits ++ bits }) where
+  many : i < length (map items_of lists)
+  many = omega (arith, length-map lists items_of, within)
+
+  bits_here : slice_get (map items_of lists) i ≡ Some old.bits
+  bits_here = slice_get-map items_of lists i ∙ ap (option_map items_of) here
+
+  bits_now : map items_of (slice_set lists i new) ≡ slice_set (map items_of lists) i (old.bits ++ bits)
+  bits_now = map-set items_of lists i new ∙ ap (λ (list : BoundedBits). slice_set (map items_of lists) i list.bits) grown
+
   old_at : get_or lists i old ≡ old
   old_at = get_or_found lists i old here
 
-  -- the list has room for a bit more
-  pub had_room : (faults : ℕ) → length (items_of old) < capacity_of old → PutInRoom i lists faults faults
-  had_room faults room = record {
-    room = omega (arith, held_at lists i old here, room_at lists i old within, ap capacity_of old_at);
-    uncounted = refl;
-  }
+  same_room : capacity_of new ≡ capacity_of (get_or lists i old)
+  same_room = ap capacity_of grown ∙ sym (ap capacity_of old_at)
 
-  pub put_stays : (new : Vec Bool) (bits : List Bool) (faults : ℕ) → items_of new ≡ items_of old ++ bits → capacity_of new ≡ capacity_of old → StaysInRoom lists (slice_set lists i new) faults faults
-  put_stays new bits faults more same = record {
-    rooms = room_same lists i new old within (same ∙ sym (ap capacity_of old_at));
-    grows = held_grows lists i new old within here (omega (arith, ap length more, length-append (items_of old) bits));
-    counted = inl refl;
-  }
+  longer : length (items_of new) ≡ length (items_of old) + length bits
+  longer = ap (λ (list : BoundedBits). length list.bits) grown ∙ length-append old.bits bits
 
-  -- the list has room for so many bits more
-  pub had_room_for : (count faults : ℕ) → length (items_of old) + count ≤ capacity_of old → PutAllInRoom i count lists faults faults
-  had_room_for count faults room = record {
-    room = omega (arith, held_at lists i old here, room_at lists i old within, ap capacity_of old_at);
-    uncounted = refl;
-  }
+  pub was_put : Puts (for_leaf i bits) (mem_outputs lists) (mem_outputs (slice_set lists i new))
+  was_put = subst (λ now. Puts (for_leaf i bits) (mem_outputs lists) (outputs_of now)) (sym bits_now) (puts_last (map items_of lists) i bits old.bits many bits_here)
 
-  left_here : room_left lists i ≡ capacity_of old - length (items_of old)
-  left_here = omega (arith, held_at lists i old here, room_at lists i old within, ap capacity_of old_at)
+  pub part_put : (rest : List Bool) → PutsPart (for_leaf i (bits ++ rest)) (mem_outputs lists) (mem_outputs (slice_set lists i new))
+  part_put rest = subst (λ now. PutsPart (for_leaf i (bits ++ rest)) (mem_outputs lists) (outputs_of now)) (sym bits_now) (puts_some (map items_of lists) i bits rest old.bits many bits_here)
 
-  -- it took as many bits as it had room for, and not all
-  pub was_cut_short : (new : Vec Bool) (bits : List Bool) (faults now : ℕ) → items_of new ≡ items_of old ++ take (capacity_of old - length (items_of old)) bits
-      → capacity_of old < length (items_of old) + length bits → now ≡ one_more faults → IsCutShort i bits lists (slice_set lists i new) faults now
-  was_cut_short new bits faults now more few counted = record {
-    few = omega (arith, few, held_at lists i old here, room_at lists i old within, ap capacity_of old_at);
-    part =
-        let put : List Bool = take (room_left lists i) bits in
-        let all : items_of new ≡ items_of old ++ put = more ∙ ap (λ n. items_of old ++ take n bits) (sym left_here) in
-        subst (λ l. Puts (for_leaf i put) (mem_outputs lists) (outputs_of l)) (sym (map-set items_of lists i new ∙ ap (slice_set (map items_of lists) i) all))
-        (puts_last (map items_of lists) i put (items_of old) (omega (arith, length-map lists items_of, within)) (slice_get-map items_of lists i ∙ ap (option_map items_of) here));
+  stays : (faults now : ℕ) → (now ≡ faults) ⊎ ((k : ℕ) × IsTrue ((mem_outputs (slice_set lists i new)).holds k) × IsFull (slice_set lists i new) k) → StaysInRoom lists (slice_set lists i new) faults now
+  stays faults now counted = record {
+    rooms = room_same lists i new old within same_room;
+    grows = held_grows lists i new old within here (omega (arith, longer));
     counted = counted;
   }
 
-  pub cut_short_stays : (new : Vec Bool) (bits : List Bool) (faults now : ℕ) → items_of new ≡ items_of old ++ take (capacity_of old - length (items_of old)) bits → capacity_of new ≡ capacity_of old
-      → capacity_of old < length (items_of old) + length bits → StaysInRoom lists (slice_set lists i new) faults now
-  cut_short_stays new bits faults now more same few =
-      let rest : ℕ = capacity_of old - length (items_of old) in
-      let long : length (items_of new) ≡ length (items_of old) + rest = ap length more ∙ length-append (items_of old) (take rest bits) ∙ ap (λ n. length (items_of old) + n) (length-take-le rest bits (omega (arith, few))) in
+  pub put_stays : (faults : ℕ) → StaysInRoom lists (slice_set lists i new) faults faults
+  put_stays faults = stays faults faults (inl refl)
+
+  -- and the list is full then
+  pub full_stays : (faults now : ℕ) → capacity_of old ≤ length (items_of old) + length bits → StaysInRoom lists (slice_set lists i new) faults now
+  full_stays faults now full =
       let held : bits_held (mem_outputs (slice_set lists i new)) i ≡ length (items_of new) = held_now lists i new within in
       let room : room_in (slice_set lists i new) i ≡ capacity_of new = room_now lists i new within in
-      record {
-        rooms = room_same lists i new old within (same ∙ sym (ap capacity_of old_at));
-        grows = held_grows lists i new old within here (omega (arith, long));
-        counted = inr (i, lt-ltb i (length (map items_of (slice_set lists i new))) (omega (arith, length-map (slice_set lists i new) items_of, length-set lists i new, within)), omega (arith, held, room, long, same));
-      }
+      stays faults now (inr (
+        i,
+        lt-ltb i (length (map items_of (slice_set lists i new))) (omega (arith, length-map (slice_set lists i new) items_of, length-set lists i new, within)),
+        omega (arith, held, room, longer, ap capacity_of grown, full),
+      ))
+
+module _ (lists : List BoundedBits) (i : ℕ) (old : BoundedBits) (within : i < length lists) (here : slice_get lists i ≡ Some old) where
+  held_here : bits_held (mem_outputs lists) i ≡ length (items_of old)
+  held_here = held_at lists i old here
+
+  room_here : room_in lists i ≡ capacity_of old
+  room_here = room_at lists i old within ∙ ap capacity_of (get_or_found lists i old here)
+
+  -- the list has room for a bit more
+  pub had_room : (faults : ℕ) → length (items_of old) < capacity_of old → PutInRoom i lists faults faults
+  had_room faults room = record { room = omega (arith, held_here, room_here, room); uncounted = refl }
+
+  -- the list has room for so many bits more
+  pub had_room_for : (count faults : ℕ) → length (items_of old) + count ≤ capacity_of old → PutAllInRoom i count lists faults faults
+  had_room_for count faults room = record { room = omega (arith, held_here, room_here, room); uncounted = refl }
 
   -- it is full
-  is_full : capacity_of old ≤ length (items_of old) → IsFull lists i
-  is_full full = omega (arith, held_at lists i old here, room_at lists i old within, ap capacity_of old_at)
-
-  refused_same : slice_set lists i old ≡ lists
-  refused_same = set_found lists i old here
+  pub nothing_put : old ≡ record old { bits = old.bits ++ [] }
+  nothing_put = ap (bounded old.capacity) (sym (append-nil old.bits))
 
   pub was_refused : (faults now : ℕ) → capacity_of old ≤ length (items_of old) → now ≡ one_more faults → IsRefused i lists (slice_set lists i old) faults now
-  was_refused faults now full counted = record { full = is_full full; same = ap mem_outputs refused_same; counted = counted }
+  was_refused faults now full counted = record {
+    full = omega (arith, held_here, room_here, full);
+    same = ap mem_outputs (set_found lists i old here);
+    counted = counted;
+  }
 
-  pub refused_stays : (faults now : ℕ) → capacity_of old ≤ length (items_of old) → StaysInRoom lists (slice_set lists i old) faults now
-  refused_stays faults now full = subst (λ l. StaysInRoom lists l faults now) (sym refused_same) (record {
-    rooms = λ k. refl;
-    grows = λ k. omega arith;
-    counted = inr (i, lt-ltb i (length (map items_of lists)) (omega (arith, length-map lists items_of, within)), is_full full);
-  })
+  -- it took as many bits as it had room for, and not all
+  pub was_cut_short : (new : BoundedBits) (bits : List Bool) (put faults now : ℕ) → put ≡ capacity_of old - length (items_of old) → put < length bits → new ≡ record old { bits = old.bits ++ take put bits }
+      → now ≡ one_more faults → IsCutShort i bits lists (slice_set lists i new) faults now
+  was_cut_short new bits put faults now is few grown counted =
+      let left : put ≡ room_left lists i = omega (arith, held_here, room_here, is) in
+      record {
+        few = omega (arith, held_here, room_here, is, few);
+        part = subst (λ (n : ℕ). Puts (for_leaf i (take n bits)) (mem_outputs lists) (mem_outputs (slice_set lists i new))) left
+            (was_put lists i old new (take put bits) within here grown);
+        counted = counted;
+      }

@@ -1,16 +1,17 @@
-ghost use Rattle.std.specs.Prelude.{◌≡◌, ◌≤◌, ◌+◌, ◌-◌, ◌++◌, min, take, drop, vec_capacity, ℕ, Bool, true, IsTrue, List, [], length, map, replicate, slice_get, Some, IfOk, OnOk, OnErr};
+ghost use Rattle.std.specs.Prelude.{◌≡◌, ◌≤◌, ◌+◌, ℕ, Bool, true, IsTrue, List, [], length, map, replicate, slice_get, Some, IfOk, OnOk, OnErr};
 ghost use Rattle.std.proofs.Common.{refl, ◌∙◌, arith, ap};
 ghost use Rattle.pdh_edge.specs.Ports.{Puts, PutsPart, HasCause, only, for_leaf};
 ghost use Rattle.pdh_edge.specs.MemLists.{inputs_of, outputs_of, mem_inputs, mem_outputs, items_of, length_of, bits_held, room_of, PutInRoom, IsRefused, PutAllInRoom, IsCutShort, KeepsReady, StaysInRoom};
 ghost use Rattle.pdh_edge.specs.laws.InRoom.{stays_same, stays_join, stays_alike};
 
 use crate::{Drain, Failed, Feed, FeedStop, Port};
+use pdh_packed::Packed;
 use std::alloc::{AllocError, Global};
 
 // A list of bits to give, of which so many were given.
 #[derive(Drop)]
 struct InputList {
-    bits: Vec<bool>,
+    bits: Packed,
     given: usize,
 }
 
@@ -20,14 +21,14 @@ struct InputList {
 #[derive(Drop)]
 pub struct MemPort {
     inputs: Vec<InputList>,
-    outputs: Vec<Vec<bool>>,
+    outputs: Vec<Packed>,
     faults: u64,
     fresh: bool,
     ready: bool,
 }
 
 // The lists to give, of which nothing was given.
-fn input_lists(alloc: Global, lists: Vec<Vec<bool>>) -> Result<Vec<InputList>, AllocError>
+fn input_lists(alloc: Global, lists: Vec<Packed>) -> Result<Vec<InputList>, AllocError>
     ensures { IfOk result (λ inputs. mem_inputs inputs.items
         ≡ inputs_of (map items_of lists.items)) }
 {
@@ -39,44 +40,20 @@ fn input_lists(alloc: Global, lists: Vec<Vec<bool>>) -> Result<Vec<InputList>, A
 }
 
 // So many empty lists.
-fn empty_lists(alloc: Global, lists: u32) -> Result<Vec<Vec<bool>>, AllocError>
+fn empty_lists(alloc: Global, lists: u32) -> Result<Vec<Packed>, AllocError>
     ensures { IfOk result (λ outputs. map items_of outputs.items ≡ replicate lists []) }
 {
     let mut outputs = Vec::with_capacity(alloc, lists as usize)?;
     for _list in 0..lists {
-        outputs.push(Vec::new(alloc))?;
+        outputs.push(Packed::open(alloc, 0)?)?;
     }
     Ok(outputs)
-}
-
-// Copies as many bits of a list as there are from a place on and fit, and answers their number.
-fn copy_front(bits: &[bool], from: usize, into: &mut [bool]) -> usize
-    requires { from ≤ length bits.now }
-    ensures count { result ≡ min (length into.old) (length bits.now - from) }
-    ensures copied { into.new ≡ take result (drop from bits.now) ++ drop result into.old }
-{
-    let count = into.len().min(bits.len() - from);
-    into[..count].copy_from_slice(&bits[from..from + count]);
-    count
-}
-
-// Appends as many bits as a list has room for, takes no memory, and answers their number.
-fn append_in_room(list: &mut Vec<bool>, bits: &[bool]) -> usize
-    ensures count { result ≡ min (length bits.now) (vec_capacity list.old - length list.old.items) }
-    ensures items { list.new.items ≡ list.old.items ++ take result bits.now }
-    ensures capacity { vec_capacity list.new ≡ vec_capacity list.old }
-{
-    let count = bits.len().min(list.capacity() - list.len());
-    for bit in &bits[..count] {
-        list.push_reserved(*bit);
-    }
-    count
 }
 
 impl MemPort {
     /// A fresh port that gives these lists, one for each leaf from 0 on, and takes bits into so many
     /// lists, which are empty; or the refusal of memory for them.
-    pub fn open(alloc: Global, inputs: Vec<Vec<bool>>, outputs: u32) -> Result<MemPort, AllocError>
+    pub fn open(alloc: Global, inputs: Vec<Packed>, outputs: u32) -> Result<MemPort, AllocError>
         ensures inputs { IfOk result (λ port. ⟦<MemPort as Feed>⟧.inputs port
             ≡ inputs_of (map items_of inputs.items)) }
         ensures outputs { IfOk result (λ port. ⟦<MemPort as Drain>⟧.outputs port
@@ -111,9 +88,9 @@ impl MemPort {
     }
 
     /// What a leaf's list took.
-    pub fn output(&self, leaf: u32) -> &[bool]
+    pub fn output(&self, leaf: u32) -> &Packed
         requires { IsTrue ((⟦<MemPort as Drain>⟧.outputs self.now).holds leaf) }
-        ensures { (⟦<MemPort as Drain>⟧.outputs self.now).told leaf ≡ Some result.now }
+        ensures { (⟦<MemPort as Drain>⟧.outputs self.now).told leaf ≡ Some result.now.bits }
     {
         &self.outputs[leaf as usize]
     }
@@ -147,15 +124,17 @@ impl Feed for MemPort {
         if list.given >= list.bits.len() {
             return Err(FeedStop::Ended);
         }
-        let bit = list.bits[list.given];
+        let bit = list.bits.get(list.given);
         list.given += 1;
         Ok(bit)
     }
 
-    fn bits(&mut self, leaf: u32, into: &mut [bool]) -> Result<usize, FeedStop> {
+    #[inline(always)]
+    fn bits(&mut self, leaf: u32, most: usize, into: &mut Packed) -> Result<usize, FeedStop> {
         let list = &mut self.inputs[leaf as usize];
         if list.given < list.bits.len() {
-            let count = copy_front(&list.bits, list.given, into);
+            let count = most.min(list.bits.len() - list.given);
+            into.append_from(&list.bits, list.given, count);
             list.given += count;
             return Ok(count);
         }
@@ -211,28 +190,28 @@ impl Drain for MemPort {
         self.fresh = false;
         let list = &mut self.outputs[leaf as usize];
         if list.len() < list.capacity() {
-            list.push_reserved(bit);
+            list.push(bit);
             return Ok(());
         }
         self.faults = self.faults.saturating_add(1);
         Err(Failed)
     }
 
-    fn put_all(&mut self, leaf: u32, bits: &[bool]) -> Result<(), Failed>
+    fn put_all(&mut self, leaf: u32, bits: &Packed) -> Result<(), Failed>
         requires { IsTrue ((mem_outputs self.old.outputs.items).holds leaf) }
-        ensures ok { OnOk result (Puts (for_leaf leaf bits.now)
+        ensures ok { OnOk result (Puts (for_leaf leaf bits.now.bits)
             (mem_outputs self.old.outputs.items) (mem_outputs self.new.outputs.items)) }
-        ensures err { OnErr result (PutsPart (for_leaf leaf bits.now)
+        ensures err { OnErr result (PutsPart (for_leaf leaf bits.now.bits)
             (mem_outputs self.old.outputs.items) (mem_outputs self.new.outputs.items)) }
         ensures cause { HasCause self.old.faults self.new.faults result }
         ensures drained { ⟦<MemPort as Drain>⟧.drained self.old self.new }
-        ensures put { OnOk result (PutAllInRoom leaf (length bits.now) self.old.outputs.items
+        ensures put { OnOk result (PutAllInRoom leaf (length bits.now.bits) self.old.outputs.items
             self.old.faults self.new.faults) }
-        ensures refused { OnErr result (IsCutShort leaf bits.now self.old.outputs.items
+        ensures refused { OnErr result (IsCutShort leaf bits.now.bits self.old.outputs.items
             self.new.outputs.items self.old.faults self.new.faults) }
     {
         self.fresh = false;
-        let put = append_in_room(&mut self.outputs[leaf as usize], bits);
+        let put = self.outputs[leaf as usize].append_some(bits, 0);
         if put < bits.len() {
             self.faults = self.faults.saturating_add(1);
             return Err(Failed);

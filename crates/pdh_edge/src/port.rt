@@ -1,8 +1,10 @@
-ghost use Rattle.std.specs.Prelude.{◌≡◌, ◌≤◌, ◌<◌, ◌-◌, ◌^◌, ℕ, Bool, List, length, take, min, Some, IsTrue, IfOk, OnOk, OnErr, IsErrOf};
+ghost use Rattle.std.specs.Prelude.{◌≡◌, ◌≤◌, ◌<◌, ◌+◌, ◌-◌, ◌^◌, ℕ, Bool, List, length, min, Some, IsTrue, IfOk, OnOk, OnErr, IsErrOf};
+ghost use Rattle.pdh_packed.specs.Gaining.{gained, IsGrown};
 ghost use Rattle.pdh_edge.specs.declared.port.FeedStop.TheVariants.{Ended};
 ghost use Rattle.pdh_edge.specs.Ports.{Inputs, Outputs, Takes, Puts, PutsPart, HasCause, HasFeedCause, only, for_leaf, nothing};
 
 use crate::Failed;
+use pdh_packed::Packed;
 
 /// Why a leaf gives no bit.
 #[derive(Clone, Copy, Debug, PartialEq, Eq)]
@@ -40,20 +42,24 @@ pub trait Feed: Drop {
         ensures ended { IsErrOf result Ended → (inputs self.old).left leaf ≡ 0 }
         ensures fed { fed self.old self.new };
 
-    /// Takes next bits of a leaf's list into the front of `into`, at least one and as many as it has
-    /// room for at most, answers how many, and leaves the other lists. An error is one of `bit`.
-    fn bits(&mut self, leaf: u32, into: &mut [bool]) -> Result<usize, FeedStop>
+    /// Takes next bits of a leaf's list, at least one and at most so many, appends them to `into`,
+    /// answers how many, and leaves the other lists. An error is one of `bit`; it takes and appends
+    /// nothing.
+    fn bits(&mut self, leaf: u32, most: usize, into: &mut Packed) -> Result<usize, FeedStop>
         requires held { IsTrue ((inputs self.old).holds leaf) }
-        requires some { 0 < length into.old }
-        ensures count { IfOk result (λ count. (0 < count) × (count ≤ length into.old)) }
-        ensures ok { IfOk result (λ count. Takes (for_leaf leaf (take count into.new))
+        requires some { 0 < most }
+        requires room { length into.old.bits + most ≤ into.old.capacity }
+        ensures count { IfOk result (λ count. (0 < count) × (count ≤ most)) }
+        ensures grown { IfOk result (λ count. IsGrown into.old into.new count) }
+        ensures ok { IfOk result (λ count. Takes (for_leaf leaf (gained into.old into.new))
             (inputs self.old) (inputs self.new)) }
         ensures err { OnErr result (Takes nothing (inputs self.old) (inputs self.new)) }
+        ensures same { OnErr result (into.new ≡ into.old) }
         ensures cause { HasFeedCause (feed_faults self.old) (feed_faults self.new) result }
         ensures ended { IsErrOf result Ended → (inputs self.old).left leaf ≡ 0 }
         ensures fed { fed self.old self.new }
     {
-        into[0] = self.bit(leaf)?;
+        into.push(self.bit(leaf)?);
         Ok(1)
     }
 
@@ -105,16 +111,17 @@ pub trait Drain: Drop {
 
     /// Appends bits to a leaf's list and leaves the other lists. After a failure, at which the count
     /// of faults rose, each list is a prefix of what was put.
-    fn put_all(&mut self, leaf: u32, bits: &[bool]) -> Result<(), Failed>
+    fn put_all(&mut self, leaf: u32, bits: &Packed) -> Result<(), Failed>
         requires { IsTrue ((outputs self.old).holds leaf) }
-        ensures ok { OnOk result (Puts (for_leaf leaf bits.now) (outputs self.old) (outputs self.new)) }
+        ensures ok { OnOk result
+            (Puts (for_leaf leaf bits.now.bits) (outputs self.old) (outputs self.new)) }
         ensures err { OnErr result
-            (PutsPart (for_leaf leaf bits.now) (outputs self.old) (outputs self.new)) }
+            (PutsPart (for_leaf leaf bits.now.bits) (outputs self.old) (outputs self.new)) }
         ensures cause { HasCause (drain_faults self.old) (drain_faults self.new) result }
         ensures drained { drained self.old self.new }
     {
-        for bit in bits {
-            self.put(leaf, *bit)?;
+        for place in 0..bits.len() {
+            self.put(leaf, bits.get(place))?;
         }
         Ok(())
     }

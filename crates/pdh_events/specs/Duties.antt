@@ -8,7 +8,7 @@ use Rattle.pdh_shape.specs.declared.role.Role.TheVariants.{Service}
 use Rattle.pdh_shape.specs.declared.role.Duty.{Duty}
 use Rattle.pdh_shape.specs.declared.role.Duty.TheVariants.{Alarm, Parity, Feac, PathParity, Febe, Other}
 use Rattle.pdh_shape.specs.Frame.{FrameShape, slots, idle}
-use Rattle.pdh_slots.specs.Slots.{payload_ones}
+use Rattle.pdh_shape.specs.Payload.{payload_ones}
 use Rattle.pdh_cbit.specs.Feac.{answer_of}
 use Rattle.pdh_watch.specs.declared.kind.Kind.{Kind}
 use Rattle.pdh_watch.specs.declared.kind.TheConstants.Kind.{ALARM_ON, ALARM_OFF, PARITY, PATH_PARITY, FEBE, FEAC}

@@ -12,7 +12,7 @@ use Rattle.pdh_line.proofs.LeastLaws.{least_below_none}
 use Rattle.pdh_g706.specs.Frames.{frame_of, frames_of, is_confirmed, positions, is_found, aligned}
 use Rattle.pdh_g706.specs.Alignment.{loses, earlier, reaches, is_reached, begin, framed, multiframes, errs, is_errored, judged, errored_in, is_false, ends, is_ended, up_to_end, kept, resumes}
 use Rattle.pdh_g706.specs.Tracking.{Share, share_of, found_frames, is_over, one_search, after_search}
-use Rattle.pdh_g706.specs.Machine.{Phase, Fits, last_begin, IsSearching, IsAligned, InGroup, Describes, Turn, no_signs, nothing, loss_after, add_signs, still, last_bits, lost_turn, payload_from, frames_from, errs_in, each_errs, is_false_group, search_turn, framing, framing_turn, aligned_turn, group_phase, block_turn, framed_turn, unless_lost, turn}
+use Rattle.pdh_g706.specs.Machine.{Phase, Fits, last_begin, IsSearching, IsAligned, InGroup, Describes, Turn, no_signs, nothing, loss_after, add_signs, still, last_bits, lost_turn, errs_in, is_false_group, search_turn, framing, framing_turn, aligned_turn, group_phase, block_turn, framed_turn, unless_lost, turn}
 use Rattle.pdh_g706.specs.Machine.Phase.{Searching, Aligned, Framed}
 use Rattle.pdh_g706.proofs.FrameLists.{length_frames, frames_part, frames_whole, frames-drop}
 use Rattle.pdh_g706.proofs.SearchLaws.{is_found-append, aligned-append, short_search, search_short, search_long, search_confirmed, search_rejected}

@@ -14,6 +14,7 @@ ghost use Rattle.pdh_g706.specs.View.{phase, aligned_here, framed_here, block_he
 
 use crate::counts::{Counts, Group};
 use crate::held::{errs, first_multiframe, is_confirmed, loses, put_frames};
+use crate::payload::Payload;
 use crate::stage::Stage;
 use crate::tell::{judge, note_block, note_frames, note_loss};
 use circular_buffer::HeapCircularBuffer;
@@ -30,6 +31,8 @@ pub struct E1Align {
     stage: Stage,
     // 64 frames at most
     held: HeapCircularBuffer<bool>,
+    // that of the frame that was put last
+    payload: Payload,
     group: Group,
     counts: Counts,
     // the number of the next bit
@@ -63,6 +66,7 @@ impl E1Align {
         Ok(E1Align {
             stage: Stage::Searching,
             held: HeapCircularBuffer::with_capacity(alloc, 16384)?,
+            payload: Payload::open(alloc)?,
             group: Group::NONE,
             counts: Counts::NONE,
             bits: 0,
@@ -263,7 +267,7 @@ impl E1Align {
         let frames = self.held.len() / 256 - first;
         let whole = frames / 16;
         let blocks = frames / 8 - 1;
-        put_frames(&self.held, first, 16 * whole, drain)?;
+        put_frames(&self.held, first, 16 * whole, &mut self.payload, drain)?;
         note_kind(Kind::ALIGNED, TOP, self.bits, watch);
         let wrong = judge(&self.held, first, blocks, self.bits, watch);
         self.alarm = note_frames(&self.held, first, 8 * whole, self.alarm, self.bits, watch);
@@ -324,7 +328,7 @@ impl E1Align {
         let wrong = errs(&self.held, self.held.len() / 256 - 16);
         let group = self.group.with(wrong);
         if self.held.len() == 8192 {
-            put_frames(&self.held, 16, 16, drain)?;
+            put_frames(&self.held, 16, 16, &mut self.payload, drain)?;
             self.counts = self.counts.plus(1, 1, usize::from(wrong));
             note_block(wrong, self.bits, watch);
             self.alarm = note_frames(&self.held, 16, 8, self.alarm, self.bits, watch);

@@ -7,6 +7,7 @@ ghost use Rattle.pdh_g706.specs.Frames.{frames_of, has_signal as has_signal_in, 
 ghost use Rattle.pdh_g706.specs.Alignment.{loses as loses_in, has_multi as has_multi_in, earlier as earlier_in, reaches, sent_check as sent_check_in, errs as errs_in};
 ghost use Rattle.pdh_g706.specs.Machine.{payload_from};
 
+use crate::payload::Payload;
 use circular_buffer::HeapCircularBuffer;
 use pdh_e1::crc4;
 use pdh_edge::{Drain, Failed};
@@ -135,8 +136,8 @@ pub(crate) fn first_multiframe(held: &HeapCircularBuffer<bool>) -> Option<usize>
     Some(first)
 }
 
-// Copies out as many bits as fit, from one of those that are held on.
-fn copy_bits(held: &HeapCircularBuffer<bool>, start: usize, into: &mut [bool])
+/// Copies out as many bits as fit, from one of those that are held on.
+pub(crate) fn copy_bits(held: &HeapCircularBuffer<bool>, start: usize, into: &mut [bool])
     requires { start + length into.old ≤ length held.now.items }
     ensures { into.new ≡ take (length into.old) (drop start held.now.items) }
 {
@@ -177,10 +178,12 @@ pub(crate) fn errs(held: &HeapCircularBuffer<bool>, frame: usize) -> bool
 }
 
 /// Puts the payload of so many frames from this frame on to the drain: all their bits but the first eight of each.
+/// `payload` holds that of each frame on its way.
 pub(crate) fn put_frames<D: Drain>(
     held: &HeapCircularBuffer<bool>,
     frame: usize,
     count: usize,
+    payload: &mut Payload,
     drain: &mut D,
 ) -> Result<(), Failed>
     requires whole { 256 * frame + 256 * count ≤ length held.now.items }
@@ -194,10 +197,9 @@ pub(crate) fn put_frames<D: Drain>(
 {
     // a buffer's length is bounded, and so is each place in it
     let _held = held.len();
-    let mut bits = [false; 248];
     for number in 0..count {
-        copy_bits(held, 256 * (frame + number) + 8, &mut bits);
-        drain.put_all(0, &bits)?;
+        payload.load(held, 256 * (frame + number));
+        drain.put_all(0, payload.bits())?;
     }
     Ok(())
 }

@@ -5,6 +5,7 @@
 mod align;
 mod counts;
 mod held;
+mod payload;
 mod stage;
 mod tell;
 #[cfg(test)]

@@ -4,7 +4,7 @@ ghost use Rattle.std.specs.Prelude.{◌≡◌, ◌<◌, ◌+◌, Bool, List, IsT
 ghost use Rattle.pdh_g706.specs.View.{StandsFor};
 
 use crate::E1Align;
-use pdh_bits::{bits_of, bytes_of};
+use pdh_bits::bits_of;
 use pdh_e1::pack;
 use pdh_edge::{Drain, Failed, MemPort};
 use pdh_shape::TOP;
@@ -54,7 +54,7 @@ fn found(alloc: Global, line: &[u8]) -> Result<([u64; 3], Vec<u8>), Fail> {
     let mut port = port_for(alloc, bits.len())?;
     let mut align = E1Align::open(alloc)?;
     take_all(&mut align, &bits, &mut port)?;
-    let payload = bytes_of(alloc, port.output(0))?;
+    let payload = port.output(0).to_bytes(alloc)?;
     Ok((
         [align.multiframes(), align.blocks(), align.errored()],
         payload,

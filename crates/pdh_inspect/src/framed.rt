@@ -4,8 +4,8 @@ ghost use Rattle.pdh_g706.specs.Events.{e1_events};
 ghost use Rattle.pdh_inspect.specs.Seen.{SeesFramed};
 
 use crate::line_port::LinePort;
-use pdh_bits::bits_of;
 use pdh_g706::E1Align;
+use pdh_packed::Packed;
 use pdh_watch::{Members, Monitor, Watch};
 use std::alloc::{AllocError, Global};
 use std::mem;
@@ -20,13 +20,13 @@ pub struct FramedSeen {
 }
 
 // Gives a machine that has taken no bit the bits of a line, for a watch that sees its events. What it puts is let go.
-fn push_all<W: Watch>(align: &mut E1Align, bits: &[bool], port: &mut LinePort, watch: &mut W)
+fn push_all<W: Watch>(align: &mut E1Align, bits: &Packed, port: &mut LinePort, watch: &mut W)
     requires { StandsFor align.old [] }
-    ensures stands { StandsFor align.new bits.now }
-    ensures seen { W.saw watch.old (e1_events bits.now) watch.new }
+    ensures stands { StandsFor align.new bits.now.bits }
+    ensures seen { W.saw watch.old (e1_events bits.now.bits) watch.new }
 {
-    for bit in bits {
-        match align.push(*bit, port, watch) {
+    for place in 0..bits.len() {
+        match align.push(bits.get(place), port, watch) {
             Ok(()) => (),
             // No call of the port fails.
             Err(_) => unreachable!(),
@@ -44,9 +44,9 @@ pub fn inspect_framed<M: Monitor>(
     ensures ok { IfOk result (SeesFramed line.now (map M.state monitors.old.items) (map M.state monitors.new.items)) }
     ensures err { OnErr result (map M.state monitors.new.items ≡ map M.state monitors.old.items) }
 {
-    let bits = bits_of(alloc, line)?;
+    let bits = Packed::of_bytes(alloc, line)?;
     let mut align = E1Align::open(alloc)?;
-    let mut port = LinePort::new(Vec::new(alloc));
+    let mut port = LinePort::new(Packed::open(alloc, 0)?);
     let mut members = Members::new(mem::replace(monitors, Vec::new(alloc)));
     push_all(&mut align, &bits, &mut port, &mut members);
     let events = members.count();

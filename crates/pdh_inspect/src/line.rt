@@ -2,8 +2,8 @@ ghost use Rattle.std.specs.Prelude.{◌≡◌, ◌<◌, ◌^◌, length, map, If
 ghost use Rattle.pdh_inspect.specs.Seen.{SeesLine};
 
 use crate::line_port::LinePort;
-use pdh_bits::bits_of;
 use pdh_chain::{Chain, DemuxStop, demux};
+use pdh_packed::Packed;
 use pdh_watch::{Members, Monitor};
 use std::alloc::{AllocError, Global};
 use std::mem;
@@ -29,7 +29,7 @@ pub fn inspect_line<M: Monitor>(
     ensures ok { IfOk result (SeesLine chain line.now (map M.state monitors.old.items) (map M.state monitors.new.items)) }
     ensures err { OnErr result (map M.state monitors.new.items ≡ map M.state monitors.old.items) }
 {
-    let bits = bits_of(alloc, line)?;
+    let bits = Packed::of_bytes(alloc, line)?;
     let count = bits.len() as u64;
     let mut port = LinePort::new(bits);
     let mut members = Members::new(mem::replace(monitors, Vec::new(alloc)));

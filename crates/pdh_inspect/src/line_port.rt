@@ -4,12 +4,13 @@ ghost use Rattle.pdh_edge.specs.MemLists.{inputs_of, length_of};
 ghost use Rattle.pdh_inspect.specs.Ports.{all_lists};
 
 use pdh_edge::{Drain, Failed, Feed, FeedStop, Port};
+use pdh_packed::Packed;
 
 /// A port that gives the bits of one line as its list 0, and lets go of every bit that is put, so that no call fails. It takes
 /// no memory.
 #[derive(Drop)]
 pub struct LinePort {
-    bits: Vec<bool>,
+    bits: Packed,
     given: usize,
     fresh: bool,
     ready: bool,
@@ -17,8 +18,8 @@ pub struct LinePort {
 
 impl LinePort {
     /// A fresh port that gives the bits of this line.
-    pub fn new(bits: Vec<bool>) -> LinePort
-        ensures inputs { ⟦<LinePort as Feed>⟧.inputs result ≡ inputs_of (bits.items ∷ []) }
+    pub fn new(bits: Packed) -> LinePort
+        ensures inputs { ⟦<LinePort as Feed>⟧.inputs result ≡ inputs_of (bits.bits ∷ []) }
         ensures outputs { ⟦<LinePort as Drain>⟧.outputs result ≡ all_lists }
         ensures fresh { ⟦<LinePort as Port>⟧.fresh result }
     {
@@ -32,7 +33,7 @@ impl LinePort {
 }
 
 impl Feed for LinePort {
-    ghost inputs = { λ p. inputs_of (drop p.given p.bits.items ∷ []) };
+    ghost inputs = { λ p. inputs_of (drop p.given p.bits.bits ∷ []) };
 
     ghost feed_faults = { λ p. 0 };
 
@@ -56,9 +57,19 @@ impl Feed for LinePort {
         if self.given >= self.bits.len() {
             return Err(FeedStop::Ended);
         }
-        let bit = self.bits[self.given];
+        let bit = self.bits.get(self.given);
         self.given += 1;
         Ok(bit)
+    }
+
+    fn bits(&mut self, _leaf: u32, most: usize, into: &mut Packed) -> Result<usize, FeedStop> {
+        if self.given < self.bits.len() {
+            let count = most.min(self.bits.len() - self.given);
+            into.append_from(&self.bits, self.given, count);
+            self.given += count;
+            return Ok(count);
+        }
+        Err(FeedStop::Ended)
     }
 
     fn left(&self, _leaf: u32) -> u64 {
@@ -90,7 +101,7 @@ impl Drain for LinePort {
         Ok(())
     }
 
-    fn put_all(&mut self, _leaf: u32, _bits: &[bool]) -> Result<(), Failed> {
+    fn put_all(&mut self, _leaf: u32, _bits: &Packed) -> Result<(), Failed> {
         self.fresh = false;
         Ok(())
     }
@@ -122,7 +133,7 @@ impl Port for LinePort {
     ghost fed_keeps_outputs = { λ a b p. (refl, refl) };
 
     ghost drained_keeps_inputs = { λ a b p. (
-      ap (λ n. inputs_of (drop n b.bits.items ∷ [])) p.1 ∙ ap (λ v. inputs_of (drop a.given v.items ∷ [])) p.0,
+      ap (λ n. inputs_of (drop n b.bits.bits ∷ [])) p.1 ∙ ap (λ v. inputs_of (drop a.given v.bits ∷ [])) p.0,
       refl,
     ) };
 

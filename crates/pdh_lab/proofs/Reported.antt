@@ -1,16 +1,17 @@
 -- The report, leaf by leaf.
-use Rattle.std.proofs.Common.{◌≡◌, ℕ, zero, suc, ◌+◌, ◌*◌, ◌<◌, ◌≤◌, ◌^◌, Bool, true, false, not, Option, Some, List, ◌++◌, length, take, drop, get_or, refl, ap, sym, ◌∙◌, arith, add-one, inl, inr}
+use Rattle.std.proofs.Common.{◌≡◌, ℕ, zero, suc, ◌+◌, ◌*◌, ◌<◌, ◌≤◌, ◌^◌, Bool, true, false, Option, Some, List, ◌++◌, length, take, drop, refl, ap, sym, ◌∙◌, arith, add-one, inl, inr}
 use Rattle.std.specs.Prelude.{sum_by, count_by}
 use Rattle.std.specs.Bool.{beq}
 use Rattle.std.specs.Cmp.{booleans_Decides}
 use Rattle.std.specs.List.{range_with_len, starts_with}
 use Rattle.std.proofs.lemmas.Bool.{cases_Bool}
-use Rattle.std.proofs.lemmas.List.{length-append, take-append-drop, get_or_append_left}
-use Rattle.std.proofs.lemmas.List.FromFn.{fill_by_all, get_or-map-range_with_len}
+use Rattle.std.proofs.Math.Seq.{take-add, take-length}
+use Rattle.std.proofs.lemmas.List.{length-append, take-append-drop, take-append-le, append_cancel_left}
 use Rattle.std.proofs.lemmas.List.Sums.{count_by-le-length}
 use Rattle.std.proofs.lemmas.Slice.Eq.{starts_is}
 use Rattle.pdh_shape.specs.OwnNumbers.{most_frames}
 use Rattle.pdh_line.specs.Sending.{front}
+use Rattle.pdh_packed.specs.Words.{low_bits}
 use Rattle.pdh_line.proofs.Ranges.{length-range, count-range_push}
 use Rattle.pdh_line.proofs.SentFrames.{length-front, take-front}
 use Rattle.pdh_clock.specs.Contents.{Contents}
@@ -26,10 +27,6 @@ use Rattle.pdh_lab.proofs.Sent.{entered_few}
 
 -- ---- a prefix of a pattern
 
--- the first of these bits, so many, are those of a line
-abbrev pub AgreeTo : (ℕ → Bool) → List Bool → ℕ → Type 0
-AgreeTo line bits n = (k : ℕ) → k < n → get_or bits k false ≡ line k
-
 -- bits that are longer than a front of a line are no prefix of it
 pub too_long : (line : ℕ → Bool) (bits : List Bool) (n : ℕ) → n < length bits → starts_with beq (front line n) bits ≡ false
 too_long line bits n long = elim (cases_Bool (starts_with beq (front line n) bits)) [
@@ -40,30 +37,39 @@ too_long line bits n long = elim (cases_Bool (starts_with beq (front line n) bit
   | inr isnt ↦ isnt
 ]
 
--- nor are bits of which one differs
-pub one_differs : (line : ℕ → Bool) (bits : List Bool) (n k : ℕ) → length bits ≤ n → k < length bits → (get_or bits k false ≡ line k → ⊥) → starts_with beq (front line n) bits ≡ false
-one_differs line bits n k short inside differs = elim (cases_Bool (starts_with beq (front line n) bits)) [
+-- bits from a place on are those of a line, where the bits before are
+pub part_agrees : (line : ℕ → Bool) (bits part : List Bool) (place count : ℕ) → take place bits ≡ front line place → take count (drop place bits) ≡ part → front line place ++ part ≡ front line (place + count) → take (place + count) bits ≡ front line (place + count)
+part_agrees line bits part place count before same next =
+    take-add place count bits ∙ ap (λ (xs : List Bool). xs ++ take count (drop place bits)) before ∙ ap (λ (xs : List Bool). front line place ++ xs) same ∙ next
+
+-- where they aren't, the bits are no prefix of the line's front
+pub part_differs : (line : ℕ → Bool) (bits part : List Bool) (n place count : ℕ) → length bits ≤ n → place + count ≤ length bits → take place bits ≡ front line place → front line place ++ part ≡ front line (place + count)
+    → (take count (drop place bits) ≡ part → ⊥) → starts_with beq (front line n) bits ≡ false
+part_differs line bits part n place count short inside before next differs = elim (cases_Bool (starts_with beq (front line n) bits)) [
   | inl is ↦
       let rest : List Bool = drop (length bits) (front line n) in
       let whole : front line n ≡ bits ++ rest = (starts_is booleans_Decides (front line n) bits (starts_with beq (front line n) bits) refl).0 is in
-      absurd (differs (sym (ap (λ (l : List Bool). get_or l k false) whole ∙ get_or_append_left bits rest false k inside) ∙ get_or-map-range_with_len line 0 n k k false (omega arith) (omega arith)))
+      let begins : take (place + count) bits ≡ front line (place + count) =
+      sym (ap (take (place + count)) whole ∙ take-append-le (place + count) bits rest inside) ∙ take-front line (place + count) n (omega arith) in
+      let both : front line place ++ take count (drop place bits) ≡ front line place ++ part =
+      sym (take-add place count bits ∙ ap (λ (xs : List Bool). xs ++ take count (drop place bits)) before) ∙ begins ∙ sym next in
+      absurd (differs (append_cancel_left (front line place) (take count (drop place bits)) part both))
   | inr isnt ↦ isnt
 ]
 
--- bits that differ aren't the same
-pub apart : (a b : Bool) → not (beq a b) ≡ true → b ≡ a → ⊥
-apart true true differs same = cc
-apart true false differs same = cc
-apart false true differs same = cc
-apart false false differs same = cc
-
 -- bits that all agree are one
-pub all_agree : (line : ℕ → Bool) (bits : List Bool) (n : ℕ) → length bits ≤ n → AgreeTo line bits (length bits) → starts_with beq (front line n) bits ≡ true
-all_agree line bits n short agree =
-    let own : bits ≡ front line (length bits) = fill_by_all line bits (length bits) false refl agree in
+pub all_agree : (line : ℕ → Bool) (bits : List Bool) (n place : ℕ) → length bits ≤ n → length bits ≤ place → place ≤ length bits → take place bits ≡ front line place → starts_with beq (front line n) bits ≡ true
+all_agree line bits n place short past within agree =
+    let all : place ≡ length bits = omega arith in
+    let own : bits ≡ front line (length bits) = sym (take-length bits) ∙ ap (λ k. take k bits) (sym all) ∙ agree ∙ ap (front line) all in
     let begins : take (length bits) (front line n) ≡ bits = take-front line (length bits) n short ∙ sym own in
     let rest : List Bool = drop (length bits) (front line n) in
     (starts_is booleans_Decides (front line n) bits (starts_with beq (front line n) bits) refl).1 rest (sym (ap (λ b. b ++ rest) (sym begins) ∙ take-append-drop (length bits) (front line n)))
+
+-- as many bits that write the same number are the same
+pub written_alike : (a b : List Bool) (m n count : ℕ) → length a ≡ count → length b ≡ count → low_bits (length a) m ≡ a → low_bits (length b) n ≡ b → m ≡ n → a ≡ b
+written_alike a b m n count long_a long_b is_a is_b same =
+    sym is_a ∙ ap (λ k. low_bits k m) (long_a ∙ sym long_b) ∙ ap (low_bits (length b)) same ∙ is_b
 
 -- ---- one leaf more
 

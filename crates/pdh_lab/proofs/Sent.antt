@@ -1,7 +1,7 @@
 -- What making the line of a drill never meets, and the line that is made.
-use Rattle.std.proofs.Common.{◌≡◌, ℕ, zero, suc, ◌*◌, ◌<◌, ◌≤◌, ◌^◌, List, [], ◌∷◌, ◌++◌, Vec, Bool, false, length, get_or, refl, ap, sym, ◌∙◌, subst, arith, Option, Some, None}
+use Rattle.std.proofs.Common.{◌≡◌, ℕ, zero, suc, ◌*◌, ◌<◌, ◌≤◌, ◌^◌, List, [], ◌∷◌, ◌++◌, Bool, false, length, get_or, refl, ap, sym, ◌∙◌, subst, arith, Option, Some, None}
 use Rattle.std.specs.Prelude.{IsTrue, IsNone, map, nat_lt, slice_get, slice_index_or}
-use Rattle.std.specs.declared.alloc.Global.{Global}
+use Rattle.pdh_bits.specs.BitOut.{BoundedBits}
 use Rattle.std.proofs.lemmas.Bool.{ltb-true, false≢true}
 use Rattle.std.proofs.lemmas.List.{get_or_append_left}
 use Rattle.std.proofs.Math.Nat.{mul-le-mul}
@@ -101,16 +101,16 @@ in_room chain rows frames room k inputs inputs_now outputs outputs_now opened ho
 -- ---- the leaves' lists
 
 -- a port as it was opened gives a leaf's list
-list_told : (leaves : List (Vec Bool Global)) (k : ℕ) → k < length leaves → (bits : List Bool) → ((d : Vec Bool Global) → (slice_index_or leaves k d).items ≡ bits) → slice_get (map items_of leaves) k ≡ Some bits
+list_told : (leaves : List BoundedBits) (k : ℕ) → k < length leaves → (bits : List Bool) → ((d : BoundedBits) → (slice_index_or leaves k d).bits ≡ bits) → slice_get (map items_of leaves) k ≡ Some bits
 list_told [] k h bits is = absurd (omega arith)
 list_told (leaf ∷ leaves) zero h bits is = ap Some (is leaf)
 list_told (leaf ∷ leaves) (suc k) h bits is = list_told leaves k (omega arith) bits is
 
-input_told : (chain : Chain) (seed frames : ℕ) (leaves : List (Vec Bool Global)) (k : ℕ) → AreInputs chain seed frames (leaves_of chain) leaves → k < leaves_of chain → slice_get (map items_of leaves) k ≡ Some (input_of chain seed frames k)
+input_told : (chain : Chain) (seed frames : ℕ) (leaves : List BoundedBits) (k : ℕ) → AreInputs chain seed frames (leaves_of chain) leaves → k < leaves_of chain → slice_get (map items_of leaves) k ≡ Some (input_of chain seed frames k)
 input_told chain seed frames leaves k are low = list_told leaves k (omega (arith, are.count)) (input_of chain seed frames k) (λ d. are.each k d low)
 
 -- it has as many bits as enter
-pub list_long : (chain : Chain) (seed frames : ℕ) (leaves : List (Vec Bool Global)) (k : ℕ) (inputs : Inputs) → AreInputs chain seed frames (leaves_of chain) leaves → inputs ≡ inputs_of (map items_of leaves) → k < leaves_of chain
+pub list_long : (chain : Chain) (seed frames : ℕ) (leaves : List BoundedBits) (k : ℕ) (inputs : Inputs) → AreInputs chain seed frames (leaves_of chain) leaves → inputs ≡ inputs_of (map items_of leaves) → k < leaves_of chain
     → entered_of chain frames k ≤ inputs.left k
 list_long chain seed frames leaves k inputs are opened low =
     let left : inputs.left k ≡ length (input_of chain seed frames k) = ap (λ (i : Inputs). i.left k) opened ∙ ap length_of (input_told chain seed frames leaves k are low) in
@@ -126,7 +126,7 @@ begins (Some rest) given bits told i h =
     sym (ap (λ (l : List Bool). get_or l i false) whole ∙ get_or_append_left given rest false i h)
 
 -- what was put is the line of the leaves' patterns
-pub line_sent : (chain : Chain) (seed frames : ℕ) (clock : Contents) (leaves : List (Vec Bool Global)) (line : List Bool) (inputs inputs_now : Inputs) (outputs outputs_now : Outputs) → IsClockOf chain frames clock → AreInputs chain seed frames (leaves_of chain) leaves
+pub line_sent : (chain : Chain) (seed frames : ℕ) (clock : Contents) (leaves : List BoundedBits) (line : List Bool) (inputs inputs_now : Inputs) (outputs outputs_now : Outputs) → IsClockOf chain frames clock → AreInputs chain seed frames (leaves_of chain) leaves
     → inputs ≡ inputs_of (map items_of leaves) → outputs ≡ outputs_of ([] ∷ []) → IsSent chain frames clock inputs inputs_now outputs outputs_now → outputs_now.told 0 ≡ Some line → line ≡ line_of chain seed frames
 unfolding line_of
 line_sent chain seed frames clock leaves line inputs inputs_now outputs outputs_now is are inputs_are outputs_are sent now =

@@ -1,6 +1,6 @@
 -- The steps of a drill: the schedule, the leaves' lists, the line, and what comes back.
-use Rattle.std.specs.Prelude.{◌≡◌, ℕ, ◌+◌, ◌-◌, ◌<◌, ◌≤◌, ◌^◌, Bool, max, if◌then◌else◌, IsTrue, IsNone, List, [], All, None, Some, Vec, length, slice_index_or}
-use Rattle.std.specs.declared.alloc.Global.{Global}
+use Rattle.std.specs.Prelude.{◌≡◌, ℕ, ◌+◌, ◌-◌, ◌<◌, ◌≤◌, ◌^◌, Bool, max, if◌then◌else◌, IsTrue, IsNone, List, [], All, None, Some, length, slice_index_or}
+use Rattle.pdh_bits.specs.BitOut.{BoundedBits}
 use Rattle.pdh_edge.specs.Ports.{Inputs, Outputs}
 use Rattle.pdh_nesting.specs.Receiving.{far}
 use Rattle.pdh_clock.specs.Contents.{Contents, IsRowOf, counts, frame_count}
@@ -21,9 +21,9 @@ pub record IsClockOf (chain : Chain) (frames : ℕ) (clock : Contents) : Type 0 
   pub enough : IsNone (shortage clock frames)
 
 -- so many lists, each with what its leaf gives
-pub record AreInputs (chain : Chain) (seed frames leaves : ℕ) (lists : List (Vec Bool Global)) : Type 0 where
+pub record AreInputs (chain : Chain) (seed frames leaves : ℕ) (lists : List BoundedBits) : Type 0 where
   pub count : length lists ≡ leaves
-  pub each : (k : ℕ) (d : Vec Bool Global) → k < leaves → (slice_index_or lists k d).items ≡ input_of chain seed frames k
+  pub each : (k : ℕ) (d : BoundedBits) → k < leaves → (slice_index_or lists k d).bits ≡ input_of chain seed frames k
 
 -- a port has a list for each leaf with as many bits as enter
 pub record CanSend (chain : Chain) (frames : ℕ) (inputs : Inputs) : Type 0 where

@@ -16,22 +16,26 @@ use crate::sending::line_from;
 use pdh_chain::{Chain, leaves};
 use pdh_clock::Schedule;
 use pdh_edge::{Drain, MemPort};
+use pdh_packed::Packed;
 use std::alloc::{AllocError, Global};
 
 // Whether bits are a prefix of the first bits of a leaf's pattern, so many.
-fn is_prefix(bits: &[bool], seed: u64, leaf: u32, entered: usize) -> bool
+fn is_prefix(bits: &Packed, seed: u64, leaf: u32, entered: usize) -> bool
     requires seed { seed ≤ 999999999 }
     requires leaf { leaf < 64 }
-    ensures { result ≡ starts_with beq (pattern seed leaf entered) bits.now }
+    ensures { result ≡ starts_with beq (pattern seed leaf entered) bits.now.bits }
 {
     if bits.len() > entered {
         return false;
     }
     let mut pattern = Pattern::new(seed, leaf);
-    for bit in bits {
-        if pattern.next() != *bit {
+    let mut place = 0;
+    while place < bits.len() {
+        let count = (bits.len() - place).min(64) as u32;
+        if bits.read(place, count).number() != pattern.word(count).number() {
             return false;
         }
+        place += count as usize;
     }
     true
 }

@@ -9,6 +9,7 @@ ghost use Rattle.pdh_lab.specs.Steps.{IsClockOf, AreInputs};
 use crate::pattern::Pattern;
 use pdh_chain::{Chain, leaves};
 use pdh_clock::{Bias, Schedule};
+use pdh_packed::Packed;
 use std::alloc::{AllocError, Global};
 
 /// The schedule of so many frames in which neighbouring streams are off to opposite sides.
@@ -20,15 +21,18 @@ pub fn clock_of(alloc: Global, chain: Chain, frames: u64) -> Result<Schedule, Al
 }
 
 // The first bits of a leaf's pattern, so many.
-fn pattern_of(alloc: Global, seed: u64, leaf: u32, bits: usize) -> Result<Vec<bool>, AllocError>
+fn pattern_of(alloc: Global, seed: u64, leaf: u32, bits: usize) -> Result<Packed, AllocError>
     requires seed { seed ≤ 999999999 }
     requires leaf { leaf < 64 }
-    ensures { IfOk result (λ list. list.items ≡ pattern seed leaf bits) }
+    ensures { IfOk result (λ list. list.bits ≡ pattern seed leaf bits) }
 {
     let mut pattern = Pattern::new(seed, leaf);
-    let mut list = Vec::with_capacity(alloc, bits)?;
-    for _bit in 0..bits {
-        list.push(pattern.next())?;
+    let mut list = Packed::open(alloc, bits)?;
+    let mut made = 0;
+    while made < bits {
+        let count = (bits - made).min(64);
+        list.append(pattern.word(count as u32));
+        made += count;
     }
     Ok(list)
 }
@@ -40,7 +44,7 @@ pub fn inputs_of(
     clock: &Schedule,
     seed: u64,
     frames: u64,
-) -> Result<Vec<Vec<bool>>, AllocError>
+) -> Result<Vec<Packed>, AllocError>
     requires clock { IsClockOf chain frames clock.now }
     requires seed { seed ≤ 999999999 }
     requires few { frames ≤ most_frames }

@@ -1,10 +1,11 @@
 //! The test pattern of a leaf. Its register is that of ITU-T O.150's pattern of 32,767 bits, and its
 //! beginning this project's own.
 
-ghost use Rattle.std.specs.Prelude.{◌≡◌, ℕ, suc, ◌+◌, ◌*◌, ◌%◌, ◌<◌, ◌≤◌};
+ghost use Rattle.std.specs.Prelude.{◌≡◌, ℕ, suc, ◌+◌, ◌*◌, ◌%◌, ◌<◌, ◌≤◌, ◌++◌, length};
 ghost use Rattle.pdh_bits.specs.Bits.{bit as bit_of, bit_value};
-ghost use Rattle.pdh_lab.specs.Pattern.{HasGiven, pattern_bit};
+ghost use Rattle.pdh_lab.specs.Pattern.{HasGiven, pattern_bit, pattern};
 
+use pdh_packed::Word;
 use std::marker::Model;
 
 // The states of the register, which is never 0.
@@ -65,5 +66,19 @@ impl Pattern {
         let feedback = given != bit(self.state, 13);
         self.state = shifted(self.state, feedback);
         given
+    }
+    // The next bits, so many.
+    pub(crate) fn word(&mut self, count: u32) -> Word
+        requires few { count ≤ 64 }
+        ensures count { length result ≡ count }
+        ensures given { (seed leaf n : ℕ) → HasGiven seed leaf n self.old → HasGiven seed leaf (n + count) self.new }
+        ensures bits { (seed leaf n : ℕ) → HasGiven seed leaf n self.old
+            → pattern seed leaf n ++ result ≡ pattern seed leaf (n + count) }
+    {
+        let mut word = Word::empty();
+        for _bit in 0..count {
+            word.push(self.next());
+        }
+        word
     }
 }

@@ -8,6 +8,7 @@ ghost use Rattle.pdh_lab.specs.Steps.{HasLine, HaveReceived};
 
 use pdh_chain::{Chain, DemuxStop, leaves};
 use pdh_edge::{Drain, Feed, MemPort, Port};
+use pdh_packed::Packed;
 use pdh_watch::Quiet;
 use std::alloc::{AllocError, Global};
 
@@ -29,14 +30,14 @@ fn make_room(port: &mut MemPort, leaves: u32, bits: usize) -> Result<(), AllocEr
 
 // A port that gives a line and takes what its leaves receive, with room for all of that: a leaf
 // receives no more than its share of the line's bits.
-fn port_of(alloc: Global, line: Vec<bool>, leaves: u32) -> Result<MemPort, AllocError>
+fn port_of(alloc: Global, line: Packed, leaves: u32) -> Result<MemPort, AllocError>
     requires some { 0 < leaves }
-    requires few { length line.items < 2 ^ 62 }
-    ensures inputs { IfOk result (λ port. ⟦<MemPort as Feed>⟧.inputs port ≡ inputs_of (line.items ∷ [])) }
+    requires few { length line.bits < 2 ^ 62 }
+    ensures inputs { IfOk result (λ port. ⟦<MemPort as Feed>⟧.inputs port ≡ inputs_of (line.bits ∷ [])) }
     ensures outputs { IfOk result (λ port. ⟦<MemPort as Drain>⟧.outputs port ≡ outputs_of (replicate leaves [])) }
     ensures fresh { IfOk result ⟦<MemPort as Port>⟧.fresh }
     ensures faults { IfOk result (λ port. ⟦<MemPort as Drain>⟧.drain_faults port ≡ 0) }
-    ensures room { IfOk result (λ port. (k : ℕ) → k < leaves → length line.items / leaves < room_of port k) }
+    ensures room { IfOk result (λ port. (k : ℕ) → k < leaves → length line.bits / leaves < room_of port k) }
 {
     let bits = line.len() / leaves as usize;
     let mut inputs = Vec::new(alloc);
@@ -68,9 +69,9 @@ fn deliver(alloc: Global, chain: Chain, bits: u64, port: &mut MemPort) -> Result
 }
 
 /// A port whose lists have what the leaves receive of a line.
-pub fn receive(alloc: Global, chain: Chain, line: Vec<bool>) -> Result<MemPort, AllocError>
-    requires { length line.items < 2 ^ 62 }
-    ensures { IfOk result (λ port. HaveReceived chain line.items (⟦<MemPort as Drain>⟧.outputs port)) }
+pub fn receive(alloc: Global, chain: Chain, line: Packed) -> Result<MemPort, AllocError>
+    requires { length line.bits < 2 ^ 62 }
+    ensures { IfOk result (λ port. HaveReceived chain line.bits (⟦<MemPort as Drain>⟧.outputs port)) }
 {
     let bits = line.len() as u64;
     let mut port = port_of(alloc, line, leaves(chain))?;

@@ -12,10 +12,11 @@ use crate::leaves::inputs_of;
 use pdh_chain::{Chain, MuxStop, frame_bytes};
 use pdh_clock::Schedule;
 use pdh_edge::{Drain, Feed, MemPort, Port};
+use pdh_packed::Packed;
 use std::alloc::{AllocError, Global};
 
 // A port that gives the leaves' bits and has room for a line of so many bits.
-fn port_for(alloc: Global, leaves: Vec<Vec<bool>>, bits: usize) -> Result<MemPort, AllocError>
+fn port_for(alloc: Global, leaves: Vec<Packed>, bits: usize) -> Result<MemPort, AllocError>
     requires { bits < 2 ^ 32 }
     ensures inputs { IfOk result (λ port. ⟦<MemPort as Feed>⟧.inputs port ≡ inputs_of (map items_of leaves.items)) }
     ensures outputs { IfOk result (λ port. ⟦<MemPort as Drain>⟧.outputs port ≡ outputs_of ([] ∷ [])) }
@@ -59,6 +60,15 @@ fn send(
     }
 }
 
+// A copy of a list.
+fn copied(alloc: Global, list: &Packed) -> Result<Packed, AllocError>
+    ensures { IfOk result (λ copy. copy.bits ≡ list.now.bits) }
+{
+    let mut copy = Packed::open(alloc, list.len())?;
+    copy.append_from(list, 0, list.len());
+    Ok(copy)
+}
+
 /// The line of the leaves' patterns.
 pub fn line_from(
     alloc: Global,
@@ -66,15 +76,15 @@ pub fn line_from(
     clock: &Schedule,
     seed: u64,
     frames: u64,
-) -> Result<Vec<bool>, AllocError>
+) -> Result<Packed, AllocError>
     requires clock { IsClockOf chain frames clock.now }
     requires seed { seed ≤ 999999999 }
     requires few { frames ≤ most_frames }
-    ensures { IfOk result (λ line. line.items ≡ line_of chain seed frames) }
+    ensures { IfOk result (λ line. line.bits ≡ line_of chain seed frames) }
 {
     let inputs = inputs_of(alloc, chain, clock, seed, frames)?;
     let bits = 8 * frames as usize * frame_bytes(chain) as usize;
     let mut port = port_for(alloc, inputs, bits)?;
     send(alloc, chain, clock, frames, &mut port)?;
-    Vec::from_slice(alloc, port.output(0))
+    copied(alloc, port.output(0))
 }

@@ -1,4 +1,5 @@
 pub mod Ranges
+pub mod EachLaws
 pub mod LeafNumbers
 pub mod Parts
 pub mod LeastLaws

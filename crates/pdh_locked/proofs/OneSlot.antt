@@ -19,7 +19,6 @@ use Rattle.pdh_tx.specs.Locked.{locked_to, locked_beginning, locked_read, locked
 use Rattle.pdh_tx.proofs.Firsts.{map_none, map_some}
 use Rattle.pdh_tx.proofs.Lists.{some_same}
 use Rattle.pdh_tx.proofs.Moving.{set_here, set_other}
-use Rattle.pdh_slots.specs.Slots.{is_info}
 
 -- ---- what it carries
 
@@ -40,13 +39,6 @@ read_none (Just k) h j = and_false (eqb k j)
 read_none (Align b) h j = refl
 read_none (ServiceSlot k) h j = refl
 read_none (Control k copy) h j = refl
-
-pub not_info : (r : Role) → carried_by [] r ≡ None → is_info r ≡ false
-not_info (Info k) h = absurd (cc h)
-not_info (Just k) h = refl
-not_info (Align b) h = refl
-not_info (ServiceSlot k) h = refl
-not_info (Control k copy) h = refl
 
 -- a bit of a child, by whether it is inverted
 pub xor_turned : (bit inverted : Bool) → not (beq bit inverted) ≡ turned inverted bit

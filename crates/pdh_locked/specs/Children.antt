@@ -1,14 +1,15 @@
 -- The children of a multiplexer without stores.
 use Rattle.std.specs.Prelude.{◌≡◌, ℕ, suc, ◌+◌, ◌<◌, ◌^◌, Bool, true, false, List, [], ◌∷◌, length, map, slice_get, Some, None}
-use Rattle.std.specs.List.{slice_index_or}
+use Rattle.std.specs.List.{range_with_len}
+use Rattle.pdh_bits.specs.BitOut.{BoundedBits}
 use Rattle.pdh_edge.specs.Ports.{Inputs, Takes}
 use Rattle.pdh_shape.specs.declared.shape.Shape as shape
 use Rattle.pdh_shape.specs.declared.place.Path.{Path}
 use Rattle.pdh_shape.specs.declared.role.Service.{Service}
 use Rattle.pdh_shape.specs.Frame.{FrameShape, idle}
-use Rattle.pdh_shape.specs.Tributary.{reads_from, turned}
+use Rattle.pdh_shape.specs.Tributary.{turned}
 use Rattle.pdh_line.specs.Sending.{Source, odd_before}
-use Rattle.pdh_slots.specs.Slots.{Writes}
+use Rattle.pdh_runs.specs.Pieces.{FillsColumn}
 use Rattle.pdh_clock.specs.Contents.{Contents}
 use Rattle.pdh_tx.specs.declared.tx.Tx.{Ghosts}
 use Rattle.pdh_tx.specs.declared.tx.TxStop.{TxStop}
@@ -17,7 +18,7 @@ use Rattle.pdh_tx.specs.Meaning.{Plan, Supply, Meaning, Agrees, HoldsAll}
 use Rattle.pdh_tx.specs.Held.{first_some}
 use Rattle.pdh_tx.specs.Making.{IsClear}
 use Rattle.pdh_tx.specs.Node.{below, source_of, line_of, any_leaf, given_by, obstacle_of, set_at, EachPlaced, EachHeld, EachInChain, AllFit, Blocked, Stays}
-use Rattle.pdh_tx.specs.Passing.{up_to, HoldsLine, Passes}
+use Rattle.pdh_tx.specs.Passing.{up_to, carried_in, HoldsLine, Passes}
 use Rattle.pdh_tx.specs.Locked.{locked_to, locked_steps}
 use Rattle.pdh_locked.specs.declared.children.Children.{Children}
 
@@ -41,15 +42,10 @@ placed_in tx child plan made read = Stands tx child plan made
 abbrev pub held_in : {C : Type 0} → Ghosts C → C → Supply → ℕ → ℕ → Type 0
 held_in tx child supply made read = StandsFor tx child supply made
 
--- what child j holds after its bits from `from` on went into the slots of a piece of a frame, and these slots
-abbrev pub filled_in : {C : Type 0} → Ghosts C → FrameShape → ℕ → ℕ → ℕ → C → C → List Bool → Supply → ℕ → ℕ → Type 0
-filled_in tx s j first from old new bits supply made read =
-    StandsFor tx new supply made × Writes s j false first ((tx.meaning old).line supply) from bits
-
--- a slot that reads none of the first i tributaries is as before
-abbrev pub KeepsRest : FrameShape → ℕ → List Bool → List Bool → ℕ → Type 0
-KeepsRest s first old new i =
-    (v : ℕ) → v < length old → ((j : ℕ) → j < i → reads_from j false (s.role (first + v)) ≡ false) → slice_index_or new v false ≡ slice_index_or old v false
+-- what child j holds after its bits from `from` on went into the column of a piece of a frame, and this column
+abbrev pub filled_in : {C : Type 0} → Ghosts C → FrameShape → ℕ → ℕ → ℕ → ℕ → C → C → List Bool → Supply → ℕ → ℕ → Type 0
+filled_in tx s j first len from old new column supply made read =
+    StandsFor tx new supply made × FillsColumn s j false first len (map ((tx.meaning old).line supply) (range_with_len from (carried_in s j false first len))) column
 
 -- ---- all of them
 
@@ -90,6 +86,10 @@ module _ {S C : Type 0} {shape : shape.Ghosts S} {tx : Ghosts C} where
   -- what each makes, takes and meets
   abbrev pub meanings : Children S C shape tx → List Meaning
   meanings cs = map tx.meaning cs.list.items
+
+  -- their columns of a piece of a frame
+  abbrev pub columns : Children S C shape tx → List (List Bool)
+  columns cs = map (λ (column : BoundedBits). column.bits) cs.scratch.columns.items
 
   -- each leaf has a list, and the nodes of each are nodes of this schedule's chain
   pub record AreFed (cs : Children S C shape tx) (schedule : Contents) (inputs : Inputs) : Type 0 where

@@ -1,32 +1,33 @@
-ghost use Rattle.std.specs.Prelude.{◌≡◌, ◌≤◌, ◌==◌, true, length, map};
+ghost use Rattle.std.specs.Prelude.{◌≡◌, ◌==◌, true, length, map};
 ghost use Rattle.pdh_tx.specs.Node.{IsDisjoint};
+ghost use Rattle.pdh_tx.specs.Scratch.{HasRoom};
 
+use pdh_runs::Layout;
 use pdh_shape::Shape;
-use pdh_slots::SlotTables;
-use pdh_tx::Tx;
+use pdh_tx::{Scratch, Tx};
 use std::rc::Rc;
 
 /// The children of a multiplexer without stores, one for each tributary of its shape, and what they
-/// put their bits into slots by.
+/// pass their bits by.
 pub struct Children<S: Shape, C: Tx> {
     /// In order.
     pub list: Vec<C>,
-    /// What the slots of the node's frame carry, which nodes with such frames share.
-    pub tables: Rc<SlotTables<S>>,
-    /// Room for the bits of a child that a frame carries.
-    pub queue: Vec<bool>,
+    /// How the node's frame is put together, which nodes with such frames share.
+    pub layout: Rc<Layout<S>>,
+    /// Room for the bits of a piece of a frame.
+    pub scratch: Scratch,
     ghost count: { length list.items ≡ S.TRIBS },
     ghost locked: { (S.shape.copies == 0) ≡ true },
     ghost disjoint: { IsDisjoint (map C.meaning list.items) },
-    ghost room: { S.LOW ≤ length queue.items },
+    ghost room: { HasRoom S.LEN S.TRIBS S.LOW scratch },
 }
 
 impl<S: Shape, C: Tx> Drop for Children<S, C> {
     fn drop(self) {
         let Self {
             list: _,
-            tables: _,
-            queue: _,
+            layout: _,
+            scratch: _,
         } = self;
     }
 }

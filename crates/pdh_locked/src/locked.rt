@@ -1,4 +1,5 @@
 ghost use Rattle.std.specs.Prelude.{◌≡◌, ◌<◌, ◌≤◌, ◌+◌, ℕ, All, length, map, OnOk, OnErr, IfOk, IfErr};
+ghost use Rattle.pdh_packed.specs.Gaining.{gained, IsGrown};
 ghost use Rattle.pdh_edge.specs.Ports.{HasCause};
 ghost use Rattle.pdh_tx.specs.Meaning.{Plan, Supply, plan_of, Meaning, IsNodeOf, Makes, Stops, IsFresh};
 ghost use Rattle.pdh_tx.specs.Held.{Halts};
@@ -13,9 +14,11 @@ ghost use Rattle.pdh_locked.specs.laws.LockedLaws.{locked_grows};
 use crate::children::Children;
 use pdh_clock::Schedule;
 use pdh_edge::{Failed, Feed};
+use pdh_packed::Packed;
+use pdh_runs::Layout;
 use pdh_shape::{Path, Service, Shape};
-use pdh_slots::SlotTables;
-use pdh_tx::{Position, Tx, TxStop, after, moved, said};
+use pdh_tx::{Position, Scratch, Tx, TxStop, after, moved, said};
+use std::alloc::{AllocError, Global};
 use std::rc::Rc;
 
 /// A multiplexer without stores, of a shape without justification control. A slot that reads a child
@@ -45,32 +48,32 @@ impl<S: Shape, C: Tx> Drop for Locked<S, C> {
 
 impl<S: Shape, C: Tx> Locked<S, C> {
     /// Joins children, one for each tributary, into a multiplexer that has made no bit and whose
-    /// service bits are idle. `path` is its place in a chain: a child that is a multiplexer has this
-    /// path with its number, from 1, added. `tables` may be shared with other nodes. `queue` is room
-    /// for the bits of a child that a frame carries; what it holds doesn't matter.
-    pub fn new(
+    /// service bits are idle; or it finds no memory. `path` is its place in a chain: a child that is
+    /// a multiplexer has this path with its number, from 1, added. `layout` may be shared with other
+    /// nodes.
+    pub fn open(
+        alloc: Global,
         path: Path,
-        tables: Rc<SlotTables<S>>,
-        queue: Vec<bool>,
+        layout: Rc<Layout<S>>,
         children: Vec<C>,
-    ) -> Locked<S, C>
+    ) -> Result<Locked<S, C>, AllocError>
         requires count { length children.items ≡ S.TRIBS }
         requires stores { S.COPIES ≡ 0 }
-        requires room { S.LOW ≤ length queue.items }
         requires fresh { All (IsFresh C.stands_at C.stands_for C.says C.is_stopped) children.items }
         requires disjoint { IsDisjoint (map C.meaning children.items) }
         requires paths { ArePlaced path (map C.meaning children.items) }
-        ensures meaning { ⟦<Locked<S, C> as Tx>⟧.meaning result
-            ≡ locked_meaning S.shape path (map C.meaning children.items) }
-        ensures fresh { IsFresh ⟦<Locked<S, C> as Tx>⟧.stands_at
+        ensures meaning { IfOk result (λ node. ⟦<Locked<S, C> as Tx>⟧.meaning node
+            ≡ locked_meaning S.shape path (map C.meaning children.items)) }
+        ensures fresh { IfOk result (IsFresh ⟦<Locked<S, C> as Tx>⟧.stands_at
             ⟦<Locked<S, C> as Tx>⟧.stands_for ⟦<Locked<S, C> as Tx>⟧.says
-            ⟦<Locked<S, C> as Tx>⟧.is_stopped result }
+            ⟦<Locked<S, C> as Tx>⟧.is_stopped) }
     {
-        Locked {
+        let scratch = Scratch::open::<S>(alloc)?;
+        Ok(Locked {
             children: Children {
                 list: children,
-                tables,
-                queue,
+                layout,
+                scratch,
             },
             path,
             at: Position {
@@ -82,7 +85,7 @@ impl<S: Shape, C: Tx> Locked<S, C> {
             say: Service::idle(),
             next_say: Service::idle(),
             stopped: false,
-        }
+        })
     }
 
     /// Gives the service bits from the next frame's start on.
@@ -132,47 +135,51 @@ impl<S: Shape, C: Tx> Locked<S, C> {
         Ok(bit)
     }
 
-    // Makes the next bits, within a frame, in whose way nothing stands.
+    // Makes the next bits, so many within a frame, in whose way nothing stands, and appends them to
+    // `into`.
     fn piece<F: Feed>(
         &mut self,
         clock: &Schedule,
         feed: &mut F,
-        into: &mut [bool],
+        len: usize,
+        into: &mut Packed,
     ) -> Result<(), Failed>
         requires node { IsNodeOf clock.now.levels (node_frame S.shape self.old.path) }
         requires fed { AreFed self.old.children clock.now (F.inputs feed.old) }
-        requires some { 0 < length into.old }
-        requires inside { self.old.at.slot + length into.old ≤ S.LEN }
+        requires some { 0 < len }
+        requires inside { self.old.at.slot + len ≤ S.LEN }
+        requires room { length into.old.bits + len ≤ into.old.capacity }
         requires clear { let tx = ⟦<Locked<S, C> as Tx>⟧ in let plan = plan_of clock.now in (x : ℕ) × (tx.stands_at self.old plan x)
-            × (IsClear (tx.meaning self.old) plan x (x + length into.old) (F.inputs feed.old)) }
+            × (IsClear (tx.meaning self.old) plan x (x + len) (F.inputs feed.old)) }
+        ensures grown { OnOk result (IsGrown into.old into.new len) }
         ensures made { let tx = ⟦<Locked<S, C> as Tx>⟧ in let plan = plan_of clock.now in OnOk result ((x : ℕ) → tx.stands_at self.old plan x
-            → MakesAll (tx.meaning self.old) self.old.next_say (tx.stands_at self.new plan) (tx.stands_for self.old) (tx.stands_for self.new) plan x (x + length into.old)
-            into.new (F.inputs feed.old) (F.inputs feed.new)) }
+            → MakesAll (tx.meaning self.old) self.old.next_say (tx.stands_at self.new plan) (tx.stands_for self.old) (tx.stands_for self.new) plan x (x + len)
+            (gained into.old into.new) (F.inputs feed.old) (F.inputs feed.new)) }
         ensures halts { let tx = ⟦<Locked<S, C> as Tx>⟧ in let plan = plan_of clock.now in OnErr result ((x : ℕ) → tx.stands_at self.old plan x
-            → Halts (tx.meaning self.old) plan x (x + length into.old) TxStop.Failed (F.inputs feed.old) (F.inputs feed.new)) }
+            → Halts (tx.meaning self.old) plan x (x + len) TxStop.Failed (F.inputs feed.old) (F.inputs feed.new)) }
         ensures running { self.new.stopped ≡ self.old.stopped }
         ensures cause { HasCause (F.feed_faults feed.old) (F.feed_faults feed.new) result }
         ensures fed { F.fed feed.old feed.new }
         ensures same { ⟦<Locked<S, C> as Tx>⟧.meaning self.new ≡ ⟦<Locked<S, C> as Tx>⟧.meaning self.old }
         ensures same_says { self.new.next_say ≡ self.old.next_say }
+        ensures capacity { into.new.capacity ≡ into.old.capacity }
     {
         let say = said(self.at.slot, self.say, self.next_say);
         let at = self.at;
-        let len = into.len();
-        self.children.make_piece(
+        let odd = self.children.make_piece(
             self.path,
             at.frame,
             at.slot,
+            len,
             &say,
             at.last_odd,
             clock,
             feed,
             into,
         )?;
-        let is_odd = self.children.tables.is_odd(at.slot, at.is_odd, into);
         let last = (at.slot as usize + len - 1) as u32;
         self.say = say;
-        self.at = moved::<S>(at, last, is_odd);
+        self.at = moved::<S>(at, last, at.is_odd ^ odd);
         Ok(())
     }
 }
@@ -208,13 +215,14 @@ impl<S: Shape, C: Tx> Tx for Locked<S, C> {
         &mut self,
         clock: &Schedule,
         feed: &mut F,
-        into: &mut [bool],
+        count: usize,
+        into: &mut Packed,
     ) -> Result<(), Failed> {
         let mut made = 0;
-        while made < into.len() {
+        while made < count {
             let rest = (S::LEN - self.at.slot) as usize;
-            let len = rest.min(into.len() - made);
-            match self.piece(clock, feed, &mut into[made..made + len]) {
+            let len = rest.min(count - made);
+            match self.piece(clock, feed, len, into) {
                 Ok(()) => made += len,
                 Err(Failed) => {
                     self.stopped = true;

@@ -1,8 +1,8 @@
 -- What the steps of `mux` leave of the files, and what the whole command comes to.
-use Rattle.std.proofs.Common.{◌≡◌, ℕ, ◌<◌, ◌≤◌, nat_lt, List, [], Bool, true, false, Vec, Option, None, Some, Ok, Err, refl, ap, sym, subst, ◌∙◌, arith}
+use Rattle.std.proofs.Common.{◌≡◌, ℕ, ◌<◌, ◌≤◌, nat_lt, List, [], true, false, Option, None, Some, Ok, Err, refl, ap, sym, subst, ◌∙◌, arith}
 use Rattle.std.specs.Option.{option_map_or}
 use Rattle.std.specs.Result.{result_unwrap_or}
-use Rattle.std.specs.declared.alloc.Global.{Global}
+use Rattle.pdh_bits.specs.BitOut.{BoundedBits}
 use Rattle.std.proofs.lemmas.Bool.Decides.{nat_tests}
 use Rattle.pdh_edge.specs.Files.{ShelfState, Told, Looks, Touches, Starts, Appends}
 use Rattle.pdh_bits.specs.Bits.{bytes_of}
@@ -35,7 +35,7 @@ use Rattle.pdh_chain.specs.Chains.{shapes_of, leaves_of}
 use Rattle.pdh_shape.specs.OwnNumbers.{most_frames}
 
 -- what the steps before the outputs have found
-pub record IsReady (chain : Chain) (a b : ShelfState) (sizes : InputSizes) (rows : List Row) (frames : ℕ) (leaves : List (Vec Bool Global)) : Type 0 where
+pub record IsReady (chain : Chain) (a b : ShelfState) (sizes : InputSizes) (rows : List Row) (frames : ℕ) (leaves : List BoundedBits) : Type 0 where
   pub looks : Looks a b
   pub same : b.counts ≡ a.counts
   pub sizes_are : AreSizes chain sizes b
@@ -43,7 +43,7 @@ pub record IsReady (chain : Chain) (a b : ShelfState) (sizes : InputSizes) (rows
   pub enough : AreEnough chain rows sizes frames
   pub leaves_are : AreLeaves chain sizes b leaves
 
-pub is_ready : (chain : Chain) (feac : Option ℕ) (a s t b : ShelfState) (sizes : InputSizes) (rows : List Row) (frames : ℕ) (leaves : List (Vec Bool Global)) → b.counts ≡ a.counts → Looks a s → AreSizes chain sizes s → Looks s t → HasRows chain t rows → AreEnough chain rows sizes frames →
+pub is_ready : (chain : Chain) (feac : Option ℕ) (a s t b : ShelfState) (sizes : InputSizes) (rows : List Row) (frames : ℕ) (leaves : List BoundedBits) → b.counts ≡ a.counts → Looks a s → AreSizes chain sizes s → Looks s t → HasRows chain t rows → AreEnough chain rows sizes frames →
     Looks t b → AreLeaves chain sizes b leaves → IsReady chain a b sizes rows frames leaves
 is_ready chain feac a s t b sizes rows frames leaves same first sizes_are second rows_are enough third leaves_are = record {
   looks = looks_then a t b (looks_then a s t first second) third;
@@ -73,7 +73,7 @@ enough_comes chain feac a sizes rows frames files sizes_are rows_are enough told
     comes_muxed chain feac a rows files (all_are_held chain feac sizes a sizes_are) rows_are told
     ∙ runs_to chain files rows (let e = enough.frames_are in omega (arith, enough.few)) enough.scheduled (λ i h. long_enough chain feac sizes a rows files i h sizes_are told (enough.long i h))
 
-ready_comes : (chain : Chain) (feac : Option ℕ) (a b : ShelfState) (sizes : InputSizes) (rows : List Row) (frames : ℕ) (leaves : List (Vec Bool Global)) (files : Files) → IsReady chain a b sizes rows frames leaves → AreTold (Mux chain feac) a.told files →
+ready_comes : (chain : Chain) (feac : Option ℕ) (a b : ShelfState) (sizes : InputSizes) (rows : List Row) (frames : ℕ) (leaves : List BoundedBits) (files : Files) → IsReady chain a b sizes rows frames leaves → AreTold (Mux chain feac) a.told files →
     comes_to (Mux chain feac) files ≡ run_answer chain rows
 ready_comes chain feac a b sizes rows frames leaves files ready told =
     enough_comes chain feac b sizes rows frames files ready.sizes_are ready.rows_are ready.enough (told_now chain feac a b files ready.looks told)
@@ -91,17 +91,17 @@ pub enough_goes_on : (chain : Chain) (feac : Option ℕ) (a : ShelfState) (sizes
 enough_goes_on chain feac a sizes rows frames sizes_are rows_are enough files told =
     ap reaches_outputs (enough_comes chain feac a sizes rows frames files sizes_are rows_are enough told) ∙ reaches chain (event_of chain rows) (frames_in rows)
 
-ready_goes_on : (chain : Chain) (feac : Option ℕ) (a b : ShelfState) (sizes : InputSizes) (rows : List Row) (frames : ℕ) (leaves : List (Vec Bool Global)) → IsReady chain a b sizes rows frames leaves → GoesOn (Mux chain feac) a
+ready_goes_on : (chain : Chain) (feac : Option ℕ) (a b : ShelfState) (sizes : InputSizes) (rows : List Row) (frames : ℕ) (leaves : List BoundedBits) → IsReady chain a b sizes rows frames leaves → GoesOn (Mux chain feac) a
 ready_goes_on chain feac a b sizes rows frames leaves ready files told = ap reaches_outputs (ready_comes chain feac a b sizes rows frames leaves files ready told) ∙ reaches chain (event_of chain rows) (frames_in rows)
 
 -- ---- the line
 
 -- the bits of the leaves' files are those of the leaves that were read
-leaves_same : (chain : Chain) (feac : Option ℕ) (sizes : InputSizes) (b : ShelfState) (leaves : List (Vec Bool Global)) (files : Files) → AreLeaves chain sizes b leaves → AreTold (Mux chain feac) b.told files → AreBits chain leaves (leaf_bits files)
+leaves_same : (chain : Chain) (feac : Option ℕ) (sizes : InputSizes) (b : ShelfState) (leaves : List BoundedBits) (files : Files) → AreLeaves chain sizes b leaves → AreTold (Mux chain feac) b.told files → AreBits chain leaves (leaf_bits files)
 leaves_same chain feac sizes b leaves files are told k d low = sym (are.bits k d low files told)
 
 -- the bytes that were made are those of the command's output
-ready_line : (chain : Chain) (feac : Option ℕ) (a b : ShelfState) (sizes : InputSizes) (rows : List Row) (frames : ℕ) (leaves : List (Vec Bool Global)) (made : Made) (files : Files) → IsReady chain a b sizes rows frames leaves → IsMade chain feac rows leaves made →
+ready_line : (chain : Chain) (feac : Option ℕ) (a b : ShelfState) (sizes : InputSizes) (rows : List Row) (frames : ℕ) (leaves : List BoundedBits) (made : Made) (files : Files) → IsReady chain a b sizes rows frames leaves → IsMade chain feac rows leaves made →
     AreTold (Mux chain feac) a.told files → made.bytes.items ≡ output_bytes (Mux chain feac) files 0
 unfolding line_bytes
 ready_line chain feac a b sizes rows frames leaves made files ready is told =
@@ -116,7 +116,7 @@ mux_output : (chain : Chain) (feac : Option ℕ) → HasOutput (Mux chain feac) 
 mux_output chain feac = record { count = refl; name = refl }
 
 -- what it is to write, and that no step before refuses
-ready_writes : (chain : Chain) (feac : Option ℕ) (a b : ShelfState) (sizes : InputSizes) (rows : List Row) (frames : ℕ) (leaves : List (Vec Bool Global)) (made : Made) (bytes : List ℕ) → IsReady chain a b sizes rows frames leaves → IsMade chain feac rows leaves made →
+ready_writes : (chain : Chain) (feac : Option ℕ) (a b : ShelfState) (sizes : InputSizes) (rows : List Row) (frames : ℕ) (leaves : List BoundedBits) (made : Made) (bytes : List ℕ) → IsReady chain a b sizes rows frames leaves → IsMade chain feac rows leaves made →
     bytes ≡ made.bytes.items → Writes (Mux chain feac) a b bytes
 ready_writes chain feac a b sizes rows frames leaves made bytes ready is same = record {
   looks = ready.looks;
@@ -125,17 +125,17 @@ ready_writes chain feac a b sizes rows frames leaves made bytes ready is same = 
   content = λ files told. same ∙ ready_line chain feac a b sizes rows frames leaves made files ready is told;
 }
 
-pub mux_start_refused : (chain : Chain) (feac : Option ℕ) (a b c : ShelfState) (sizes : InputSizes) (rows : List Row) (frames : ℕ) (leaves : List (Vec Bool Global)) (stop : Stop) → IsReady chain a b sizes rows frames leaves → Touches line_name b c →
+pub mux_start_refused : (chain : Chain) (feac : Option ℕ) (a b c : ShelfState) (sizes : InputSizes) (rows : List Row) (frames : ℕ) (leaves : List BoundedBits) (stop : Stop) → IsReady chain a b sizes rows frames leaves → Touches line_name b c →
     IsStartStop Line b c stop → Performs (Mux chain feac) a c (Err stop)
 mux_start_refused chain feac a b c sizes rows frames leaves stop ready touches cause =
     start_refused (Mux chain feac) Line a b c stop (mux_output chain feac) ready.looks ready.same (ready_goes_on chain feac a b sizes rows frames leaves ready) touches cause
 
-pub mux_append_refused : (chain : Chain) (feac : Option ℕ) (a b c d : ShelfState) (sizes : InputSizes) (rows : List Row) (frames : ℕ) (leaves : List (Vec Bool Global)) (made : Made) (bytes : List ℕ) (stop : Stop) → IsReady chain a b sizes rows frames leaves →
+pub mux_append_refused : (chain : Chain) (feac : Option ℕ) (a b c d : ShelfState) (sizes : InputSizes) (rows : List Row) (frames : ℕ) (leaves : List BoundedBits) (made : Made) (bytes : List ℕ) (stop : Stop) → IsReady chain a b sizes rows frames leaves →
     IsMade chain feac rows leaves made → bytes ≡ made.bytes.items → Touches line_name b c → Starts line_name b c → Touches line_name c d → IsAppendStop Line bytes c d stop → Performs (Mux chain feac) a d (Err stop)
 mux_append_refused chain feac a b c d sizes rows frames leaves made bytes stop ready is same starts started appends cause =
     append_refused (Mux chain feac) Line a b c d bytes stop (mux_output chain feac) (ready_writes chain feac a b sizes rows frames leaves made bytes ready is same) starts started appends cause
 
-pub mux_done : (chain : Chain) (feac : Option ℕ) (a b c d : ShelfState) (sizes : InputSizes) (rows : List Row) (frames : ℕ) (leaves : List (Vec Bool Global)) (made : Made) (bytes : List ℕ) → IsReady chain a b sizes rows frames leaves → IsMade chain feac rows leaves made →
+pub mux_done : (chain : Chain) (feac : Option ℕ) (a b c d : ShelfState) (sizes : InputSizes) (rows : List Row) (frames : ℕ) (leaves : List BoundedBits) (made : Made) (bytes : List ℕ) → IsReady chain a b sizes rows frames leaves → IsMade chain feac rows leaves made →
     bytes ≡ made.bytes.items → Touches line_name b c → Starts line_name b c → Touches line_name c d → Appends line_name bytes c d → made.end ≡ None → Performs (Mux chain feac) a d (Ok (Muxed chain frames))
 mux_done chain feac a b c d sizes rows frames leaves made bytes ready is same starts started touches appends ends =
     writing_done (Mux chain feac) Line a b c d bytes (Muxed chain frames) (mux_output chain feac) (ready_writes chain feac a b sizes rows frames leaves made bytes ready is same) starts started touches appends
@@ -150,7 +150,7 @@ event_performs : (chain : Chain) (feac : Option ℕ) (a d : ShelfState) (kind : 
 event_performs chain feac a d StoreOverflow place comes are changes counted = record { cause = comes; outputs = are; others = changes; counted = counted }
 event_performs chain feac a d StoreUnderflow place comes are changes counted = record { cause = comes; outputs = are; others = changes; counted = counted }
 
-pub event_ends : (chain : Chain) (feac : Option ℕ) (a b c d : ShelfState) (sizes : InputSizes) (rows : List Row) (frames : ℕ) (leaves : List (Vec Bool Global)) (made : Made) (bytes : List ℕ) (stop : Stop) → IsReady chain a b sizes rows frames leaves → IsMade chain feac rows leaves made →
+pub event_ends : (chain : Chain) (feac : Option ℕ) (a b c d : ShelfState) (sizes : InputSizes) (rows : List Row) (frames : ℕ) (leaves : List BoundedBits) (made : Made) (bytes : List ℕ) (stop : Stop) → IsReady chain a b sizes rows frames leaves → IsMade chain feac rows leaves made →
     bytes ≡ made.bytes.items → Touches line_name b c → Starts line_name b c → Touches line_name c d → Appends line_name bytes c d → made.end ≡ Some stop → Performs (Mux chain feac) a d (Err stop)
 event_ends chain feac a b c d sizes rows frames leaves made bytes stop ready is same starts started touches appends ends = go (event_of chain rows) refl
   where

@@ -2,6 +2,7 @@
 use Rattle.std.proofs.Common.{◌≡◌, ℕ, zero, suc, map, arith, ◌∷◌, ◌*◌, ◌/◌, ◌<◌, ◌≤◌, inl, inr, Bool, true, false, List, [], ◌++◌, Vec, length, cond, refl, ap, sym, ◌∙◌, subst, get_or, Option}
 use Rattle.std.specs.Prelude.{Option, Some, None, slice_index_or, slice_get, is_some}
 use Rattle.std.specs.declared.alloc.Global.{Global}
+use Rattle.pdh_bits.specs.BitOut.{BoundedBits}
 use Rattle.std.proofs.lemmas.Bool.{cases_lt, false≢true}
 use Rattle.std.proofs.lemmas.List.{get_or_append_left}
 use Rattle.std.proofs.Math.Nat.{mul-div_cancel}
@@ -38,19 +39,19 @@ begins (Some rest) given bits told i h =
     sym (ap (λ (l : List Bool). get_or l i false) whole ∙ get_or_append_left given rest false i h)
 
 -- the bits that are told of a leaf
-told_list : (leaves : List (Vec Bool Global)) (k : ℕ) → k < length leaves → (bits : List Bool) → ((d : Vec Bool Global) → bits ≡ (slice_index_or leaves k d).items) → slice_get (map items_of leaves) k ≡ Some bits
+told_list : (leaves : List BoundedBits) (k : ℕ) → k < length leaves → (bits : List Bool) → ((d : BoundedBits) → bits ≡ (slice_index_or leaves k d).bits) → slice_get (map items_of leaves) k ≡ Some bits
 told_list [] k h bits is = absurd (omega arith)
 told_list (leaf ∷ leaves) zero h bits is = ap Some (sym (is leaf))
 told_list (leaf ∷ leaves) (suc k) h bits is = told_list leaves k (omega arith) bits is
 
 -- the lists of a port as it was opened for leaves
-pub record IsOpened (chain : Chain) (leaves : List (Vec Bool Global)) (inputs : Inputs) (outputs : Outputs) : Type 0 where
+pub record IsOpened (chain : Chain) (leaves : List BoundedBits) (inputs : Inputs) (outputs : Outputs) : Type 0 where
   pub all : length leaves ≡ leaves_of chain
   pub inputs_are : inputs ≡ inputs_of (map items_of leaves)
   pub outputs_are : outputs ≡ outputs_of ([] ∷ [])
 
 -- the frames that were put are those of the leaves' bits
-put_line : (chain : Chain) (feac : Option ℕ) (rows : List Row) (leaves : List (Vec Bool Global)) (inputs inputs_now : Inputs) (outputs outputs_now : Outputs) (line : List Bool) (frames : ℕ) (lists : ℕ → List Bool) → IsOpened chain leaves inputs outputs
+put_line : (chain : Chain) (feac : Option ℕ) (rows : List Row) (leaves : List BoundedBits) (inputs inputs_now : Inputs) (outputs outputs_now : Outputs) (line : List Bool) (frames : ℕ) (lists : ℕ → List Bool) → IsOpened chain leaves inputs outputs
     → PutsFrames (shapes_of chain) (counts rows) (says_of feac) frames inputs inputs_now outputs outputs_now → outputs_now.told 0 ≡ Some line → AreBits chain leaves lists → line ≡ frames_of_line (shapes_of chain) (counts rows) (says_of feac) lists frames
 put_line chain feac rows leaves inputs inputs_now outputs outputs_now line frames lists is puts now bits =
     let before : outputs.told 0 ≡ Some [] = ap (λ (o : Outputs). o.told 0) is.outputs_are in
@@ -110,7 +111,7 @@ frames_before chain rows made whole event first met quiet begun within =
 -- ---- what was made
 
 -- the whole line
-pub made_whole : (chain : Chain) (feac : Option ℕ) (rows : List Row) (leaves : List (Vec Bool Global)) (inputs inputs_now : Inputs) (outputs outputs_now : Outputs) (line : List Bool) (bytes : Vec ℕ Global) (n : ℕ) → n ≡ frames_in rows → IsOpened chain leaves inputs outputs → outputs_now.told 0 ≡ Some line
+pub made_whole : (chain : Chain) (feac : Option ℕ) (rows : List Row) (leaves : List BoundedBits) (inputs inputs_now : Inputs) (outputs outputs_now : Outputs) (line : List Bool) (bytes : Vec ℕ Global) (n : ℕ) → n ≡ frames_in rows → IsOpened chain leaves inputs outputs → outputs_now.told 0 ≡ Some line
     → Muxes (shapes_of chain) (counts rows) (says_of feac) (frame_count rows) n inputs inputs_now outputs outputs_now → bytes.items ≡ bytes_of line → IsMade chain feac rows leaves (record { bytes = bytes; end = None })
 unfolding event_of
 made_whole chain feac rows leaves inputs inputs_now outputs outputs_now line bytes n frames is now muxes made =
@@ -127,7 +128,7 @@ kind_ends StoreOverflow place = refl
 kind_ends StoreUnderflow place = refl
 
 -- the line up to its first event
-pub made_until : (chain : Chain) (feac : Option ℕ) (rows : List Row) (leaves : List (Vec Bool Global)) (inputs inputs_now : Inputs) (outputs outputs_now : Outputs) (line : List Bool) (bytes : Vec ℕ Global) (n : ℕ) (over : Bool) (place : Place) (stop : Stop) → n ≡ frames_in rows → IsOpened chain leaves inputs outputs → outputs_now.told 0 ≡ Some line
+pub made_until : (chain : Chain) (feac : Option ℕ) (rows : List Row) (leaves : List BoundedBits) (inputs inputs_now : Inputs) (outputs outputs_now : Outputs) (line : List Bool) (bytes : Vec ℕ Global) (n : ℕ) (over : Bool) (place : Place) (stop : Stop) → n ≡ frames_in rows → IsOpened chain leaves inputs outputs → outputs_now.told 0 ≡ Some line
     → StopsAtEvent (shapes_of chain) (counts rows) (says_of feac) (frame_count rows) n over place inputs inputs_now outputs outputs_now → bytes.items ≡ bytes_of line
     → stop ≡ cond over (Overflow place) (Underflow place) → IsMade chain feac rows leaves (record { bytes = bytes; end = Some stop })
 unfolding event_of
@@ -142,7 +143,7 @@ made_until chain feac rows leaves inputs inputs_now outputs outputs_now line byt
     }
 
 -- what was sent, and the bytes of what was put
-pub sent_made : (chain : Chain) (feac : Option ℕ) (rows : List Row) (leaves : List (Vec Bool Global)) (inputs inputs_now : Inputs) (outputs outputs_now : Outputs) (line : List Bool) (bytes : Vec ℕ Global) (n : ℕ) (end : Option Stop) → n ≡ frames_in rows → IsOpened chain leaves inputs outputs
+pub sent_made : (chain : Chain) (feac : Option ℕ) (rows : List Row) (leaves : List BoundedBits) (inputs inputs_now : Inputs) (outputs outputs_now : Outputs) (line : List Bool) (bytes : Vec ℕ Global) (n : ℕ) (end : Option Stop) → n ≡ frames_in rows → IsOpened chain leaves inputs outputs
     → outputs_now.told 0 ≡ Some line → IsSent chain feac rows n inputs inputs_now outputs outputs_now end → bytes.items ≡ bytes_of line → IsMade chain feac rows leaves (record { bytes = bytes; end = end })
 sent_made chain feac rows leaves inputs inputs_now outputs outputs_now line bytes n None frames is now sent made =
     made_whole chain feac rows leaves inputs inputs_now outputs outputs_now line bytes n frames is now sent made

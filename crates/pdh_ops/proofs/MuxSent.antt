@@ -1,7 +1,7 @@
 -- What making the line of `mux` never meets: a node without frames, a list that is used up, a call that failed.
-use Rattle.std.proofs.Common.{◌≡◌, ℕ, zero, suc, ◌*◌, ◌<◌, ◌≤◌, List, [], ◌∷◌, Vec, Bool, length, refl, ap, sym, ◌∙◌, subst, arith, Option}
+use Rattle.std.proofs.Common.{◌≡◌, ℕ, zero, suc, ◌*◌, ◌<◌, ◌≤◌, List, [], ◌∷◌, length, refl, ap, sym, ◌∙◌, subst, arith, Option}
 use Rattle.std.specs.Prelude.{IsTrue, map, nat_lt, slice_get, slice_index_or}
-use Rattle.std.specs.declared.alloc.Global.{Global}
+use Rattle.pdh_bits.specs.BitOut.{BoundedBits}
 use Rattle.std.proofs.lemmas.Bool.{ltb-true}
 use Rattle.pdh_shape.specs.declared.place.Path.{Path}
 use Rattle.pdh_edge.specs.Files.{Rose}
@@ -41,10 +41,10 @@ has_bits chain rows frames leaf inputs inputs_now can stops =
     omega (arith, subst (λ x. inputs.left leaf < given_below (shapes_of chain) (counts rows) [] x leaf) same stops.short, entered, can.long leaf low)
 
 -- a leaf's list has as many bits as it was opened with
-pub list_left : (leaves : List (Vec Bool Global)) (k n : ℕ) (inputs : Inputs) → inputs ≡ inputs_of (map items_of leaves) → k < length leaves → ((d : Vec Bool Global) → n ≤ length (slice_index_or leaves k d).items) → n ≤ inputs.left k
+pub list_left : (leaves : List BoundedBits) (k n : ℕ) (inputs : Inputs) → inputs ≡ inputs_of (map items_of leaves) → k < length leaves → ((d : BoundedBits) → n ≤ length (slice_index_or leaves k d).bits) → n ≤ inputs.left k
 list_left leaves k n inputs opened low long = subst (λ m. n ≤ m) (sym (ap (λ (i : Inputs). i.left k) opened)) (go leaves k low long)
   where
-    go : (leaves : List (Vec Bool Global)) (k : ℕ) → k < length leaves → ((d : Vec Bool Global) → n ≤ length (slice_index_or leaves k d).items) → n ≤ length_of (slice_get (map items_of leaves) k)
+    go : (leaves : List BoundedBits) (k : ℕ) → k < length leaves → ((d : BoundedBits) → n ≤ length (slice_index_or leaves k d).bits) → n ≤ length_of (slice_get (map items_of leaves) k)
     go [] k low long = absurd (omega arith)
     go (leaf ∷ leaves) zero low long = long leaf
     go (leaf ∷ leaves) (suc k) low long = go leaves k (omega arith) long

@@ -1,7 +1,7 @@
 -- The steps of `mux`: what each finds, and why it stops.
-use Rattle.std.specs.Prelude.{◌≡◌, ℕ, ◌*◌, ◌<◌, ◌≤◌, List, Bool, Option, Some, None, Ok, if◌then◌else◌, IsTrue, length, Vec, slice_index, slice_index_or}
+use Rattle.std.specs.Prelude.{◌≡◌, ℕ, ◌*◌, ◌<◌, ◌≤◌, List, Bool, Option, Some, None, Ok, if◌then◌else◌, IsTrue, length, slice_index, slice_index_or}
 use Rattle.std.specs.Option.{option_map}
-use Rattle.std.specs.declared.alloc.Global.{Global}
+use Rattle.pdh_bits.specs.BitOut.{BoundedBits}
 use Rattle.pdh_bits.specs.Bits.{bytes_of}
 use Rattle.pdh_edge.specs.Files.{ShelfState}
 use Rattle.pdh_edge.specs.Ports.{Inputs, Outputs}
@@ -74,10 +74,10 @@ IsEnoughStop chain rows sizes (Short (Leaf k) have need) = IsShort chain rows si
 IsEnoughStop chain rows sizes _ = ⊥
 
 -- the leaves' bits
-pub record AreLeaves (chain : Chain) (sizes : InputSizes) (state : ShelfState) (leaves : List (Vec Bool Global)) : Type 0 where
+pub record AreLeaves (chain : Chain) (sizes : InputSizes) (state : ShelfState) (leaves : List BoundedBits) : Type 0 where
   pub count : length leaves ≡ leaves_of chain
-  pub len : (k : ℕ) (d : Vec Bool Global) → k < leaves_of chain → length (slice_index_or leaves k d).items ≡ 8 * slice_index sizes.leaves k
-  pub bits : (k : ℕ) (d : Vec Bool Global) → k < leaves_of chain → OfInputs (Mux chain None) state (λ files. (slice_index_or leaves k d).items ≡ leaf_bits files k)
+  pub len : (k : ℕ) (d : BoundedBits) → k < leaves_of chain → length (slice_index_or leaves k d).bits ≡ 8 * slice_index sizes.leaves k
+  pub bits : (k : ℕ) (d : BoundedBits) → k < leaves_of chain → OfInputs (Mux chain None) state (λ files. (slice_index_or leaves k d).bits ≡ leaf_bits files k)
 
 -- A port can send so many frames of the line: they are those of the schedule, each node has those that it begins, and each
 -- leaf's list has as many bits as must enter.
@@ -99,10 +99,10 @@ IsEnd None end = end ≡ None
 IsEnd (Some event) end = end ≡ Some (stop_of_event event)
 
 -- these are the leaves' bits
-abbrev pub AreBits : Chain → List (Vec Bool Global) → (ℕ → List Bool) → Type 0
-AreBits chain leaves lists = (k : ℕ) (d : Vec Bool Global) → k < leaves_of chain → lists k ≡ (slice_index_or leaves k d).items
+abbrev pub AreBits : Chain → List BoundedBits → (ℕ → List Bool) → Type 0
+AreBits chain leaves lists = (k : ℕ) (d : BoundedBits) → k < leaves_of chain → lists k ≡ (slice_index_or leaves k d).bits
 
 -- the line's bytes up to the first event, and how that ends the command
-pub record IsMade (chain : Chain) (feac : Option ℕ) (rows : List Row) (leaves : List (Vec Bool Global)) (made : Made) : Type 0 where
+pub record IsMade (chain : Chain) (feac : Option ℕ) (rows : List Row) (leaves : List BoundedBits) (made : Made) : Type 0 where
   pub bytes : (lists : ℕ → List Bool) → AreBits chain leaves lists → made.bytes.items ≡ bytes_of (frames_of_line (shapes_of chain) (counts rows) (says_of feac) lists (frames_made chain rows))
   pub end : IsEnd (event_of chain rows) made.end

@@ -18,9 +18,9 @@ use crate::file::File;
 use crate::files::{append, start};
 use crate::leaf::leaf_count;
 use crate::line::read_line;
-use pdh_bits::{bits_of, bytes_of};
 use pdh_chain::{Chain, DemuxStop, leaves};
 use pdh_edge::{Drain, Feed, MemPort, Port, Shelf};
+use pdh_packed::Packed;
 use pdh_watch::Quiet;
 use pdh_words::Bits;
 use std::alloc::{AllocError, Global};
@@ -50,14 +50,14 @@ fn make_room(port: &mut MemPort, leaves: u32, bits: usize) -> Result<(), AllocEr
 
 // A port that gives a line and takes what its leaves receive, with room for all of that: a leaf
 // receives no more than its share of the line's bits.
-fn port_of(alloc: Global, line: Vec<bool>, leaves: u32) -> Result<MemPort, AllocError>
+fn port_of(alloc: Global, line: Packed, leaves: u32) -> Result<MemPort, AllocError>
     requires some { 0 < leaves }
-    requires few { length line.items < 2 ^ 62 }
-    ensures inputs { IfOk result (λ port. ⟦<MemPort as Feed>⟧.inputs port ≡ inputs_of (line.items ∷ [])) }
+    requires few { length line.bits < 2 ^ 62 }
+    ensures inputs { IfOk result (λ port. ⟦<MemPort as Feed>⟧.inputs port ≡ inputs_of (line.bits ∷ [])) }
     ensures outputs { IfOk result (λ port. ⟦<MemPort as Drain>⟧.outputs port ≡ outputs_of (replicate leaves [])) }
     ensures fresh { IfOk result ⟦<MemPort as Port>⟧.fresh }
     ensures faults { IfOk result (λ port. ⟦<MemPort as Drain>⟧.drain_faults port ≡ 0) }
-    ensures room { IfOk result (λ port. (k : ℕ) → k < leaves → length line.items / leaves < room_of port k) }
+    ensures room { IfOk result (λ port. (k : ℕ) → k < leaves → length line.bits / leaves < room_of port k) }
 {
     let bits = line.len() / leaves as usize;
     let mut inputs = Vec::new(alloc);
@@ -97,7 +97,7 @@ fn leaf_bytes(alloc: Global, port: &MemPort, leaves: u32) -> Result<Vec<Vec<u8>>
 {
     let mut outputs = Vec::new(alloc);
     for leaf in 0..leaves {
-        outputs.push(bytes_of(alloc, port.output(leaf))?)?;
+        outputs.push(port.output(leaf).to_bytes(alloc)?)?;
     }
     Ok(outputs)
 }
@@ -107,7 +107,7 @@ fn receive(alloc: Global, chain: Chain, line: &[u8]) -> Result<Received, AllocEr
     requires { length line.now < 2 ^ 59 }
     ensures { IfOk result (IsReceived chain line.now) }
 {
-    let bits = bits_of(alloc, line)?;
+    let bits = Packed::of_bytes(alloc, line)?;
     let count = bits.len() as u64;
     let leaves = leaves(chain);
     let mut port = port_of(alloc, bits, leaves)?;

@@ -13,9 +13,9 @@ use crate::answer::{Done, Stop};
 use crate::file::File;
 use crate::files::{append, read, size, start};
 use crate::mux::port_for;
-use pdh_bits::{bits_of, bytes_of};
 use pdh_chain::{Chain, frame_bytes};
 use pdh_edge::{Drain, Feed, MemPort, Port, Shelf};
+use pdh_packed::Packed;
 use pdh_script::{ApplyStop, MOST_SCRIPT_BYTES, Script};
 use pdh_shape::MOST_FRAMES;
 use std::alloc::{AllocError, Global};
@@ -92,9 +92,9 @@ fn apply(script: &Script, bits: u64, port: &mut MemPort)
 }
 
 // A port that gives a line and has room for so many bits.
-fn port_of(alloc: Global, line: Vec<bool>, room: usize) -> Result<MemPort, AllocError>
+fn port_of(alloc: Global, line: Packed, room: usize) -> Result<MemPort, AllocError>
     requires { room < 2 ^ 63 }
-    ensures inputs { IfOk result (λ port. ⟦<MemPort as Feed>⟧.inputs port ≡ inputs_of (line.items ∷ [])) }
+    ensures inputs { IfOk result (λ port. ⟦<MemPort as Feed>⟧.inputs port ≡ inputs_of (line.bits ∷ [])) }
     ensures outputs { IfOk result (λ port. ⟦<MemPort as Drain>⟧.outputs port ≡ outputs_of ([] ∷ [])) }
     ensures fresh { IfOk result ⟦<MemPort as Port>⟧.fresh }
     ensures faults { IfOk result (λ port. ⟦<MemPort as Drain>⟧.drain_faults port ≡ 0) }
@@ -112,13 +112,13 @@ fn bend(alloc: Global, line: &[u8], script: &Script) -> Result<BentLine, AllocEr
     requires fit { FitIn (8 * length line.now) script.now }
     ensures { IfOk result (IsBent line.now script.now) }
 {
-    let bits = bits_of(alloc, line)?;
+    let bits = Packed::of_bytes(alloc, line)?;
     let count = bits.len();
     let room = count + 8 * script.added_bytes() as usize;
     let mut port = port_of(alloc, bits, room)?;
     apply(script, count as u64, &mut port);
     let bent = port.output(0);
-    let bytes = bytes_of(alloc, bent)?;
+    let bytes = bent.to_bytes(alloc)?;
     Ok(BentLine {
         bytes,
         bits: bent.len() as u64,

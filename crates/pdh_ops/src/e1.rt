@@ -1,4 +1,5 @@
 ghost use Rattle.std.specs.Prelude.{◌≡◌, ◌<◌, ◌≤◌, ◌/◌, ◌%◌, ◌^◌, [], ◌∷◌, length, IsTrue, IfOk, IfErr, OnOk, Some, Ok};
+ghost use Rattle.pdh_bits.specs.Bits.{bits_of};
 ghost use Rattle.pdh_edge.specs.Files.{Looks, Holds};
 ghost use Rattle.pdh_edge.specs.MemLists.{outputs_of};
 ghost use Rattle.pdh_g706.specs.View.{StandsFor, Gains};
@@ -14,12 +15,15 @@ ghost use Rattle.pdh_shape.specs.OwnNumbers.{most_frames};
 use crate::answer::{Done, E1Counts, Stop};
 use crate::file::File;
 use crate::files::{append, read, size, start};
-use pdh_bits::{bits_of, bytes_of};
+use pdh_bits::bits_of;
 use pdh_e1::{PackFault, pack};
 use pdh_edge::{Drain, MemPort, Shelf};
 use pdh_g706::E1Align;
 use pdh_shape::MOST_FRAMES;
 use std::alloc::{AllocError, Global};
+
+// The most octets of a line whose bits are given to a machine at once.
+const MOST_OCTETS: usize = 4096;
 
 // What a framed line gives: the whole octets of its payload, and what was found in it.
 #[derive(Drop)]
@@ -98,29 +102,37 @@ fn payload_port(alloc: Global, bits: usize) -> Result<MemPort, AllocError>
     Ok(port)
 }
 
-// Gives a machine that has taken no bit the bits of a line. Memory is wanting where the port has no room left.
-fn deliver(align: &mut E1Align, bits: &[bool], port: &mut MemPort) -> Result<(), AllocError>
+// Gives a machine that has taken no bit the bits of a line, a piece at a time. Memory is wanting where a piece finds none, or
+// the port has no room left.
+fn deliver(
+    alloc: Global,
+    line: &[u8],
+    align: &mut E1Align,
+    port: &mut MemPort,
+) -> Result<(), AllocError>
     requires stands { StandsFor align.old [] }
     requires list { IsTrue ((⟦<MemPort as Drain>⟧.outputs port.old).holds 0) }
-    ensures stands { OnOk result (StandsFor align.new bits.now) }
-    ensures put { OnOk result (Gains [] bits.now (⟦<MemPort as Drain>⟧.outputs port.old) (⟦<MemPort as Drain>⟧.outputs port.new)) }
+    ensures stands { OnOk result (StandsFor align.new (bits_of line.now)) }
+    ensures put { OnOk result (Gains [] (bits_of line.now) (⟦<MemPort as Drain>⟧.outputs port.old) (⟦<MemPort as Drain>⟧.outputs port.new)) }
     ensures list { IsTrue ((⟦<MemPort as Drain>⟧.outputs port.new).holds 0) }
 {
-    match align.take(bits, port) {
-        Ok(()) => Ok(()),
-        Err(_) => Err(AllocError),
+    for octets in line.chunks(MOST_OCTETS) {
+        let bits = bits_of(alloc, octets)?;
+        let Ok(()) = align.take(&bits, port) else {
+            return Err(AllocError);
+        };
     }
+    Ok(())
 }
 
 // What a framed line gives.
 fn unpack(alloc: Global, line: &[u8]) -> Result<Unpacked, AllocError>
     ensures { IfOk result (IsUnpacked line.now) }
 {
-    let bits = bits_of(alloc, line)?;
-    let mut port = payload_port(alloc, bits.len())?;
+    let mut port = payload_port(alloc, line.len().saturating_mul(8))?;
     let mut align = E1Align::open(alloc)?;
-    deliver(&mut align, &bits, &mut port)?;
-    let payload = bytes_of(alloc, port.output(0))?;
+    deliver(alloc, line, &mut align, &mut port)?;
+    let payload = port.output(0).to_bytes(alloc)?;
     let found = E1Counts {
         multiframes: align.multiframes(),
         blocks: align.blocks(),

@@ -1,5 +1,5 @@
-ghost use Rattle.std.specs.Prelude.{if◌then◌else◌, ◌≡◌, ℕ, ◌*◌, Bool, [], ◌∷◌, map, Vec, ◌^◌, ◌<◌, ◌≤◌, length, slice_index_or, IsTrue, IfOk, OnOk, OnErr, IfErr, IfSome, All, Option, None};
-ghost use Rattle.std.specs.declared.alloc.Global.{Global};
+ghost use Rattle.std.specs.Prelude.{if◌then◌else◌, ◌≡◌, ℕ, ◌*◌, [], ◌∷◌, map, ◌^◌, ◌<◌, ◌≤◌, length, slice_index_or, IsTrue, IfOk, OnOk, OnErr, IfErr, IfSome, All, Option, None};
+ghost use Rattle.pdh_bits.specs.BitOut.{BoundedBits};
 ghost use Rattle.pdh_edge.specs.Files.{Looks};
 ghost use Rattle.pdh_edge.specs.MemLists.{inputs_of, outputs_of, items_of, room_of};
 ghost use Rattle.pdh_nesting.specs.Chains.{top_len};
@@ -21,10 +21,10 @@ use crate::file::File;
 use crate::files::{append, read, size, start};
 use crate::leaf::leaf_count;
 use crate::schedule::read_schedule;
-use pdh_bits::{bits_of, bytes_of};
 use pdh_chain::{Chain, MuxStop, frame_bytes};
 use pdh_clock::Schedule;
 use pdh_edge::{Drain, Feed, MemPort, Port, Shelf};
+use pdh_packed::Packed;
 use pdh_shape::{MOST_FRAMES, Place, TOP};
 use std::alloc::{AllocError, Global};
 
@@ -89,7 +89,7 @@ fn read_leaves<S: Shelf>(
     chain: Chain,
     shelf: &mut S,
     sizes: &InputSizes,
-) -> Result<Vec<Vec<bool>>, Stop>
+) -> Result<Vec<Packed>, Stop>
     requires sizes { AreSizes chain sizes.now (S.state shelf.old) }
     requires due { GoesOn (Mux chain None) (S.state shelf.old) }
     ensures looks { Looks (S.state shelf.old) (S.state shelf.new) }
@@ -100,7 +100,7 @@ fn read_leaves<S: Shelf>(
     let mut leaves = Vec::new(alloc);
     for leaf in 0..leaf_count(chain) {
         let bytes = read(alloc, shelf, File::Leaf(leaf), sizes.leaves[leaf as usize])?;
-        let bits = bits_of(alloc, &bytes)?;
+        let bits = Packed::of_bytes(alloc, &bytes)?;
         if leaves.push(bits).is_err() {
             return Err(Stop::Memory);
         }
@@ -120,7 +120,7 @@ fn stop_of(over: bool, place: Place) -> Stop
 }
 
 /// A port that gives the bits of these lists and has room for a line of so many bits.
-pub fn port_for(alloc: Global, lists: Vec<Vec<bool>>, bits: usize) -> Result<MemPort, AllocError>
+pub fn port_for(alloc: Global, lists: Vec<Packed>, bits: usize) -> Result<MemPort, AllocError>
     requires { bits < 2 ^ 63 }
     ensures inputs { IfOk result (λ port. ⟦<MemPort as Feed>⟧.inputs port ≡ inputs_of (map items_of lists.items)) }
     ensures outputs { IfOk result (λ port. ⟦<MemPort as Drain>⟧.outputs port ≡ outputs_of ([] ∷ [])) }
@@ -174,7 +174,7 @@ fn make(
     clock: &Schedule,
     frames: u64,
     feac: Option<u8>,
-    leaves: Vec<Vec<bool>>,
+    leaves: Vec<Packed>,
 ) -> Result<Made, AllocError>
     requires levels { clock.now.levels ≡ levels_of chain }
     requires frames { frames ≡ frames_in clock.now.rows }
@@ -182,13 +182,13 @@ fn make(
     requires few { frames ≤ most_frames }
     requires scheduled { short_node chain clock.now.rows ≡ None }
     requires count { length leaves.items ≡ leaves_of chain }
-    requires long { (k : ℕ) (d : Vec Bool Global) → k < leaves_of chain → bits_needed chain clock.now.rows k ≤ length (slice_index_or leaves.items k d).items }
+    requires long { (k : ℕ) (d : BoundedBits) → k < leaves_of chain → bits_needed chain clock.now.rows k ≤ length (slice_index_or leaves.items k d).bits }
     ensures { IfOk result (IsMade chain feac clock.now.rows leaves.items) }
 {
     let bits = 8 * frames as usize * frame_bytes(chain) as usize;
     let mut port = port_for(alloc, leaves, bits)?;
     let end = send(alloc, chain, clock, frames, feac, &mut port)?;
-    let bytes = bytes_of(alloc, port.output(0))?;
+    let bytes = port.output(0).to_bytes(alloc)?;
     Ok(Made { bytes, end })
 }
 

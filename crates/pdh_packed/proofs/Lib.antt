@@ -1,8 +1,13 @@
 pub mod PackedLaws
+pub mod AlteringLaws
 pub mod BoundedLaws
+pub mod GainingLaws
 pub mod OnesLaws
 pub mod ByteLaws
 pub mod InterleavingLaws
 pub mod TurnLaws
 pub mod DealtLaws
 pub mod RowLaws
+pub mod BitwiseLaws
+pub mod ArrayLaws
+pub mod PlacesLaws

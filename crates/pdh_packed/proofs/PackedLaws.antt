@@ -1,6 +1,6 @@
 -- Bits in words of 64, cut and read.
 use Rattle.std.proofs.Common.{◌^◌, ◌≡◌, ℕ, min, ◌+◌, ◌-◌, ◌*◌, ◌/◌, ◌%◌, ◌<◌, ◌≤◌, Bool, List, [], ◌∷◌, ◌++◌, length, take, drop, get_or, append_assoc, refl, sym, ◌∙◌, ap, arith, length-append, length-drop, length-take}
-use Rattle.std.proofs.lemmas.List.{take_at, drop_at, take_all, drop_more, take-append-drop, drop-drop, drop-take, take-take, append-nil, drop_all, drop-append-le}
+use Rattle.std.proofs.lemmas.List.{take_at, drop_at, take_all, drop_more, take-append-drop, drop-drop, drop-take, take-take, append-nil, drop_all, drop-append-le, take-append-le}
 use Rattle.std.proofs.lemmas.List.Concat.{flat_map-append}
 use Rattle.std.proofs.Math.Seq.{take-add}
 use Rattle.pdh_packed.specs.Words.{low_bits, bits_of_words}
@@ -107,6 +107,16 @@ read_across bits first next place count is_first is_next few =
     drop-take o (128 - o) (drop i bits) ∙ ap (take (128 - o)) (drop-drop o i bits ∙ ap (λ (k : ℕ). drop k bits) at) in
     ap (λ (x : List Bool). take count (drop o x)) (both ∙ ap (λ (k : ℕ). take k (drop i bits)) whole) ∙ ap (take count) cut
     ∙ take-take count (128 - o) (drop place bits) (omega arith)
+
+-- or those of its word alone
+pub read_inside : (bits first : List Bool) (place count : ℕ) → first ≡ take 64 (drop (64 * (place / 64)) bits) → count ≤ 64 → place % 64 + count ≤ length first
+    → take count (drop (place % 64) first) ≡ take count (drop place bits)
+read_inside bits first place count is_first few within =
+    let o : ℕ = place % 64 in
+    let next : List Bool = take 64 (drop (64 * (place / 64 + 1)) bits) in
+    let begun : drop o (first ++ next) ≡ drop o first ++ next = drop-append-le o first next (omega arith) in
+    let cut : take count (drop o first ++ next) ≡ take count (drop o first) = take-append-le count (drop o first) next (omega (arith, length-drop o first)) in
+    sym cut ∙ ap (take count) (sym begun) ∙ read_across bits first next place count is_first refl few
 
 -- they have these bits
 pub read_within : (bits first next : List Bool) (place count : ℕ) → first ≡ take 64 (drop (64 * (place / 64)) bits) → next ≡ take 64 (drop (64 * (place / 64 + 1)) bits) → count ≤ 64 → place + count ≤ length bits

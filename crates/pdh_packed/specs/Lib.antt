@@ -1,3 +1,5 @@
 pub mod Words
 pub mod WordLaws
 pub mod Interleaving
+pub mod Gaining
+pub mod Places

@@ -1,8 +1,9 @@
-ghost use Rattle.std.specs.Prelude.{◌≡◌, ◌+◌, ◌-◌, ◌*◌, ◌/◌, ◌≤◌, ◌++◌, length, min, take, drop};
+ghost use Rattle.std.specs.Prelude.{◌≡◌, ◌+◌, ◌-◌, ◌*◌, ◌/◌, ◌≤◌, ◌++◌, length, min, take, drop, IfOk};
 ghost use Rattle.pdh_bits.specs.Bits.{bits_of, bytes_of};
 
 use crate::packed::Packed;
 use crate::word::Word;
+use std::alloc::{AllocError, Global};
 
 // The bits of eight bytes.
 fn word_of(bytes: &[u8]) -> Word
@@ -16,6 +17,27 @@ fn word_of(bytes: &[u8]) -> Word
 }
 
 impl Packed {
+    /// The bits of bytes, the most significant bit of each byte first, with room for no more; or the refusal of memory.
+    pub fn of_bytes(alloc: Global, bytes: &[u8]) -> Result<Packed, AllocError>
+        ensures { IfOk result (λ list. list ≡ record { capacity = 8 * length bytes.now; bits = bits_of bytes.now }) }
+    {
+        let Some(capacity) = bytes.len().checked_mul(8) else {
+            return Err(AllocError);
+        };
+        let mut list = Packed::open(alloc, capacity)?;
+        list.append_bytes(bytes);
+        Ok(list)
+    }
+
+    /// The whole bytes of the bits, or the refusal of memory. Up to seven last bits that fill no byte are left off.
+    pub fn to_bytes(&self, alloc: Global) -> Result<Vec<u8>, AllocError>
+        ensures { IfOk result (λ bytes. bytes.items ≡ bytes_of self.now.bits) }
+    {
+        let mut bytes = vec![in alloc; 0u8; self.len() / 8]?;
+        self.write_bytes(0, &mut bytes);
+        Ok(bytes)
+    }
+
     /// Appends the bits of bytes, for which there is room, the most significant bit of each byte first.
     pub fn append_bytes(&mut self, bytes: &[u8])
         requires { length self.old.bits + 8 * length bytes.now ≤ self.old.capacity }
@@ -23,7 +45,7 @@ impl Packed {
     {
         let mut done = 0;
         while bytes.len() - done >= 8 {
-            self.append(word_of(&bytes[done..done + 8]));
+            self.append_whole(word_of(&bytes[done..done + 8]).number());
             done += 8;
         }
         self.append_few(&bytes[done..]);

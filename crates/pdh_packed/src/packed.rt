@@ -1,11 +1,12 @@
-ghost use Rattle.std.specs.Prelude.{◌≡◌, ◌+◌, ◌*◌, ◌%◌, ◌==◌, ◌<◌, ◌≤◌, [], ◌++◌, length, take, drop, count_by, IfOk};
+ghost use Rattle.std.specs.Prelude.{◌≡◌, ◌+◌, ◌*◌, ◌%◌, ◌==◌, ◌<◌, ◌≤◌, false, not, [], ◌++◌, length, map, max, take, drop, get_or, count_by, vec_capacity, IfOk, OnOk, OnErr};
 ghost use Rattle.pdh_packed.specs.Words.{low_bits};
 
+use crate::altering::{fill_words, invert_words};
 use crate::word::Word;
 use std::alloc::{AllocError, Global};
 use std::marker::Model;
 
-/// A list of bits in words of 64, up to a capacity in bits. Only `open` takes memory.
+/// A list of bits in words of 64, up to a capacity in bits. Only `open` and `reserve` take memory.
 #[derive(Drop)]
 pub struct Packed {
     words: Vec<u64>,
@@ -25,6 +26,18 @@ impl Model for Packed {
     ghost invariant = { λ p. (length p.tail < 64) × (p.capacity / 64 ≤ vec_capacity p.words) × (64 * length p.words.items + length p.tail ≤ p.capacity) × (p.capacity < 2 ^ 64) };
 }
 
+// Takes over the words of another list, for which there is room.
+fn copy_words(words: &mut Vec<u64>, others: &[u64])
+    requires { length others.now ≤ vec_capacity words.old }
+    ensures items { words.new.items ≡ others.now }
+    ensures capacity { vec_capacity words.new ≡ vec_capacity words.old }
+{
+    words.clear();
+    for word in others {
+        words.push_reserved(*word);
+    }
+}
+
 #[tactic(auto, using(crate::proofs::PackedLaws::packed_laws))]
 impl Packed {
     /// An empty one with room for `capacity` bits.
@@ -37,6 +50,17 @@ impl Packed {
             tail: Word::empty(),
             capacity,
         })
+    }
+
+    /// An empty one with room for 63 bits, which takes no memory.
+    pub fn short(alloc: Global) -> Packed
+        ensures { result ≡ record { capacity = 63; bits = [] } }
+    {
+        Packed {
+            words: Vec::new(alloc),
+            tail: Word::empty(),
+            capacity: 63,
+        }
     }
 
     /// How many bits there are.
@@ -63,6 +87,7 @@ impl Packed {
     }
 
     /// Appends the bits of a word, for which there is room.
+    #[inline(always)]
     pub fn append(&mut self, word: Word)
         requires room { length self.old.bits + length word ≤ self.old.capacity }
         ensures { self.new ≡ record self.old { bits = self.old.bits ++ word } }
@@ -73,45 +98,59 @@ impl Packed {
     }
 
     /// The bits from a place on, at most 64.
+    #[inline(always)]
     pub fn read(&self, place: usize, count: u32) -> Word
         requires few { count ≤ 64 }
         requires within { place + count ≤ length self.now.bits }
         ensures { result ≡ take count (drop place self.now.bits) }
     {
         let index = place / 64;
-        self.word_at(index)
-            .across(self.word_at(index + 1), (place % 64) as u32, count)
+        let offset = (place % 64) as u32;
+        let first = self.word_at(index);
+        if offset + count <= first.len() {
+            return first.part(offset, count);
+        }
+        first.across(self.word_at(index + 1), offset, count)
     }
 
     // Appends the 64 bits of a number, for which there is room.
-    fn append_whole(&mut self, number: u64)
+    #[inline(always)]
+    pub(crate) fn append_whole(&mut self, number: u64)
         requires { length self.old.bits + 64 ≤ self.old.capacity }
         ensures { self.new ≡ record self.old { bits = self.old.bits ++ low_bits 64 number } }
     {
-        let held = self.tail.len();
-        if held == 0 {
-            self.words.push_reserved(number);
-            return;
-        }
-        let full = (self.tail.number() << (64 - held)).wrapping_add(number >> held);
+        let full = self.tail.fill_whole(number);
         self.words.push_reserved(full);
-        self.tail = Word::of(number & ((1 << held) - 1), held);
     }
 
     // The number that the 64 bits from a place on write.
+    #[inline(always)]
     pub(crate) fn read_whole(&self, place: usize) -> u64
         requires { place + 64 ≤ length self.now.bits }
         ensures { low_bits 64 result ≡ take 64 (drop place self.now.bits) }
     {
         let index = place / 64;
         let offset = place % 64;
-        if offset == 0 || index + 1 >= self.words.len() {
-            return self.read(place, 64).number();
+        if offset == 0 {
+            return self.words[index];
+        }
+        if index + 1 >= self.words.len() {
+            return self.read_last(place);
         }
         (self.words[index] << offset).wrapping_add(self.words[index + 1] >> (64 - offset))
     }
 
+    // The same where they end past the whole words.
+    #[inline(never)]
+    fn read_last(&self, place: usize) -> u64
+        requires { place + 64 ≤ length self.now.bits }
+        ensures { low_bits 64 result ≡ take 64 (drop place self.now.bits) }
+    {
+        self.read(place, 64).number()
+    }
+
     // A number of 64 bits that begin with the bits from a place on, so many.
+    #[inline(always)]
     pub(crate) fn read_left(&self, place: usize, count: u32) -> u64
         requires few { count ≤ 64 }
         requires within { place + count ≤ length self.now.bits }
@@ -141,7 +180,21 @@ impl Packed {
     }
 
     /// Appends bits of another list, so many from a place on, for which there is room.
+    #[inline(always)]
     pub fn append_from(&mut self, other: &Packed, place: usize, count: usize)
+        requires within { place + count ≤ length other.now.bits }
+        requires room { length self.old.bits + count ≤ self.old.capacity }
+        ensures { self.new ≡ record self.old { bits = self.old.bits ++ take count (drop place other.now.bits) } }
+    {
+        if count < 64 {
+            self.append(other.read(place, count as u32));
+            return;
+        }
+        self.append_words(other, place, count);
+    }
+
+    // The same word by word.
+    fn append_words(&mut self, other: &Packed, place: usize, count: usize)
         requires within { place + count ≤ length other.now.bits }
         requires room { length self.old.bits + count ≤ self.old.capacity }
         ensures { self.new ≡ record self.old { bits = self.old.bits ++ take count (drop place other.now.bits) } }
@@ -178,5 +231,69 @@ impl Packed {
         ensures { result ≡ (count_by (λ bit. bit) (take count (drop place self.now.bits)) % 2 == 1) }
     {
         self.ones(place, count) % 2 == 1
+    }
+
+    /// The bit at a place.
+    pub fn get(&self, place: usize) -> bool
+        requires { place < length self.now.bits }
+        ensures { result ≡ get_or self.now.bits place false }
+    {
+        self.word_at(place / 64).get((place % 64) as u32)
+    }
+
+    /// Makes room for so many bits more, unless there is as much; or the refusal of memory for it.
+    pub fn reserve(&mut self, more: usize) -> Result<(), AllocError>
+        ensures ok { OnOk result (self.new ≡ record self.old { capacity = max self.old.capacity (length self.old.bits + more) }) }
+        ensures err { OnErr result (self.new ≡ self.old) }
+    {
+        let Some(needed) = self.len().checked_add(more) else {
+            return Err(AllocError);
+        };
+        if needed > self.capacity {
+            self.words.reserve(needed / 64 - self.words.len())?;
+            self.capacity = needed;
+        }
+        Ok(())
+    }
+
+    /// Inverts all bits.
+    pub fn invert(&mut self)
+        ensures { self.new ≡ record self.old { bits = map not self.old.bits } }
+    {
+        invert_words(&mut self.words);
+        self.tail = self.tail.inverted();
+    }
+
+    /// Sets all bits to one value.
+    pub fn fill(&mut self, bit: bool)
+        ensures { self.new ≡ record self.old { bits = map (λ old. bit) self.old.bits } }
+    {
+        fill_words(&mut self.words, bit);
+        self.tail = Word::copies(bit, self.tail.len());
+    }
+
+    /// Takes over the bits of another list, for which there is room, in place of its own.
+    pub fn copy_from(&mut self, other: &Packed)
+        requires { length other.now.bits ≤ self.old.capacity }
+        ensures { self.new ≡ record self.old { bits = other.now.bits } }
+    {
+        copy_words(&mut self.words, &other.words);
+        self.tail = other.tail;
+    }
+
+    /// Appends bits of another list inverted, so many from a place on, for which there is room.
+    pub fn append_inverted(&mut self, other: &Packed, place: usize, count: usize)
+        requires within { place + count ≤ length other.now.bits }
+        requires room { length self.old.bits + count ≤ self.old.capacity }
+        ensures { self.new ≡ record self.old { bits = self.old.bits ++ map not (take count (drop place other.now.bits)) } }
+    {
+        // a place fits, since a length does
+        let _fits = other.len();
+        let mut done = 0;
+        while count - done >= 64 {
+            self.append_whole(u64::MAX - other.read_whole(place + done));
+            done += 64;
+        }
+        self.append(other.read(place + done, (count - done) as u32).inverted());
     }
 }

@@ -1,7 +1,8 @@
 ghost use Rattle.std.specs.Prelude.{◌≡◌, ◌+◌, ◌-◌, ◌*◌, ◌%◌, ◌<◌, ◌≤◌, [], ◌∷◌, ◌++◌, false, length, take, drop, get_or, IfOk};
 ghost use Rattle.circular_buffer.specs.Buffer.{buffer, keep_last};
-ghost use Rattle.pdh_packed.specs.Words.{bits_of_words};
+ghost use Rattle.pdh_packed.specs.Words.{low_bits, bits_of_words};
 
+use crate::packed::Packed;
 use crate::word::Word;
 use circular_buffer::HeapCircularBuffer;
 use std::alloc::{AllocError, Global};
@@ -35,6 +36,23 @@ fn append_whole(words: &mut HeapCircularBuffer<u64>, word: u64)
     ensures { words.new ≡ buffer (words.old.items ++ word ∷ []) words.old.capacity }
 {
     words.push_back(word);
+}
+
+// The same at the end of bits that come one by one.
+#[inline(never)]
+fn end_word(words: &mut HeapCircularBuffer<u64>, word: u64)
+    requires { length words.old.items < words.old.capacity }
+    ensures { words.new ≡ buffer (words.old.items ++ word ∷ []) words.old.capacity }
+{
+    append_whole(words, word);
+}
+
+// A word of those that there are.
+fn whole_at(words: &HeapCircularBuffer<u64>, index: usize) -> u64
+    requires { index < length words.now.items }
+    ensures { result ≡ get_or words.now.items index 0 }
+{
+    words.get(index).copied().unwrap_or(0)
 }
 
 // The bits from a word's first on, up to 64: a whole word, the tail after the whole words, or none.
@@ -88,9 +106,12 @@ impl BitRing {
     pub fn push(&mut self, bit: bool)
         ensures { self.new ≡ record self.old { bits = keep_last self.old.capacity (self.old.bits ++ bit ∷ []) } }
     {
-        let mut word = Word::empty();
-        word.push(bit);
-        self.push_word(word);
+        if self.held() == self.capacity() {
+            self.drop_oldest(1);
+            self.append_bit(bit);
+            return;
+        }
+        self.append_bit(bit);
     }
 
     /// Appends the bits of a word, and keeps the last bits, as many as the capacity says.
@@ -125,7 +146,16 @@ impl BitRing {
         requires { back < length self.now.bits }
         ensures { result ≡ get_or self.now.bits (length self.now.bits - 1 - back) false }
     {
-        self.read(self.held() - 1 - back, 1).get(0)
+        self.bit(self.held() - 1 - back)
+    }
+
+    /// The bit at a place. Place 0 is the oldest bit's.
+    pub fn bit(&self, place: u32) -> bool
+        requires { place < length self.now.bits }
+        ensures { result ≡ get_or self.now.bits place false }
+    {
+        let from = self.dropped + place;
+        word_at(&self.words, &self.tail, (from / 64) as usize).get(from % 64)
     }
 
     /// The bits from a place on, at most 64. Place 0 is the oldest bit's.
@@ -136,18 +166,103 @@ impl BitRing {
     {
         let from = self.dropped + place;
         let index = (from / 64) as usize;
+        let offset = from % 64;
         let first = word_at(&self.words, &self.tail, index);
-        let next = word_at(&self.words, &self.tail, index + 1);
-        first.across(next, from % 64, count)
+        if offset + count <= first.len() {
+            return first.after(offset).first(count);
+        }
+        first.across(word_at(&self.words, &self.tail, index + 1), offset, count)
     }
 
-    // Appends the bits of a word, for which there is room.
-    fn append(&mut self, word: Word)
-        requires { length self.old.bits + length word ≤ self.old.capacity }
+    // The number that the 64 bits from a place on write.
+    fn read_whole(&self, place: u32) -> u64
+        requires { place + 64 ≤ length self.now.bits }
+        ensures { low_bits 64 result ≡ take 64 (drop place self.now.bits) }
+    {
+        let from = self.dropped + place;
+        let index = (from / 64) as usize;
+        let offset = from % 64;
+        if offset == 0 {
+            return whole_at(&self.words, index);
+        }
+        if index + 1 >= self.words.len() {
+            return self.read(place, 64).number();
+        }
+        (whole_at(&self.words, index) << offset).wrapping_add(
+            whole_at(&self.words, index + 1) >> (64 - offset),
+        )
+    }
+
+    /// Forgets all bits.
+    pub fn clear(&mut self)
+        ensures { self.new ≡ record self.old { bits = [] } }
+    {
+        self.words.clear();
+        self.tail = Word::empty();
+        self.dropped = 0;
+    }
+
+    /// Appends a bit, for which there is room.
+    pub fn append_bit(&mut self, bit: bool)
+        requires { length self.old.bits < self.old.capacity }
+        ensures { self.new ≡ record self.old { bits = self.old.bits ++ bit ∷ [] } }
+    {
+        self.tail.push(bit);
+        if self.tail.len() == 64 {
+            end_word(&mut self.words, self.tail.number());
+            self.tail = Word::empty();
+        }
+    }
+
+    /// Appends the bits of a word, for which there is room.
+    pub fn append(&mut self, word: Word)
+        requires room { length self.old.bits + length word ≤ self.old.capacity }
         ensures { self.new ≡ record self.old { bits = self.old.bits ++ word } }
     {
         if let Some(full) = self.tail.fill(word) {
             append_whole(&mut self.words, full);
         }
+    }
+
+    // Appends the 64 bits of a number, for which there is room.
+    fn append_number(&mut self, number: u64)
+        requires { length self.old.bits + 64 ≤ self.old.capacity }
+        ensures { self.new ≡ record self.old { bits = self.old.bits ++ low_bits 64 number } }
+    {
+        let full = self.tail.fill_whole(number);
+        append_whole(&mut self.words, full);
+    }
+
+    /// Appends bits of a list, so many from a place on, for which there is room.
+    pub fn append_from(&mut self, list: &Packed, place: usize, count: usize)
+        requires within { place + count ≤ length list.now.bits }
+        requires room { length self.old.bits + count ≤ self.old.capacity }
+        ensures { self.new ≡ record self.old { bits = self.old.bits ++ take count (drop place list.now.bits) } }
+    {
+        // a place fits, since a length does
+        let _fits = list.len();
+        let mut done = 0;
+        while count - done >= 64 {
+            self.append_number(list.read_whole(place + done));
+            done += 64;
+        }
+        self.append(list.read(place + done, (count - done) as u32));
+    }
+
+    /// Appends bits that are held to a list, so many from a place on, for which it has room. Place 0
+    /// is the oldest bit's.
+    pub fn append_to(&self, place: u32, count: u32, list: &mut Packed)
+        requires within { place + count ≤ length self.now.bits }
+        requires room { length list.old.bits + count ≤ list.old.capacity }
+        ensures { list.new ≡ record list.old { bits = list.old.bits ++ take count (drop place self.now.bits) } }
+    {
+        // a place fits, since a length does
+        let _fits = self.held();
+        let mut done = 0;
+        while count - done >= 64 {
+            list.append_whole(self.read_whole(place + done));
+            done += 64;
+        }
+        list.append(self.read(place + done, count - done));
     }
 }

@@ -1,4 +1,4 @@
-ghost use Rattle.std.specs.Prelude.{◌≡◌, ℕ, ◌+◌, ◌*◌, ◌<◌, ◌≤◌, ◌⊎◌, ◌++◌, length, map, take, drop, slice_index, All};
+ghost use Rattle.std.specs.Prelude.{◌≡◌, ℕ, ◌+◌, ◌*◌, ◌/◌, ◌<◌, ◌≤◌, ◌⊎◌, ◌++◌, length, map, take, drop, slice_index, All};
 ghost use Rattle.pdh_bits.specs.Bits.{bits_of_byte};
 ghost use Rattle.pdh_packed.specs.Words.{low_bits};
 ghost use Rattle.pdh_packed.specs.Interleaving.{interleaved, column, appended_to_each, dealt};
@@ -33,7 +33,7 @@ fn append_next(tributaries: &[Packed], place: usize, count: u32, line: &mut Pack
     ensures { line.new ≡ record line.old { bits = line.old.bits ++ interleaved (map (λ t. drop place t.bits) tributaries.now) count } }
 {
     match tributaries {
-        [a, b, c, d] => append_rows(
+        [a, b, c, d] => append_four(
             &[
                 a.read_left(place, count),
                 b.read_left(place, count),
@@ -72,6 +72,36 @@ fn append_rows(words: &[u64], count: u32, line: &mut Packed)
         let rows = (count - done).min(8);
         line.append(rows_of(words, done).first(rows * words.len() as u32));
         done += 8;
+    }
+}
+
+// Appends the first bits of a word, so many.
+#[inline(always)]
+fn append_first(word: Word, count: u32, line: &mut Packed)
+    requires some { count ≤ length word }
+    requires room { length line.old.bits + count ≤ line.old.capacity }
+    ensures { line.new ≡ record line.old { bits = line.old.bits ++ take count word } }
+{
+    if count == 64 {
+        line.append_whole(word.number());
+    } else {
+        line.append(word.first(count));
+    }
+}
+
+// Appends the first bits of four numbers of 64 bits in turn, so many of each.
+fn append_four(words: &[u64], count: u32, line: &mut Packed)
+    requires four { length words.now ≡ 4 }
+    requires few { count ≤ 64 }
+    requires room { length line.old.bits + count * length words.now ≤ line.old.capacity }
+    ensures { line.new ≡ record line.old { bits = line.old.bits ++ interleaved (map (low_bits 64) words.now) count } }
+{
+    let mut done = 0;
+    while done < count {
+        let rows = (count - done).min(16);
+        let bits = rows_of(words, done).join(rows_of(words, done + 8));
+        append_first(bits, rows * words.len() as u32, line);
+        done += 16;
     }
 }
 
@@ -141,33 +171,66 @@ fn deal_next(line: &Packed, place: usize, count: u32, tributaries: &mut [Packed]
     requires room { All (λ t. length t.bits + count ≤ t.capacity) tributaries.old }
     ensures { tributaries.new ≡ dealt count (drop place line.now.bits) tributaries.old }
 {
-    let mut words = [0; 7];
-    let words = &mut words[..tributaries.len()];
-    gather_rows(line, place, count, words);
-    append_each(words, count, tributaries);
+    if tributaries.len() == 4 {
+        let mut words = [0; 4];
+        gather_pairs(line, place, count, &mut words);
+        append_each(&words, 16 * ((count + 15) / 16), count, tributaries);
+    } else {
+        let mut words = [0; 7];
+        gather_rows(line, place, count, &mut words);
+        append_each(&words, 8 * ((count + 7) / 8), count, tributaries);
+    }
 }
 
-// Gathers the bits of a line from a place on into four or seven numbers of 64 bits in turn, so many
-// at the front of each.
+// A number of 64 bits that begin with the bits of a line from a place on, as many as there are.
+#[inline(always)]
+fn bits_from(line: &Packed, place: usize) -> u64
+    requires { place ≤ length line.now.bits }
+    ensures { (k : ℕ) → k ≤ 64 → place + k ≤ length line.now.bits → take k (low_bits 64 result) ≡ take k (drop place line.now.bits) }
+{
+    let left = line.len() - place;
+    if left >= 64 {
+        return line.read_whole(place);
+    }
+    line.read_left(place, left as u32)
+}
+
+// Gathers the bits of a line from a place on into four or seven numbers in turn, so many in each, and
+// others behind them up to whole bytes.
+#[inline(always)]
 fn gather_rows(line: &Packed, place: usize, count: u32, words: &mut [u64])
     requires tributaries { (length words.old ≡ 4) ⊎ (length words.old ≡ 7) }
     requires few { count ≤ 64 }
     requires within { place + count * length words.old ≤ length line.now.bits }
-    ensures { (j : ℕ) → j < length words.old → take count (low_bits 64 (slice_index words.new j)) ≡ column (length words.old) count (drop place line.now.bits) j }
+    ensures { (j : ℕ) → j < length words.old → take count (low_bits (8 * ((count + 7) / 8)) (slice_index words.new j)) ≡ column (length words.old) count (drop place line.now.bits) j }
 {
     // a place fits, since a length does
     let _fits = line.len();
-    let tributaries = words.len();
-    for row in 0..8u32 {
-        let done = (8 * row).min(count);
-        let rows = (count - done).min(8) as usize;
-        let from = place + done as usize * tributaries;
-        let bits = line.read_left(from, (rows * tributaries) as u32);
+    for row in 0..(count + 7) / 8 {
+        let from = place + 8 * row as usize * words.len();
+        take_rows(bits_from(line, from), words);
+    }
+}
+
+// The same of four numbers, sixteen bits of each at a time.
+#[inline(always)]
+fn gather_pairs(line: &Packed, place: usize, count: u32, words: &mut [u64])
+    requires four { length words.old ≡ 4 }
+    requires few { count ≤ 64 }
+    requires within { place + count * 4 ≤ length line.now.bits }
+    ensures { (j : ℕ) → j < 4 → take count (low_bits (16 * ((count + 15) / 16)) (slice_index words.new j)) ≡ column 4 count (drop place line.now.bits) j }
+{
+    // a place fits, since a length does
+    let _fits = line.len();
+    for pair in 0..(count + 15) / 16 {
+        let bits = bits_from(line, place + 64 * pair as usize);
         take_rows(bits, words);
+        take_rows(bits << 32, words);
     }
 }
 
 // Appends the first bits of a number of 64 bits to four or seven others in turn, eight to each.
+#[inline(always)]
 fn take_rows(bits: u64, words: &mut [u64])
     requires { (length words.old ≡ 4) ⊎ (length words.old ≡ 7) }
     ensures { (j m : ℕ) → j < length words.old → m ≤ 56 → low_bits (m + 8) (slice_index words.new j) ≡ low_bits m (slice_index words.old j) ++ column (length words.old) 8 (low_bits 64 bits) j }
@@ -180,6 +243,7 @@ fn take_rows(bits: u64, words: &mut [u64])
 }
 
 // Appends the bits of a byte to each number.
+#[inline(always)]
 fn shift_in(bytes: &[u8], words: &mut [u64])
     requires { length bytes.now ≡ length words.old }
     ensures { (j m : ℕ) → j < length words.old → m ≤ 56 → low_bits (m + 8) (slice_index words.new j) ≡ low_bits m (slice_index words.old j) ++ bits_of_byte (slice_index bytes.now j) }
@@ -189,14 +253,31 @@ fn shift_in(bytes: &[u8], words: &mut [u64])
     }
 }
 
-// Appends the first bits of a number of 64 bits to each of the lists, so many.
-fn append_each(words: &[u64], count: u32, lists: &mut [Packed])
-    requires few { count ≤ 64 }
+// Appends to a list so many bits of a number, which begin its low bits, of which so many are held.
+#[inline(always)]
+fn append_front(number: u64, held: u32, count: u32, list: &mut Packed)
+    requires held { held ≤ 64 }
+    requires few { count ≤ held }
+    requires room { length list.old.bits + count ≤ list.old.capacity }
+    ensures { list.new ≡ record list.old { bits = list.old.bits ++ take count (low_bits held number) } }
+{
+    if count == 64 {
+        list.append_whole(number);
+        return;
+    }
+    list.append(Word::of(number, 64).after(64 - held).first(count));
+}
+
+// The same of each number to one of the lists.
+#[inline(always)]
+fn append_each(words: &[u64], held: u32, count: u32, lists: &mut [Packed])
+    requires held { held ≤ 64 }
+    requires few { count ≤ held }
     requires each { length words.now ≡ length lists.old }
     requires room { All (λ list. length list.bits + count ≤ list.capacity) lists.old }
-    ensures { lists.new ≡ appended_to_each (λ j. take count (low_bits 64 (slice_index words.now j))) 0 lists.old }
+    ensures { lists.new ≡ appended_to_each (λ j. take count (low_bits held (slice_index words.now j))) 0 lists.old }
 {
     for index in 0..lists.len() {
-        lists[index].append(Word::of(words[index], 64).first(count));
+        append_front(words[index], held, count, &mut lists[index]);
     }
 }

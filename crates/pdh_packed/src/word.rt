@@ -126,6 +126,20 @@ impl Word {
         }
     }
 
+    /// So many of the bits, from a place on.
+    pub(crate) fn part(&self, place: u32, count: u32) -> Word
+        requires { place + count ≤ length self.now }
+        ensures { result ≡ take count (drop place self.now) }
+    {
+        if count == 0 {
+            return Word::empty();
+        }
+        Word {
+            number: (self.number << (place + (64 - self.count))) >> (64 - count),
+            count,
+        }
+    }
+
     /// These bits and then the others.
     pub fn join(&self, other: Word) -> Word
         requires { length self.now + length other ≤ 64 }
@@ -163,6 +177,22 @@ impl Word {
         let full = self.join(word.first(room)).number();
         *self = word.after(room);
         Some(full)
+    }
+
+    /// Appends the 64 bits of a number to fewer than 64. The first 64 of them leave as the number that
+    /// they write.
+    pub(crate) fn fill_whole(&mut self, number: u64) -> u64
+        requires { length self.old < 64 }
+        ensures bits { low_bits 64 result ++ self.new ≡ self.old ++ low_bits 64 number }
+        ensures count { length self.new ≡ length self.old }
+    {
+        let held = self.count;
+        if held == 0 {
+            return number;
+        }
+        let full = (self.number << (64 - held)).wrapping_add(number >> held);
+        self.number = number & ((1 << held) - 1);
+        full
     }
 
     /// So many of the bits of two words that follow each other, from a place on.

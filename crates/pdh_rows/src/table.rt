@@ -123,6 +123,18 @@ impl Table {
         self.counts[row_with(&self.firsts, frame) * self.tribs + trib]
     }
 
+    /// The counts of the tributaries in a frame, in bits.
+    pub fn counts_in(&self, frame: u64) -> &[u32]
+        requires table { IsTable self.now }
+        requires scheduled { frame < node_frame_count (rows_of self.now) }
+        ensures len { length result.now ≡ self.now.tribs }
+        ensures counts { (trib : ℕ) → trib < self.now.tribs
+            → slice_index result.now trib ≡ node_counts (rows_of self.now) trib frame }
+    {
+        let first = row_with(&self.firsts, frame) * self.tribs;
+        &self.counts.as_slice()[first..first + self.tribs]
+    }
+
     /// How many bits of a tributary arrive in the first frames.
     pub fn total(&self, frames: u64, trib: usize) -> u64
         requires table { IsTable self.now }

@@ -241,7 +241,7 @@ module _ {C : Type 0} (stands : C → List Bool → Type 0) (meaning : C → Mea
 
 -- a demultiplexer that took them gives nothing
 pub takes_waiting : {C : Type 0} (stands : C → List Bool → Type 0) (meaning : C → Meaning) (s : FrameShape) (path : Path) (children : List C) (held held' : Held) (gap frames : ℕ) (bits : List Bool) (o : Outputs)
-    → ((line : List Bool) → StandsFor s held.phase line → Waits s held' bits line)
+    → ((line : List Bool) → StandsFor s held line → Waits s held' bits line)
     → TakesBits (node_meaning s path (map meaning children)) bits (λ line. NodeStands stands meaning s children held gap frames line) (λ line. NodeStands stands meaning s children held' gap frames line) o o
 takes_waiting stands meaning s path children held held' gap frames bits o waits = record {
   stands = λ line node. node_waits stands meaning s children held held' gap frames bits line node (waits line node.aligner);
@@ -341,7 +341,7 @@ module _ {C : Type 0} (stands : C → List Bool → Type 0) (meaning : C → Mea
 
 -- a demultiplexer that took them gives the ones of a whole frame's length
 pub takes_passing : {C : Type 0} (stands : C → List Bool → Type 0) (meaning : C → Meaning) (s : FrameShape) (path : Path) (shape : IsFrame s) (children new : List C) (held held' : Held) (gap frames gap' : ℕ) (ready : List (List Bool)) (bits : List Bool) (o p : Outputs)
-    → ((line : List Bool) → StandsFor s held.phase line → Passes s held' bits line) → 0 < length bits → gap + length bits ≤ s.len → gap' ≡ gap_passed s gap (length bits) → map meaning new ≡ map meaning children
+    → ((line : List Bool) → StandsFor s held line → Passes s held' bits line) → 0 < length bits → gap + length bits ≤ s.len → gap' ≡ gap_passed s gap (length bits) → map meaning new ≡ map meaning children
     → Gives stands (map meaning children) (step_bits s Rejected ready gap') children new o p
     → TakesBits (node_meaning s path (map meaning children)) bits (λ line. NodeStands stands meaning s children held gap frames line) (λ line. NodeStands stands meaning s new held' gap' frames line) o p
 takes_passing stands meaning s path shape children new held held' gap frames gap' ready bits o p passes some upto now same gives = record {
@@ -350,7 +350,7 @@ takes_passing stands meaning s path shape children new held held' gap frames gap
 }
 
 pub part_passing : {C : Type 0} (stands : C → List Bool → Type 0) (meaning : C → Meaning) (s : FrameShape) (path : Path) (shape : IsFrame s) (children : List C) (held held' : Held) (gap frames gap' : ℕ) (ready : List (List Bool)) (bits : List Bool) (o p : Outputs)
-    → ((line : List Bool) → StandsFor s held.phase line → Passes s held' bits line) → 0 < length bits → gap + length bits ≤ s.len → gap' ≡ gap_passed s gap (length bits)
+    → ((line : List Bool) → StandsFor s held line → Passes s held' bits line) → 0 < length bits → gap + length bits ≤ s.len → gap' ≡ gap_passed s gap (length bits)
     → GivesPart stands (map meaning children) (step_bits s Rejected ready gap') children o p
     → TakesPart (node_meaning s path (map meaning children)) bits (λ line. NodeStands stands meaning s children held gap frames line) o p
 part_passing stands meaning s path shape children held held' gap frames gap' ready bits o p passes some upto now gives = record {
@@ -371,7 +371,7 @@ unfolding frames_counted frames_delivered
 no_frames s shape = sym (ap (λ p. min (count_by is_delivered p) (2 ^ 64 - 1)) (track_none s shape) ∙ ap (λ n. min n (2 ^ 64 - 1)) (count_gap 0))
 
 pub opened : {C : Type 0} (stands : C → List Bool → Type 0) (meaning : C → Meaning) (s : FrameShape) → IsFrame s → (children : List C) (held : Held) → length children ≡ s.tribs → IsDisjoint (map meaning children)
-    → EachStands stands children (λ j. []) → StandsFor s held.phase [] → NodeStands stands meaning s children held 0 0 []
+    → EachStands stands children (λ j. []) → StandsFor s held [] → NodeStands stands meaning s children held 0 0 []
 opened stands meaning s shape children held count disjoint each aligner = record {
   count = count;
   disjoint = disjoint;

@@ -1,7 +1,6 @@
 -- Bits for the tributaries, one after another, and calls that follow each other in taking bits.
-use Rattle.std.proofs.Common.{◌≡◌, inl, inr, ℕ, zero, suc, ◌+◌, ◌<◌, ◌≤◌, Bool, true, false, nat_lt, cond, List, [], ◌∷◌, ◌++◌, ◌-◌, length, take, drop, get_or, length-drop, refl, sym, ap, subst, ◌∙◌, arith, append_assoc}
+use Rattle.std.proofs.Common.{◌≡◌, inl, inr, ℕ, ◌+◌, ◌<◌, ◌≤◌, Bool, true, false, nat_lt, cond, List, [], ◌∷◌, ◌++◌, length, take, drop, get_or, drop-cons, refl, sym, ap, subst, ◌∙◌, arith, append_assoc}
 use Rattle.std.proofs.lemmas.List.{append-nil, take-append-drop, take_all}
-use Rattle.std.proofs.Math.Seq.{take-add}
 use Rattle.std.proofs.lemmas.Bool.{cases_eq, cases_lt, ne_eqb, eq-eqb, lt-ltb, le-ltb}
 use Rattle.pdh_edge.specs.Ports.{Outputs, IsPrefix, for_leaf}
 use Rattle.pdh_rx.specs.Meaning.{Meaning, IsSound, TakesBits, TakesPart}
@@ -55,15 +54,8 @@ first_bits_all f tribs j lt = ap (λ b. cond b (f j) []) (sym (lt-ltb j tribs lt
 
 -- ---- a list's first bits
 
-pub bits_then : (n m : ℕ) (bits : List Bool) → take (n + m) bits ≡ take n bits ++ take m (take (length bits - n) (drop n bits))
-bits_then n m bits =
-    let rest : take (length bits - n) (drop n bits) ≡ drop n bits = take_all (length bits - n) (drop n bits) (omega (arith, length-drop n bits)) in
-    take-add n m bits ∙ ap (λ l. take n bits ++ take m l) (sym rest)
-
-pub bits_rest : (n : ℕ) (bits : List Bool) → IsPrefix (take n bits ++ take (length bits - n) (drop n bits)) bits
-bits_rest n bits =
-    let rest : take (length bits - n) (drop n bits) ≡ drop n bits = take_all (length bits - n) (drop n bits) (omega (arith, length-drop n bits)) in
-    ([], sym (append-nil (take n bits ++ take (length bits - n) (drop n bits)) ∙ ap (λ l. take n bits ++ l) rest ∙ take-append-drop n bits))
+pub bits_rest : (n : ℕ) (bits : List Bool) → IsPrefix (take n bits ++ drop n bits) bits
+bits_rest n bits = ([], sym (append-nil (take n bits ++ drop n bits) ∙ take-append-drop n bits))
 
 pub bits_all : (n : ℕ) (bits : List Bool) → length bits ≤ n → bits ≡ take n bits ++ []
 bits_all n bits le = sym (append-nil (take n bits) ∙ take_all n bits le)
@@ -106,12 +98,5 @@ part_longer m bits all was o q sound more h = takes_part m m [] bits all was was
 pub first_begin : (n : ℕ) (bits : List Bool) → IsPrefix (take n bits) bits
 first_begin n bits = (drop n bits, sym (take-append-drop n bits))
 
-pub take_twice : (n m : ℕ) (bits : List Bool) → n ≤ m → take n (take m bits) ≡ take n bits
-take_twice zero m bits le = refl
-take_twice (suc n) zero bits le = absurd (omega (arith, le))
-take_twice (suc n) (suc m) [] le = refl
-take_twice (suc n) (suc m) (x ∷ bits) le = ap (λ v. x ∷ v) (take_twice n m bits (omega (arith, le)))
-
-pub one_bit : (bits : List Bool) (d : Bool) → 0 < length bits → take 1 bits ≡ get_or bits 0 d ∷ []
-one_bit [] d some = absurd (omega (arith, some))
-one_bit (x ∷ bits) d some = refl
+pub one_bit : (from : ℕ) (bits : List Bool) (d : Bool) → from < length bits → take 1 (drop from bits) ≡ get_or bits from d ∷ []
+one_bit from bits d inside = ap (take 1) (drop-cons bits from d inside)

@@ -1,5 +1,4 @@
 pub mod Meaning
 pub mod Tail
 pub mod Node
-pub mod Strip
 pub mod laws

@@ -161,7 +161,7 @@ pub record NodeStands {C : Type 0} (stands : C → List Bool → Type 0) (meanin
   pub count : length children ≡ s.tribs
   pub disjoint : IsDisjoint (map meaning children)
   pub each : EachStands stands children (received_lines s line)
-  pub aligner : StandsFor s held.phase line
+  pub aligner : StandsFor s held line
   pub inside : gap < s.len
   pub gap_is : IsGap s gap (track s line)
   pub frames_are : frames ≡ frames_counted s line

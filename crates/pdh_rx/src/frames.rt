@@ -10,9 +10,9 @@ ghost use Rattle.pdh_rx.specs.Meaning.{HoldsAll};
 ghost use Rattle.pdh_rx.specs.Node.{EachStands, IsDisjoint, any_leaf, Plays, PlaysPart, step_acts, step_pieces};
 
 use crate::Rx;
+use crate::frame_copy::FrameCopy;
 use crate::giving::push_to;
 use crate::slots::{carries, give_slot};
-use crate::strip::Strip;
 use pdh_align::{Aligner, Step};
 use pdh_edge::{Drain, Failed};
 use pdh_events::{FrameTeller, note_kind};
@@ -22,7 +22,7 @@ use pdh_watch::{Kind, Watch};
 // Gives the children their bits of the loaded frame.
 fn give_frame<S: Shape, C: Rx, D: Drain, W: Watch>(
     children: &mut Vec<C>,
-    strip: &Strip<S>,
+    copy: &FrameCopy<S>,
     drain: &mut D,
     watch: &mut W,
 ) -> Result<(), Failed>
@@ -31,20 +31,20 @@ fn give_frame<S: Shape, C: Rx, D: Drain, W: Watch>(
     requires lists { HoldsAll (any_leaf (map C.meaning children.old.items)) (D.outputs drain.old) }
     requires disjoint { IsDisjoint (map C.meaning children.old.items) }
     ensures played { OnOk result (Plays C.tells W.saw (map C.meaning children.old.items)
-        (flat_map (slot_acts S.shape strip.now.frame) (slots S.shape))
+        (flat_map (slot_acts S.shape copy.now) (slots S.shape))
         children.old.items children.new.items (D.outputs drain.old) (D.outputs drain.new)
         watch.old watch.new) }
     ensures part { OnErr result (PlaysPart C.tells W.saw (map C.meaning children.old.items)
-        (flat_map (slot_acts S.shape strip.now.frame) (slots S.shape))
+        (flat_map (slot_acts S.shape copy.now) (slots S.shape))
         children.old.items (D.outputs drain.old) (D.outputs drain.new) watch.old watch.new) }
     ensures cause { HasCause (D.drain_faults drain.old) (D.drain_faults drain.new) result }
     ensures drained { D.drained drain.old drain.new }
     ensures same { map C.meaning children.new.items ≡ map C.meaning children.old.items }
 {
-    let frame = strip.frame();
+    let frame = copy.frame();
     for slot in 0..S::LEN {
         let role = S::role(slot);
-        let more = carries(strip, role);
+        let more = carries(copy, role);
         let bit = frame[slot as usize];
         give_slot::<S, C, D, W>(children, role, more, bit, drain, watch)?;
     }
@@ -54,7 +54,7 @@ fn give_frame<S: Shape, C: Rx, D: Drain, W: Watch>(
 // Notes a ready frame's own events, and gives the children their bits of it.
 fn deliver<S: Shape, C: Rx, D: Drain, W: Watch>(
     children: &mut Vec<C>,
-    strip: &mut Strip<S>,
+    copy: &mut FrameCopy<S>,
     teller: &mut FrameTeller<S>,
     aligner: &Aligner<S>,
     back: u8,
@@ -83,15 +83,15 @@ fn deliver<S: Shape, C: Rx, D: Drain, W: Watch>(
     ensures drained { D.drained drain.old drain.new }
     ensures same { map C.meaning children.new.items ≡ map C.meaning children.old.items }
 {
-    strip.load(aligner, back);
-    teller.note(strip.tables(), strip.frame(), path, bit, watch);
-    give_frame::<S, C, D, W>(children, strip, drain, watch)
+    copy.load(aligner, back);
+    teller.note(copy.tables(), copy.frame(), path, bit, watch);
+    give_frame::<S, C, D, W>(children, copy, drain, watch)
 }
 
 // Delivers all ready frames, of which there are so many, oldest first.
 fn deliver_all<S: Shape, C: Rx, D: Drain, W: Watch>(
     children: &mut Vec<C>,
-    strip: &mut Strip<S>,
+    copy: &mut FrameCopy<S>,
     teller: &mut FrameTeller<S>,
     aligner: &Aligner<S>,
     frames: u8,
@@ -124,7 +124,7 @@ fn deliver_all<S: Shape, C: Rx, D: Drain, W: Watch>(
     for done in 0..frames {
         let back = frames - 1 - done;
         deliver::<S, C, D, W>(
-            children, strip, teller, aligner, back, path, bit, drain, watch,
+            children, copy, teller, aligner, back, path, bit, drain, watch,
         )?;
     }
     Ok(())
@@ -189,7 +189,7 @@ fn give_ones<S: Shape, C: Rx, D: Drain, W: Watch>(
 // since the last whole frame's length.
 pub(crate) fn act<S: Shape, C: Rx, D: Drain, W: Watch>(
     children: &mut Vec<C>,
-    strip: &mut Strip<S>,
+    copy: &mut FrameCopy<S>,
     teller: &mut FrameTeller<S>,
     aligner: &Aligner<S>,
     step: Step,
@@ -229,10 +229,10 @@ pub(crate) fn act<S: Shape, C: Rx, D: Drain, W: Watch>(
         }
         Step::Aligned => {
             note_kind(Kind::ALIGNED, path, bit, watch);
-            deliver_all::<S, C, D, W>(children, strip, teller, aligner, 3, path, bit, drain, watch)
+            deliver_all::<S, C, D, W>(children, copy, teller, aligner, 3, path, bit, drain, watch)
         }
         Step::Frame => {
-            deliver_all::<S, C, D, W>(children, strip, teller, aligner, 1, path, bit, drain, watch)
+            deliver_all::<S, C, D, W>(children, copy, teller, aligner, 1, path, bit, drain, watch)
         }
         Step::Lost => {
             note_kind(Kind::LOST, path, bit, watch);

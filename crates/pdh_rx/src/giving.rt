@@ -6,6 +6,7 @@ ghost use Rattle.pdh_rx.specs.Node.{EachStands, IsDisjoint, any_leaf, Plays, Pla
 
 use crate::Rx;
 use pdh_edge::{Drain, Failed};
+use pdh_packed::Packed;
 use pdh_watch::Watch;
 
 // Gives a bit to one of the children.
@@ -39,7 +40,7 @@ pub(crate) fn push_to<C: Rx, D: Drain, W: Watch>(
 pub(crate) fn take_to<C: Rx, D: Drain>(
     children: &mut Vec<C>,
     trib: u8,
-    bits: &[bool],
+    bits: &Packed,
     drain: &mut D,
 ) -> Result<(), Failed>
     requires known { trib < length children.old.items }
@@ -47,10 +48,10 @@ pub(crate) fn take_to<C: Rx, D: Drain>(
     requires lists { HoldsAll (any_leaf (map C.meaning children.old.items)) (D.outputs drain.old) }
     requires disjoint { IsDisjoint (map C.meaning children.old.items) }
     ensures given { OnOk result (Gives C.stands (map C.meaning children.old.items)
-        (for_leaf trib bits.now)
+        (for_leaf trib bits.now.bits)
         children.old.items children.new.items (D.outputs drain.old) (D.outputs drain.new)) }
     ensures part { OnErr result (GivesPart C.stands (map C.meaning children.old.items)
-        (for_leaf trib bits.now) children.old.items (D.outputs drain.old) (D.outputs drain.new)) }
+        (for_leaf trib bits.now.bits) children.old.items (D.outputs drain.old) (D.outputs drain.new)) }
     ensures cause { HasCause (D.drain_faults drain.old) (D.drain_faults drain.new) result }
     ensures drained { D.drained drain.old drain.new }
     ensures same { map C.meaning children.new.items ≡ map C.meaning children.old.items }

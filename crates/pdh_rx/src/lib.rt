@@ -1,6 +1,7 @@
 //! Demultiplexers that take a line bit by bit or many bits at a time: a tree of nodes over leaves that put bits to a drain.
 #![tactic(auto)]
 
+mod frame_copy;
 mod frames;
 mod giving;
 mod node;

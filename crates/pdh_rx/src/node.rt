@@ -1,16 +1,19 @@
-ghost use Rattle.std.specs.Prelude.{◌≡◌, ◌<◌, ◌≤◌, ◌+◌, ℕ, All, Bool, List, [], ◌∷◌, ◌++◌, length, take, map, IfOk, OnOk, OnErr};
+ghost use Rattle.std.specs.Prelude.{◌≡◌, ◌<◌, ◌≤◌, ◌+◌, ℕ, All, Bool, List, [], ◌∷◌, ◌++◌, length, take, drop, map, IfOk, OnOk, OnErr};
 ghost use Rattle.pdh_edge.specs.Ports.{HasCause};
 ghost use Rattle.pdh_rx.specs.Meaning.{Meaning, HoldsAll, Gains, GainsPart, TakesBits, TakesPart};
 ghost use Rattle.pdh_rx.specs.Node.{EachStands, IsDisjoint, ArePlaced, node_meaning, NodeStands, NodeTells, gap_after as gap_after_step, gap_passed as gap_passed_over, frames_after as frames_after_step, frames_counted};
 ghost use Rattle.pdh_rx.specs.laws.NodeLaws.{node_sound, node_told_stands};
 
 use crate::Rx;
+use crate::frame_copy::FrameCopy;
 use crate::frames::act;
 use crate::parts::give_parts;
 use crate::strip::Strip;
 use pdh_align::{Aligner, Step};
 use pdh_edge::{Drain, Failed};
 use pdh_events::{AisRun, FrameTeller};
+use pdh_packed::Packed;
+use pdh_runs::Layout;
 use pdh_shape::{Path, Shape};
 use pdh_slots::SlotTables;
 use pdh_watch::Watch;
@@ -61,6 +64,7 @@ pub struct RxNode<S: Shape, C: Rx> {
     children: Vec<C>,
     path: Path,
     aligner: Aligner<S>,
+    // what takes the frames apart that come in calls of `take`
     strip: Strip<S>,
     // how many positions of a gap were passed over since its last whole frame's length
     gap: u32,
@@ -70,6 +74,8 @@ pub struct RxNode<S: Shape, C: Rx> {
     bits: u64,
     // the ones that the line ends with,
     ais: AisRun,
+    // the frame that is told of,
+    copy: FrameCopy<S>,
     // and what is kept of the delivered frames
     teller: FrameTeller<S>,
     of: PhantomData<S>,
@@ -86,6 +92,7 @@ impl<S: Shape, C: Rx> Drop for RxNode<S, C> {
             frames: _,
             bits: _,
             ais: _,
+            copy: _,
             teller: _,
             of: _,
         } = self;
@@ -95,11 +102,12 @@ impl<S: Shape, C: Rx> Drop for RxNode<S, C> {
 impl<S: Shape, C: Rx> RxNode<S, C> {
     /// A demultiplexer of children that have taken no bit, one for each tributary, which has taken no
     /// bit; or it finds no memory. `path` is its place in a chain: a child that is a demultiplexer has
-    /// this path with its number, from 1, added. `tables` may be shared with other nodes.
+    /// this path with its number, from 1, added. `tables` and `layout` may be shared with other nodes.
     pub fn open(
         alloc: Global,
         path: Path,
         tables: Rc<SlotTables<S>>,
+        layout: Rc<Layout<S>>,
         children: Vec<C>,
     ) -> Result<RxNode<S, C>, AllocError>
         requires count { length children.items ≡ S.TRIBS }
@@ -112,7 +120,8 @@ impl<S: Shape, C: Rx> RxNode<S, C> {
         ensures tells { IfOk result (λ node. ⟦<RxNode<S, C> as Rx>⟧.tells node []) }
     {
         let aligner = Aligner::open(alloc)?;
-        let strip = Strip::open(alloc, tables)?;
+        let strip = Strip::open(alloc, layout)?;
+        let copy = FrameCopy::open(alloc, tables)?;
         let teller = FrameTeller::open(alloc)?;
         Ok(RxNode {
             children,
@@ -123,6 +132,7 @@ impl<S: Shape, C: Rx> RxNode<S, C> {
             frames: 0,
             bits: 0,
             ais: AisRun::new(S::LEN),
+            copy,
             teller,
             of: PhantomData,
         })
@@ -163,27 +173,32 @@ impl<S: Shape, C: Rx> RxNode<S, C> {
         )
     }
 
-    // Takes the first of these bits, at least one: those at which positions of a gap are passed over, or
-    // the one that may end a frame.
-    fn advance<D: Drain>(&mut self, bits: &[bool], drain: &mut D) -> Result<usize, Failed>
-        requires some { 0 < length bits.now }
+    // Takes bits from a place on, at least one: those at which positions of a gap are passed over, or
+    // the one that may end a frame. It answers how many.
+    fn advance<D: Drain>(
+        &mut self,
+        bits: &Packed,
+        from: usize,
+        drain: &mut D,
+    ) -> Result<usize, Failed>
+        requires some { from < length bits.now.bits }
         requires stands { (line : List Bool) × ⟦<RxNode<S, C> as Rx>⟧.stands self.old line }
         requires lists { HoldsAll (⟦<RxNode<S, C> as Rx>⟧.meaning self.old).leaves (D.outputs drain.old) }
-        ensures count { IfOk result (λ count. (0 < count) × (count ≤ length bits.now)) }
-        ensures taken { IfOk result (λ count. TakesBits (⟦<RxNode<S, C> as Rx>⟧.meaning self.old) (take count bits.now)
+        ensures count { IfOk result (λ count. (0 < count) × (from + count ≤ length bits.now.bits)) }
+        ensures taken { IfOk result (λ count. TakesBits (⟦<RxNode<S, C> as Rx>⟧.meaning self.old)
+            (take count (drop from bits.now.bits))
             (⟦<RxNode<S, C> as Rx>⟧.stands self.old) (⟦<RxNode<S, C> as Rx>⟧.stands self.new)
             (D.outputs drain.old) (D.outputs drain.new)) }
-        ensures part { OnErr result (TakesPart (⟦<RxNode<S, C> as Rx>⟧.meaning self.old) bits.now
-            (⟦<RxNode<S, C> as Rx>⟧.stands self.old)
+        ensures part { OnErr result (TakesPart (⟦<RxNode<S, C> as Rx>⟧.meaning self.old)
+            (drop from bits.now.bits) (⟦<RxNode<S, C> as Rx>⟧.stands self.old)
             (D.outputs drain.old) (D.outputs drain.new)) }
         ensures cause { HasCause (D.drain_faults drain.old) (D.drain_faults drain.new) result }
         ensures drained { D.drained drain.old drain.new }
         ensures same { ⟦<RxNode<S, C> as Rx>⟧.meaning self.new ≡ ⟦<RxNode<S, C> as Rx>⟧.meaning self.old }
     {
-        let most = bits.len().min((S::LEN - self.gap) as usize);
-        let passed = self.aligner.pass(&bits[..most]);
+        let passed = self.aligner.pass(bits, from, (S::LEN - self.gap) as usize);
         if passed == 0 {
-            self.end_frame(bits[0], drain)?;
+            self.end_frame(bits.get(from), drain)?;
             return Ok(1);
         }
         self.gap = gap_passed::<S>(self.gap, passed);
@@ -224,7 +239,7 @@ impl<S: Shape, C: Rx> Rx for RxNode<S, C> {
         self.ais.note(bit, self.path, number, watch);
         act::<S, C, D, W>(
             &mut self.children,
-            &mut self.strip,
+            &mut self.copy,
             &mut self.teller,
             &self.aligner,
             step,
@@ -236,11 +251,11 @@ impl<S: Shape, C: Rx> Rx for RxNode<S, C> {
         )
     }
 
-    fn take<D: Drain>(&mut self, bits: &[bool], drain: &mut D) -> Result<(), Failed> {
-        let mut done = self.aligner.take(bits);
+    fn take<D: Drain>(&mut self, bits: &Packed, drain: &mut D) -> Result<(), Failed> {
+        let mut done = self.aligner.take(bits, 0);
         while done < bits.len() {
-            done += self.advance(&bits[done..], drain)?;
-            done += self.aligner.take(&bits[done..]);
+            done += self.advance(bits, done, drain)?;
+            done += self.aligner.take(bits, done);
         }
         Ok(())
     }

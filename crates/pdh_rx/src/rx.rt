@@ -4,6 +4,7 @@ ghost use Rattle.pdh_watch.specs.Seen.{SawPart};
 ghost use Rattle.pdh_rx.specs.Meaning.{Meaning, IsSound, HoldsAll, Gains, GainsPart, TakesBits, TakesPart};
 
 use pdh_edge::{Drain, Failed};
+use pdh_packed::Packed;
 use pdh_watch::Watch;
 
 /// Takes a received line: bit by bit, where it notes the events that each bit brings, or many bits at a
@@ -47,12 +48,12 @@ pub trait Rx: Drop {
 
     /// Takes the next bits of the line, and puts each bit that leaves gain by them. It fails only where
     /// the drain failed, and isn't used again then. It tells no events, and no push can follow it.
-    fn take<D: Drain>(&mut self, bits: &[bool], drain: &mut D) -> Result<(), Failed>
+    fn take<D: Drain>(&mut self, bits: &Packed, drain: &mut D) -> Result<(), Failed>
         requires stands { (line : List Bool) × stands self.old line }
         requires lists { HoldsAll (meaning self.old).leaves (D.outputs drain.old) }
-        ensures taken { OnOk result (TakesBits (meaning self.old) bits.now (stands self.old) (stands self.new)
+        ensures taken { OnOk result (TakesBits (meaning self.old) bits.now.bits (stands self.old) (stands self.new)
             (D.outputs drain.old) (D.outputs drain.new)) }
-        ensures part { OnErr result (TakesPart (meaning self.old) bits.now (stands self.old)
+        ensures part { OnErr result (TakesPart (meaning self.old) bits.now.bits (stands self.old)
             (D.outputs drain.old) (D.outputs drain.new)) }
         ensures cause { HasCause (D.drain_faults drain.old) (D.drain_faults drain.new) result }
         ensures drained { D.drained drain.old drain.new }

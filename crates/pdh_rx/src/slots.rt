@@ -6,19 +6,19 @@ ghost use Rattle.pdh_rx.specs.Meaning.{HoldsAll};
 ghost use Rattle.pdh_rx.specs.Node.{EachStands, IsDisjoint, any_leaf, Plays, PlaysPart, names_below, read_of};
 
 use crate::Rx;
+use crate::frame_copy::FrameCopy;
 use crate::giving::push_to;
-use crate::strip::Strip;
 use pdh_edge::{Drain, Failed};
 use pdh_shape::{Role, Shape};
 use pdh_watch::Watch;
 
 // Whether a slot of this role is a justifiable one that carries a bit in the frame.
-pub(crate) fn carries<S: Shape>(strip: &Strip<S>, role: Role) -> bool
+pub(crate) fn carries<S: Shape>(copy: &FrameCopy<S>, role: Role) -> bool
     requires { names_below role S.TRIBS }
-    ensures { result ≡ carries_at S.shape strip.now.frame role }
+    ensures { result ≡ carries_at S.shape copy.now role }
 {
     match role {
-        Role::Just(trib) => strip.carries_more(trib),
+        Role::Just(trib) => copy.carries_more(trib),
         _ => false,
     }
 }

@@ -4,6 +4,7 @@ ghost use Rattle.pdh_rx.specs.laws.TailLaws.{tail_sound};
 
 use crate::Rx;
 use pdh_edge::{Drain, Failed};
+use pdh_packed::Packed;
 use pdh_watch::Watch;
 
 /// Puts the bits that it receives to one leaf of a drain. It notes nothing.
@@ -43,7 +44,7 @@ impl Rx for Tail {
         drain.put(self.leaf, bit)
     }
 
-    fn take<D: Drain>(&mut self, bits: &[bool], drain: &mut D) -> Result<(), Failed> {
+    fn take<D: Drain>(&mut self, bits: &Packed, drain: &mut D) -> Result<(), Failed> {
         drain.put_all(self.leaf, bits)
     }
 }

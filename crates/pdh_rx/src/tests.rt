@@ -6,6 +6,8 @@ ghost use Rattle.pdh_rx.specs.Node.{node_meaning};
 
 use crate::{Rx, RxNode, Tail};
 use pdh_edge::{Drain, Failed, MemPort};
+use pdh_packed::Packed;
+use pdh_runs::Layout;
 use pdh_shape::{E2, TOP};
 use pdh_slots::SlotTables;
 use pdh_watch::{Event, Kind, Quiet, Watch};
@@ -28,7 +30,8 @@ fn node(alloc: Global) -> Result<RxNode<E2, Tail>, AllocError>
     ensures tells { IfOk result (λ node. ⟦<RxNode<E2, Tail> as Rx>⟧.tells node []) }
 {
     let tables = Rc::new(alloc, SlotTables::open(alloc)?)?;
-    RxNode::open(alloc, TOP, tables, tails(alloc)?)
+    let layout = Rc::new(alloc, Layout::open(alloc)?)?;
+    RxNode::open(alloc, TOP, tables, layout, tails(alloc)?)
 }
 
 // Adds so many bits of one value.
@@ -88,12 +91,34 @@ fn receive<R: Rx, D: Drain, W: Watch>(
     Ok(())
 }
 
+// These bits, packed.
+fn packed(alloc: Global, bits: &[bool]) -> Result<Packed, AllocError> {
+    let mut packed = Packed::open(alloc, bits.len())?;
+    for bit in bits {
+        packed.push(*bit);
+    }
+    Ok(packed)
+}
+
+// Whether these are the bits that are packed.
+fn are_packed(bits: &[bool], packed: &Packed) -> bool {
+    if packed.len() != bits.len() {
+        return false;
+    }
+    for (place, bit) in bits.iter().enumerate() {
+        if packed.get(place) != *bit {
+            return false;
+        }
+    }
+    true
+}
+
 // Whether each of the leaves 0 to 3 got these bits.
 fn each_got(port: &MemPort, bits: &[bool]) -> bool
     requires { (k : ℕ) → k < 4 → IsTrue ((⟦<MemPort as Drain>⟧.outputs port.now).holds k) }
 {
     for leaf in 0..4 {
-        if *port.output(leaf) != *bits {
+        if !are_packed(bits, port.output(leaf)) {
             return false;
         }
     }
@@ -118,7 +143,8 @@ fn run_at_once(alloc: Global, line: &[bool], bits: &[bool]) -> Result<(bool, u64
     for leaf in 0..4 {
         port.room(leaf, line.len())?;
     }
-    node.take(line, &mut port)?;
+    let line = packed(alloc, line)?;
+    node.take(&line, &mut port)?;
     Ok((each_got(&port, bits), node.frames()))
 }
 

@@ -1,8 +1,11 @@
 -- Bits that pass from list 0 to list 0, one part after another.
-use Rattle.std.proofs.Common.{◌-◌, ◌≡◌, ℕ, zero, suc, ◌+◌, ◌==◌, ◌<◌, ◌≤◌, Bool, true, false, not, cond, List, [], ◌∷◌, ◌++◌, length, take, drop, get_or, refl, sym, ap, subst, ◌∙◌, arith, append_assoc, Some, None, Option, Result, Ok, Err, IfErr}
-use Rattle.std.proofs.lemmas.List.{append-nil, map-append, length-append, length-take-le, take-append-le, take-append-drop, take_more}
+use Rattle.std.proofs.Common.{◌-◌, ◌≡◌, ℕ, zero, suc, ◌+◌, ◌==◌, ◌<◌, ◌≤◌, Bool, true, false, not, cond, List, [], ◌∷◌, ◌++◌, length, take, drop, refl, sym, ap, subst, ◌∙◌, arith, append_assoc, Some, None, Option, Result, Ok, Err, IfErr}
+use Rattle.std.proofs.lemmas.List.{append-nil, map-append, length-append, length-take-le, take-append-drop}
 use Rattle.std.proofs.lemmas.List.Concat.{flat_map-append}
+use Rattle.std.proofs.Math.Seq.{take-add}
 use Rattle.pdh_bits.specs.Bits.{bits_of, bits_of_byte}
+use Rattle.pdh_bits.specs.BitOut.{BoundedBits}
+use Rattle.pdh_packed.specs.Gaining.{gained, IsGrown}
 use Rattle.pdh_edge.specs.Files.{Rose}
 use Rattle.pdh_edge.specs.Ports.{Inputs, Outputs, Takes, Puts, PutsPart, IsPrefix, PrefixOf, before, for_leaf, nothing}
 use Rattle.pdh_edge.specs.declared.port.FeedStop.{FeedStop}
@@ -255,28 +258,46 @@ pass_fails effect n bits taken put x y z w o p q r first reads now first' writes
     stop_then f f f n (bits - n) bits x y w o p r first reads now first' writes now' WriteFailed (omega (arith, upto)) (λ xs ys rest lens more all. joined_begins effect xs ys rest) since since' passes
     (put_stops f (bits - n) taken put y z w p q r reads now writes now' inputs outputs same (omega (arith, upto)) (λ rest. becomes_longer effect taken rest) takes puts rose)
 
--- what is put of a buffer whose first bits were taken and then altered
-pub put_is : (effect : Option Effect) (n left : ℕ) (taken altered_bits behind behind_them : List Bool) → n ≤ length taken → left ≤ length altered_bits
-    → take left altered_bits ≡ becomes effect (take n (taken ++ behind)) → take left (altered_bits ++ behind_them) ≡ becomes effect (take n taken)
-put_is effect n left taken altered_bits behind behind_them within few same =
-    take-append-le left altered_bits behind_them few ∙ same ∙ ap (becomes effect) (take-append-le n taken behind within)
+-- what is put of a list that was empty, got bits and was then altered
+pub put_is : (effect : Option Effect) (buffer empty filled put : BoundedBits) (count : ℕ) → empty ≡ record buffer { bits = [] } → IsGrown empty filled count → put ≡ record filled { bits = becomes effect filled.bits }
+    → put.bits ≡ becomes effect (gained empty filled)
+put_is effect buffer empty filled put count cleared grown altered_is =
+    let none : empty.bits ≡ [] = ap (λ (list : BoundedBits). list.bits) cleared in
+    ap (λ (list : BoundedBits). list.bits) altered_is ∙ ap (becomes effect) (grown.bits ∙ ap (λ (front : List Bool). front ++ gained empty filled) none)
 
 -- ---- bytes that are added
 
-byte_more : (bytes : List ℕ) (i d : ℕ) → i < length bytes → bits_of (take i bytes) ++ bits_of_byte (get_or bytes i d) ≡ bits_of (take (i + 1) bytes)
-byte_more bytes i d h =
-    ap (λ v. bits_of (take i bytes) ++ v) (sym (append-nil (bits_of_byte (get_or bytes i d)))) ∙ sym (flat_map-append bits_of_byte (take i bytes) (get_or bytes i d ∷ []))
-    ∙ ap bits_of (sym (take_more bytes i d h))
+bytes_more : (bytes : List ℕ) (i n : ℕ) → bits_of (take i bytes) ++ bits_of (take n (drop i bytes)) ≡ bits_of (take (i + n) bytes)
+bytes_more bytes i n = sym (ap bits_of (take-add i n bytes) ∙ flat_map-append bits_of_byte (take i bytes) (take n (drop i bytes)))
 
-byte_begins : (bytes : List ℕ) (i d : ℕ) → i < length bytes → IsPrefix (bits_of (take i bytes) ++ bits_of_byte (get_or bytes i d)) (bits_of bytes)
-byte_begins bytes i d h =
-    (bits_of (drop (i + 1) bytes), ap bits_of (sym (take-append-drop (i + 1) bytes)) ∙ flat_map-append bits_of_byte (take (i + 1) bytes) (drop (i + 1) bytes) ∙ ap (λ v. v ++ bits_of (drop (i + 1) bytes)) (sym (byte_more bytes i d h)))
+bytes_begin : (bytes : List ℕ) (i n : ℕ) → IsPrefix (bits_of (take i bytes) ++ bits_of (take n (drop i bytes))) (bits_of bytes)
+bytes_begin bytes i n =
+    let rest : List ℕ = drop (i + n) bytes in
+    (bits_of rest, ap bits_of (sym (take-append-drop (i + n) bytes)) ∙ flat_map-append bits_of_byte (take (i + n) bytes) rest ∙ ap (λ v. v ++ bits_of rest) (sym (bytes_more bytes i n)))
 
-pub byte_fails : (bytes : List ℕ) (i d : ℕ) (put : List Bool) (x y z : Inputs) (o p q : Outputs) (first now first' writes now' : ℕ) → i < length bytes → z ≡ y → put ≡ bits_of_byte (get_or bytes i d)
+-- a list that was emptied and got bits has the same room
+pub room_kept : (buffer empty put : BoundedBits) (bits : List Bool) → empty ≡ record buffer { bits = [] } → put ≡ record empty { bits = empty.bits ++ bits } → put.capacity ≡ buffer.capacity
+room_kept buffer empty put bits cleared appended =
+    ap (λ (list : BoundedBits). list.capacity) appended ∙ ap (λ (list : BoundedBits). list.capacity) cleared
+
+-- what is put of a list that was empty and got the bits of bytes
+pub bytes_are : (buffer empty put : BoundedBits) (bytes : List ℕ) (i n k : ℕ) → empty ≡ record buffer { bits = [] } → put ≡ record empty { bits = empty.bits ++ bits_of (take k (drop i bytes)) } → k ≡ n
+    → put.bits ≡ bits_of (take n (drop i bytes))
+bytes_are buffer empty put bytes i n k cleared appended same =
+    ap (λ (list : BoundedBits). list.bits) appended ∙ ap (λ (list : BoundedBits). list.bits ++ bits_of (take k (drop i bytes))) cleared ∙ ap (λ m. bits_of (take m (drop i bytes))) same
+
+-- the bits of some bytes more
+pub bytes_pass : (bytes : List ℕ) (i n next : ℕ) (put : List Bool) (x y z : Inputs) (o p q : Outputs) → next ≡ i + n → z ≡ y → put ≡ bits_of (take n (drop i bytes))
+    → Passes (λ line. bits_of (take i bytes)) 0 x y o p → Puts (for_leaf 0 put) p q → Passes (λ line. bits_of (take next bytes)) 0 x z o q
+bytes_pass bytes i n next put x y z o p q is inputs same passes puts =
+    passes_then (λ line. bits_of (take i bytes)) (λ line. put) (λ line. bits_of (take next bytes)) 0 0 0 x y z o p q (omega arith)
+    (λ xs ys lens more. ap (λ v. bits_of (take i bytes) ++ v) same ∙ bytes_more bytes i n ∙ ap (λ k. bits_of (take k bytes)) (sym is)) passes (passes_put put y z p q inputs puts)
+
+pub bytes_fail : (bytes : List ℕ) (i n : ℕ) (put : List Bool) (x y z : Inputs) (o p q : Outputs) (first now first' writes now' : ℕ) → z ≡ y → put ≡ bits_of (take n (drop i bytes))
     → Passes (λ line. bits_of (take i bytes)) 0 x y o p → PutsPart (for_leaf 0 put) p q → first' ≤ writes → Rose writes now' → IsPassStop (λ line. bits_of bytes) 0 x z o q first now first' now' WriteFailed
-byte_fails bytes i d put x y z o p q first now first' writes now' h inputs same passes puts since rose =
+bytes_fail bytes i n put x y z o p q first now first' writes now' inputs same passes puts since rose =
     stop_then (λ line. bits_of (take i bytes)) (λ line. put) (λ line. bits_of bytes) 0 0 0 x y z o p q first first now first' writes now' WriteFailed (omega arith)
-    (λ xs ys rest lens more all. subst (λ v. IsPrefix (bits_of (take i bytes) ++ v) (bits_of bytes)) (sym same) (byte_begins bytes i d h)) (omega arith) since passes
+    (λ xs ys rest lens more all. subst (λ v. IsPrefix (bits_of (take i bytes) ++ v) (bits_of bytes)) (sym same) (bytes_begin bytes i n)) (omega arith) since passes
     (put_stops_alone put put y z p q first now writes now' inputs (prefix_same put) puts rose)
 
 -- ---- what ends the passing of bits that a row changes, as it is stored

@@ -18,7 +18,6 @@
 //! passed over count. A text has at most 1,048,576 bytes, so its rows add at most 524,288.
 #![tactic(auto)]
 
-mod bytes;
 mod fault;
 mod passing;
 mod reading;

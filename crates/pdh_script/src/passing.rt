@@ -1,15 +1,15 @@
 //! Passing bits of a port's list 0 on to its list 0, as they are or altered.
 
-ghost use Rattle.std.specs.Prelude.{◌≡◌, ◌<◌, ◌≤◌, not, length, map, take, OnOk, IfErr, IsTrue};
+ghost use Rattle.std.specs.Prelude.{◌≡◌, ◌<◌, ◌≤◌, length, OnOk, IfErr, IsTrue};
 ghost use Rattle.pdh_bits.specs.Bits.{bits_of};
 ghost use Rattle.pdh_script.specs.Scripts.{altered, bits_changed, FitIn};
 ghost use Rattle.pdh_script.specs.Stored.{becomes, change_in, count_added, rows_in, steps_add};
 ghost use Rattle.pdh_script.specs.Applying.{Passes, IsPassStop, Applies, IsApplyStop};
 
-use crate::bytes::bits_of_byte;
 use crate::step::{Edit, Effect, Step};
 use crate::stop::ApplyStop;
 use pdh_edge::Port;
+use pdh_packed::Packed;
 
 /// How many bits to take at once, where so many are left and there is room for so many.
 fn part(left: u64, room: usize) -> usize
@@ -22,47 +22,30 @@ fn part(left: u64, room: usize) -> usize
     left.min(room as u64) as usize
 }
 
-/// Inverts bits.
-fn invert(bits: &mut [bool])
-    ensures { bits.new ≡ map not bits.old }
-{
-    for bit in bits.iter_mut() {
-        *bit = !*bit;
-    }
-}
-
-/// Sets bits to one value.
-fn set_all(bits: &mut [bool], value: bool)
-    ensures { bits.new ≡ map (λ bit. value) bits.old }
-{
-    bits.fill(value);
-}
-
-/// Alters bits, the first of which are what becomes of them, and answers how many these are.
-fn alter(effect: Option<Effect>, bits: &mut [bool]) -> usize
-    ensures within { result ≤ length bits.old }
-    ensures altered { take result bits.new ≡ becomes effect bits.old }
+/// Makes of bits what becomes of them.
+fn alter(effect: Option<Effect>, bits: &mut Packed)
+    ensures { bits.new ≡ record bits.old { bits = becomes effect bits.old.bits } }
 {
     match effect {
         None => {}
-        Some(Effect::Flip) => invert(bits),
-        Some(Effect::Ones) => set_all(bits, true),
-        Some(Effect::Zeros) => set_all(bits, false),
-        Some(Effect::Drop) => return 0,
+        Some(Effect::Flip) => bits.invert(),
+        Some(Effect::Ones) => bits.fill(true),
+        Some(Effect::Zeros) => bits.fill(false),
+        Some(Effect::Drop) => bits.clear(),
     }
-    bits.len()
 }
 
 /// Passes so many bits on, as they are or with this effect; `buffer` holds those that were taken.
 fn pass<P: Port>(
     bits: u64,
     effect: Option<Effect>,
-    buffer: &mut [bool],
+    buffer: &mut Packed,
     port: &mut P,
 ) -> Result<(), ApplyStop>
-    requires some { 0 < length buffer.old }
+    requires room { 8 ≤ buffer.old.capacity }
     requires line { IsTrue ((P.inputs port.old).holds 0) }
     requires out { IsTrue ((P.outputs port.old).holds 0) }
+    ensures capacity { buffer.new.capacity ≡ buffer.old.capacity }
     ensures kept { P.kept port.old port.new }
     ensures ok { OnOk result (Passes (becomes effect) bits
         (P.inputs port.old) (P.inputs port.new) (P.outputs port.old) (P.outputs port.new)) }
@@ -73,18 +56,21 @@ fn pass<P: Port>(
 {
     let mut passed = 0;
     while passed < bits {
-        let most = part(bits - passed, buffer.len());
-        let count = port.bits(0, &mut buffer[..most])?;
-        let left = alter(effect, &mut buffer[..count]);
-        port.put_all(0, &buffer[..left])?;
+        buffer.clear();
+        let most = part(bits - passed, buffer.capacity());
+        let count = port.bits(0, most, buffer)?;
+        alter(effect, buffer);
+        port.put_all(0, buffer)?;
         passed += count as u64;
     }
     Ok(())
 }
 
-/// Puts the bits of bytes.
-fn put_bytes<P: Port>(bytes: &[u8], port: &mut P) -> Result<(), ApplyStop>
-    requires { IsTrue ((P.outputs port.old).holds 0) }
+/// Puts the bits of bytes; `buffer` holds them on their way.
+fn put_bytes<P: Port>(bytes: &[u8], buffer: &mut Packed, port: &mut P) -> Result<(), ApplyStop>
+    requires room { 8 ≤ buffer.old.capacity }
+    requires out { IsTrue ((P.outputs port.old).holds 0) }
+    ensures capacity { buffer.new.capacity ≡ buffer.old.capacity }
     ensures kept { P.kept port.old port.new }
     ensures ok { OnOk result (Passes (λ line. bits_of bytes.now) 0
         (P.inputs port.old) (P.inputs port.new) (P.outputs port.old) (P.outputs port.new)) }
@@ -93,8 +79,14 @@ fn put_bytes<P: Port>(bytes: &[u8], port: &mut P) -> Result<(), ApplyStop>
         (P.feed_faults port.old) (P.feed_faults port.new)
         (P.drain_faults port.old) (P.drain_faults port.new)) }
 {
-    for byte in bytes {
-        port.put_all(0, &bits_of_byte(*byte))?;
+    let most = buffer.capacity() / 8;
+    let mut done = 0;
+    while done < bytes.len() {
+        let next = done + most.min(bytes.len() - done);
+        buffer.clear();
+        buffer.append_bytes(&bytes[done..next]);
+        port.put_all(0, buffer)?;
+        done = next;
     }
     Ok(())
 }
@@ -103,13 +95,14 @@ fn put_bytes<P: Port>(bytes: &[u8], port: &mut P) -> Result<(), ApplyStop>
 fn make_change<P: Port>(
     edit: Edit,
     added: &[u8],
-    buffer: &mut [bool],
+    buffer: &mut Packed,
     port: &mut P,
 ) -> Result<(), ApplyStop>
     requires enough { count_added edit ≤ length added.now }
-    requires some { 0 < length buffer.old }
+    requires room { 8 ≤ buffer.old.capacity }
     requires line { IsTrue ((P.inputs port.old).holds 0) }
     requires out { IsTrue ((P.outputs port.old).holds 0) }
+    ensures capacity { buffer.new.capacity ≡ buffer.old.capacity }
     ensures kept { P.kept port.old port.new }
     ensures ok { let change = change_in edit added.now in OnOk result (Passes (altered change) (bits_changed change)
         (P.inputs port.old) (P.inputs port.new) (P.outputs port.old) (P.outputs port.new)) }
@@ -120,7 +113,7 @@ fn make_change<P: Port>(
 {
     match edit {
         Edit::Alter { effect, bits } => pass(u64::from(bits), Some(effect), buffer, port),
-        Edit::Add { bytes } => put_bytes(&added[..bytes as usize], port),
+        Edit::Add { bytes } => put_bytes(&added[..bytes as usize], buffer, port),
     }
 }
 
@@ -129,12 +122,12 @@ pub fn disturb<P: Port>(
     steps: &[Step],
     bytes: &[u8],
     bits: u64,
-    buffer: &mut [bool],
+    buffer: &mut Packed,
     port: &mut P,
 ) -> Result<(), ApplyStop>
     requires fit { FitIn bits (rows_in steps.now bytes.now) }
     requires enough { steps_add steps.now ≤ length bytes.now }
-    requires some { 0 < length buffer.old }
+    requires room { 8 ≤ buffer.old.capacity }
     requires line { IsTrue ((P.inputs port.old).holds 0) }
     requires out { IsTrue ((P.outputs port.old).holds 0) }
     ensures kept { P.kept port.old port.new }

@@ -5,6 +5,7 @@ use crate::passing::disturb;
 use crate::reading::{StoredRows, read_rows};
 use crate::stop::ApplyStop;
 use pdh_edge::Port;
+use pdh_packed::Packed;
 use std::alloc::Global;
 use std::marker::Model;
 
@@ -12,13 +13,11 @@ use std::marker::Model;
 #[derive(Drop)]
 pub struct Script {
     rows: StoredRows,
+    alloc: Global,
 }
 
 /// The most bytes of a script's text.
 pub const MOST_SCRIPT_BYTES: usize = 1_048_576;
-
-/// How many bits are taken at once.
-const MOST_BITS: usize = 4096;
 
 impl Model for Script {
     ghost use Rattle.std.specs.Prelude.{List};
@@ -51,7 +50,7 @@ impl Script {
             });
         }
         let rows = read_rows(alloc, text, bits)?;
-        Ok(Script { rows })
+        Ok(Script { rows, alloc })
     }
 
     /// How many bytes its rows add.
@@ -79,7 +78,7 @@ impl Script {
             (P.feed_faults port.old) (P.feed_faults port.new)
             (P.drain_faults port.old) (P.drain_faults port.new)) }
     {
-        let mut buffer = [false; MOST_BITS];
+        let mut buffer = Packed::short(self.alloc);
         port.start()?;
         disturb(&self.rows.steps, &self.rows.added, bits, &mut buffer, port)
     }

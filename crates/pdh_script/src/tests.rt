@@ -1,5 +1,8 @@
+ghost use Rattle.std.specs.Prelude.{◌≤◌, length};
+
 use crate::{ApplyStop, Script, ScriptFault};
 use pdh_edge::MemPort;
+use pdh_packed::Packed;
 use std::alloc::Global;
 use std::test::Fail;
 
@@ -35,23 +38,31 @@ fn reads_each_kind_of_row(rt: HostRuntime) {
     }
 }
 
-/// The end of the disturbance of a line of eight zeros, of which so many bits are asked for, and what was put, for which there
+/// The end of the disturbance of a line of these bytes, of which so many bits are asked for, and what was put, for which there
 /// is room for so many bits.
 fn disturbed(
     alloc: Global,
+    line: &[u8],
     text: &str,
     bits: u64,
     room: usize,
-) -> Result<(Result<(), ApplyStop>, Vec<bool>), Fail> {
+) -> Result<(Result<(), ApplyStop>, String), Fail>
+    requires { length line.now ≤ 20 }
+{
     let script = Script::read(alloc, text.as_bytes(), bits)?;
     let mut lists = Vec::new(alloc);
-    lists.push(vec![in alloc; false; 8]?)?;
+    let mut list = Packed::open(alloc, 8 * line.len())?;
+    list.append_bytes(line);
+    lists.push(list)?;
     let mut port = MemPort::open(alloc, lists, 1)?;
     port.room(0, room)?;
     let end = script.apply(bits, &mut port);
-    let mut line = Vec::new(alloc);
-    line.extend_from_slice(port.output(0))?;
-    Ok((end, line))
+    let put = port.output(0);
+    let mut shown = String::new(alloc);
+    for place in 0..put.len() {
+        shown.push(if put.get(place) { '1' } else { '0' })?;
+    }
+    Ok((end, shown))
 }
 
 #[test]
@@ -77,14 +88,40 @@ fn disturbs_a_short_line(rt: HostRuntime) -> Result<(), Fail> {
         ("add 8 ff", 8, 8, Err(ApplyStop::WriteFailed), "00000000"),
     ];
     for (text, bits, room, end, line) in rows {
-        let (ended, put) = disturbed(rt.alloc(), text, bits, room)?;
+        let (ended, put) = disturbed(rt.alloc(), &[0], text, bits, room)?;
         assert_eq!(rt; ended, end, "at {text}");
-        let mut shown = String::new(rt.alloc());
-        for bit in &put {
-            shown.push(if *bit { '1' } else { '0' })?;
-        }
-        assert_eq!(rt; shown.as_str(), line, "at {text}");
+        assert_eq!(rt; put.as_str(), line, "at {text}");
     }
+    Ok(())
+}
+
+#[test]
+fn disturbs_a_line_of_many_words(rt: HostRuntime) -> Result<(), Fail> {
+    let text = "ones 10 100\nadd 130 00ff00ff00ff00ff00ff\ndrop 140 5\n";
+    let (ended, put) = disturbed(rt.alloc(), &[0; 20], text, 160, 235)?;
+    assert_eq!(rt; ended, Ok(()));
+    let runs = [
+        ('0', 10),
+        ('1', 100),
+        ('0', 28),
+        ('1', 8),
+        ('0', 8),
+        ('1', 8),
+        ('0', 8),
+        ('1', 8),
+        ('0', 8),
+        ('1', 8),
+        ('0', 8),
+        ('1', 8),
+        ('0', 25),
+    ];
+    let mut line = String::new(rt.alloc());
+    for (bit, count) in runs {
+        for _ in 0..count {
+            line.push(bit)?;
+        }
+    }
+    assert_eq!(rt; put.as_str(), line.as_str());
     Ok(())
 }
 

@@ -75,6 +75,16 @@ pub marks_refused : keeps_laws (record e2 { mark = λ t. set_mark 10 (swapped 0 
 unfolding keeps_laws_by walk set_role set_mark four_wrong
 marks_refused = refl
 
+-- a signal of one slot fewer than the alignment slots
+pub signal_refused : keeps_laws (record e2 { signal = 9 }) ≡ false
+unfolding keeps_laws_by walk set_role set_mark four_wrong
+signal_refused = refl
+
+-- two information slots that change places
+pub turn_refused : keeps_laws (record e2 { role = λ t. e2.role (swapped 12 13 t) }) ≡ false
+unfolding keeps_laws_by walk set_role set_mark four_wrong
+turn_refused = refl
+
 -- the justifiable slot of tributary 0 in the first set, before its control slots
 pub early_refused : keeps_laws (record e2 { role = λ t. e2.role (swapped 20 640 t) }) ≡ false
 unfolding keeps_laws_by walk set_role set_mark four_wrong

@@ -1,5 +1,5 @@
 -- A frame shape, as a value that definitions take, and the alignment signal in a frame.
-use Rattle.std.specs.Prelude.{◌≡◌, ◌<◌, ◌≤◌, ℕ, ◌^◌, Bool, true, false, not, ◌&&◌, List, [], ◌∷◌, sum_by, count_by}
+use Rattle.std.specs.Prelude.{◌≡◌, ◌<◌, ◌≤◌, ℕ, ◌^◌, Bool, true, false, not, nat_lt, ◌&&◌, List, [], ◌∷◌, sum_by, count_by}
 use Rattle.std.specs.List.{range_with_len, list_all, list_any, slice_index_or}
 use Rattle.pdh_shape.specs.declared.role.Role.{Role}
 use Rattle.pdh_shape.specs.declared.role.Role.TheVariants.{Align}
@@ -8,7 +8,7 @@ use Rattle.pdh_shape.specs.declared.role.Mark.TheVariants.{Framing, Multi, Other
 use Rattle.pdh_shape.specs.declared.role.Marks.{Marks}
 use Rattle.pdh_shape.specs.declared.role.Service.{Service}
 use Rattle.pdh_shape.specs.declared.role.Duty.{Duty}
-use Rattle.pdh_shape.specs.OwnNumbers.{most_slots}
+use Rattle.pdh_shape.specs.OwnNumbers.{most_slots, most_signal}
 
 -- the shape of a multiplexer's frame
 pub record FrameShape : Type 0 where
@@ -20,6 +20,8 @@ pub record FrameShape : Type 0 where
   pub copies : ℕ
   -- the least number of bits of a tributary that a frame carries
   pub low : ℕ
+  -- slots of the alignment signal that begins a frame; 0 where the alignment slots are spread over the frame
+  pub signal : ℕ
   -- what a slot carries
   pub role : ℕ → Role
   -- which alignment slot a slot is
@@ -88,6 +90,15 @@ pub record IsFrame (s : FrameShape) : Type 0 where
 abbrev pub is_align : Role → Bool
 is_align (Align signal) = true
 is_align _ = false
+
+-- what holds of the alignment signal that begins a shape's frame, if there is one
+pub record HasSignal (s : FrameShape) : Type 0 where
+  -- its bits fit a word (this project's own limit),
+  pub few : s.signal ≤ most_signal
+  -- and it fits the frame
+  pub within : s.signal ≤ s.len
+  -- a slot is an alignment slot exactly where it is a slot of the signal (G.742, 4)
+  pub first : 0 < s.signal → (t : ℕ) → t < s.len → is_align (s.role t) ≡ nat_lt t s.signal
 
 -- a slot of this mark is an alignment slot
 abbrev pub is_marked : Mark → Bool

@@ -29,3 +29,7 @@ most_bytes = 33554432
 -- the most slots of a frame
 abbrev pub most_slots : ℕ
 most_slots = 16384
+
+-- the most slots of an alignment signal that begins a frame
+abbrev pub most_signal : ℕ
+most_signal = 32

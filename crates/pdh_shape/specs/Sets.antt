@@ -48,6 +48,7 @@ in_sets signal plan = record {
   tribs = 4;
   copies = plan.copies;
   low = plan.low;
+  signal = plan.signal;
   role = set_role signal plan;
   mark = set_mark (length signal);
   inverted = λ j. false;
@@ -65,6 +66,8 @@ pub record IsSetPlan (signal : List Bool) (plan : SetPlan) : Type 0 where
   pub few : plan.sets ≤ 256
   -- and nor is that of a slot of the signal
   pub short : length signal < 256
+  -- the signal has so many slots
+  pub signal_is : plan.signal ≡ length signal
 
 -- the alignment signal 1111010000
 abbrev pub e2_signal : List Bool
@@ -72,7 +75,7 @@ e2_signal = true ∷ true ∷ true ∷ true ∷ false ∷ true ∷ false ∷ fal
 
 -- four sets of 212 slots
 abbrev pub e2_plan : SetPlan
-e2_plan = record { len = 848; set = 212; sets = 4; first_info = 12; copies = 3; low = 205 }
+e2_plan = record { len = 848; signal = 10; set = 212; sets = 4; first_info = 12; copies = 3; low = 205 }
 
 -- the second-order multiplex of G.742, 8448 kbit/s
 abbrev pub e2 : FrameShape
@@ -80,7 +83,7 @@ e2 = in_sets e2_signal e2_plan
 
 -- four sets of 384 slots
 abbrev pub e3_plan : SetPlan
-e3_plan = record { len = 1536; set = 384; sets = 4; first_info = 12; copies = 3; low = 377 }
+e3_plan = record { len = 1536; signal = 10; set = 384; sets = 4; first_info = 12; copies = 3; low = 377 }
 
 -- the third-order multiplex of G.751, 34368 kbit/s, which has the same signal
 abbrev pub e3 : FrameShape
@@ -92,7 +95,7 @@ e4_signal = true ∷ true ∷ true ∷ true ∷ true ∷ false ∷ true ∷ fals
 
 -- six sets of 488 slots
 abbrev pub e4_plan : SetPlan
-e4_plan = record { len = 2928; set = 488; sets = 6; first_info = 16; copies = 5; low = 722 }
+e4_plan = record { len = 2928; signal = 12; set = 488; sets = 6; first_info = 16; copies = 5; low = 722 }
 
 -- the fourth-order multiplex of G.751, 139264 kbit/s
 abbrev pub e4 : FrameShape

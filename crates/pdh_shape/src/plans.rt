@@ -11,6 +11,7 @@ impl InSets for E2Plan {
 
     const PLAN: SetPlan = SetPlan {
         len: 848,
+        signal: 10,
         set: 212,
         sets: 4,
         first_info: 12,
@@ -42,6 +43,7 @@ impl InSets for E3Plan {
 
     const PLAN: SetPlan = SetPlan {
         len: 1536,
+        signal: 10,
         set: 384,
         sets: 4,
         first_info: 12,
@@ -71,6 +73,7 @@ impl InSets for E4Plan {
 
     const PLAN: SetPlan = SetPlan {
         len: 2928,
+        signal: 12,
         set: 488,
         sets: 6,
         first_info: 16,

@@ -24,7 +24,7 @@ pub struct SetFrame<P> {
 impl<P: InSets> Shape for SetFrame<P> {
     ghost use Rattle.std.specs.Prelude.{refl};
     ghost use Rattle.pdh_shape.specs.Sets.{in_sets};
-    ghost use Rattle.pdh_shape.specs.laws.LawsOfTest.{laws-is_frame, laws-has_marks, laws-has_tributaries, laws-reads_evenly};
+    ghost use Rattle.pdh_shape.specs.laws.LawsOfTest.{laws-is_frame, laws-has_marks, laws-has_signal, laws-has_tributaries, laws-reads_evenly, laws-in_turn};
 
     ghost shape = { in_sets P.signal P.PLAN };
 
@@ -43,6 +43,10 @@ impl<P: InSets> Shape for SetFrame<P> {
     ghost LOW = { P.PLAN.low };
 
     const LOW: u32 = P::PLAN.low;
+
+    ghost SIGNAL = { P.PLAN.signal };
+
+    const SIGNAL: u32 = P::PLAN.signal;
 
     fn role(slot: u32) -> Role {
         set_role(P::signal(), &P::PLAN, slot)
@@ -76,11 +80,17 @@ impl<P: InSets> Shape for SetFrame<P> {
 
     ghost low_is = { refl };
 
+    ghost signal_is = { refl };
+
     ghost is_frame = { laws-is_frame (in_sets P.signal P.PLAN) P.lawful };
 
     ghost has_marks = { laws-has_marks (in_sets P.signal P.PLAN) P.lawful };
 
+    ghost has_signal = { laws-has_signal (in_sets P.signal P.PLAN) P.lawful };
+
     ghost has_tributaries = { laws-has_tributaries (in_sets P.signal P.PLAN) P.lawful };
 
     ghost reads_evenly = { laws-reads_evenly (in_sets P.signal P.PLAN) P.lawful };
+
+    ghost in_turn = { laws-in_turn (in_sets P.signal P.PLAN) P.lawful };
 }

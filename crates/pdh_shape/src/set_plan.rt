@@ -8,6 +8,8 @@ ghost use Rattle.pdh_shape.specs.declared.set_plan.SetPlan.{SetPlan};
 pub struct SetPlan {
     /// Slots in a frame.
     pub len: u32,
+    /// Slots of the alignment signal, with which a frame begins.
+    pub signal: u32,
     /// Slots in a set.
     pub set: u32,
     /// Sets in a frame.

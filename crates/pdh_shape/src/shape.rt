@@ -1,5 +1,6 @@
 ghost use Rattle.std.specs.Prelude.{◌≡◌, ◌<◌, ◌≤◌, ◌⊎◌, ◌%◌, ℕ};
-ghost use Rattle.pdh_shape.specs.Frame.{FrameShape, IsFrame, HasMarks};
+ghost use Rattle.pdh_shape.specs.Frame.{FrameShape, IsFrame, HasMarks, HasSignal};
+ghost use Rattle.pdh_shape.specs.Payload.{PayloadInTurn};
 ghost use Rattle.pdh_shape.specs.Tributary.{is_majority, HasTributaries, ReadsEvenly};
 
 use crate::{Duty, Mark, Marks, Role, Service};
@@ -29,6 +30,12 @@ pub trait Shape {
     /// The least number of bits of a tributary that a frame carries. It carries one more where its
     /// justification control says so.
     const LOW: u32;
+
+    ghost SIGNAL: { ℕ };
+
+    /// Slots of the alignment signal that begins a frame; 0 where the alignment slots are spread
+    /// over the frame.
+    const SIGNAL: u32;
 
     /// What a slot carries.
     fn role(slot: u32) -> Role
@@ -70,11 +77,17 @@ pub trait Shape {
 
     ghost low_is: { shape.low ≡ LOW };
 
+    ghost signal_is: { shape.signal ≡ SIGNAL };
+
     /// The frame has some slots and not too many, and frames that are right complete no loss.
     ghost is_frame: { IsFrame shape };
 
     /// The alignment slots are those that are marked, and the framing slots are numbered.
     ghost has_marks: { HasMarks shape };
+
+    /// The alignment signal has few slots, and where it begins the frame, the alignment slots are
+    /// its own.
+    ghost has_signal: { HasSignal shape };
 
     /// Each tributary has its information slots, its justifiable slot and before that its control
     /// slots, and no slot names another tributary.
@@ -82,6 +95,10 @@ pub trait Shape {
 
     /// The slots of a tributary are spread evenly over the frame.
     ghost reads_evenly: { ReadsEvenly shape };
+
+    /// The information and justifiable slots of a frame, counted from its start, belong to the
+    /// tributaries in turn, and the turns are whole.
+    ghost in_turn: { PayloadInTurn shape };
 }
 
 /// Whether a frame carries the lower number of a tributary's bits, where so many of its control

@@ -1,10 +1,13 @@
-ghost use Rattle.std.specs.Prelude.{◌≡◌, ◌<◌, ◌≤◌, ◌+◌, ◌↔◌, [], ◌∷◌, ◌++◌, length, drop, nat_le, IsErr, IfOk, OnOk, OnErr};
+ghost use Rattle.std.specs.Prelude.{◌≡◌, ◌<◌, ◌≤◌, ◌+◌, ◌↔◌, [], ◌∷◌, ◌++◌, length, nat_le, IsErr, IfOk, OnOk, OnErr};
 ghost use Rattle.pdh_shape.specs.OwnNumbers.{threshold, store_size};
 
-use circular_buffer::HeapCircularBuffer;
+use pdh_packed::{BitRing, Word};
 use pdh_shape::{STORE_SIZE, THRESHOLD};
 use std::alloc::{AllocError, Global};
 use std::marker::Model;
+
+// The bits that a store's ring has room for, the fewest that there may be.
+const RING_SIZE: u32 = 64;
 
 /// The refusal of a store that holds as many bits as it may.
 #[derive(Clone, Copy, Debug, PartialEq, Eq)]
@@ -19,7 +22,7 @@ pub struct Underflow;
 /// this project's own. Only `open` takes memory.
 #[derive(Drop)]
 pub struct Store {
-    ring: HeapCircularBuffer<bool>,
+    ring: BitRing,
 }
 
 impl Model for Store {
@@ -29,9 +32,9 @@ impl Model for Store {
     // the bits, from the oldest to the newest
     ghost Value = { List Bool };
 
-    ghost view = { λ s. s.ring.items };
+    ghost view = { λ s. s.ring.bits };
 
-    ghost invariant = { λ s. (s.ring.capacity ≡ store_size) × (length s.ring.items ≤ store_size) };
+    ghost invariant = { λ s. (s.ring.capacity ≡ 64) × (length s.ring.bits ≤ store_size) };
 }
 
 impl Store {
@@ -39,7 +42,7 @@ impl Store {
     pub fn open(alloc: Global) -> Result<Store, AllocError>
         ensures { IfOk result (λ store. store ≡ []) }
     {
-        let ring = HeapCircularBuffer::with_capacity(alloc, STORE_SIZE)?;
+        let ring = BitRing::open(alloc, RING_SIZE)?;
         Ok(Store { ring })
     }
 
@@ -50,10 +53,10 @@ impl Store {
         ensures ok { OnOk result (self.new ≡ self.old ++ bit ∷ []) }
         ensures err { OnErr result (self.new ≡ self.old) }
     {
-        if self.ring.is_full() {
+        if self.fill() as usize >= STORE_SIZE {
             return Err(Overflow);
         }
-        self.ring.push_back(bit);
+        self.ring.push(bit);
         Ok(())
     }
 
@@ -63,24 +66,33 @@ impl Store {
         ensures ok { IfOk result (λ bit. self.old ≡ bit ∷ self.new) }
         ensures err { OnErr result (self.new ≡ self.old) }
     {
-        self.ring.pop_front().ok_or(Underflow)
+        let fill = self.fill();
+        if fill == 0 {
+            return Err(Underflow);
+        }
+        let oldest = self.ring.get(fill - 1);
+        self.ring.drop_oldest(1);
+        Ok(oldest)
     }
 
-    /// Moves all bits to the front of `into`, which has room for them.
-    pub fn take_all(&mut self, into: &mut [bool])
-        requires room { length self.old ≤ length into.old }
-        ensures taken { into.new ≡ self.old ++ drop (length self.old) into.old }
+    /// Takes out all bits.
+    pub fn take_all(&mut self) -> Word
+        ensures taken { result ≡ self.old }
+        ensures few { length result ≤ store_size }
         ensures empty { self.new ≡ [] }
     {
-        let _taken = self.ring.read_into(into);
+        let fill = self.fill();
+        let bits = self.ring.read(0, fill);
+        self.ring.drop_oldest(fill);
+        bits
     }
 
     /// Appends bits, which the store has room for.
-    pub fn put_all(&mut self, bits: &[bool])
-        requires room { length self.old + length bits.now ≤ store_size }
-        ensures { self.new ≡ self.old ++ bits.now }
+    pub fn put_all(&mut self, bits: Word)
+        requires room { length self.old + length bits ≤ store_size }
+        ensures { self.new ≡ self.old ++ bits }
     {
-        let _put = self.ring.fill_from_slice(bits);
+        self.ring.push_word(bits);
     }
 
     /// How many bits are held, from 0 to [`STORE_SIZE`].
@@ -88,7 +100,7 @@ impl Store {
         ensures count { result ≡ length self.now }
         ensures bounded { length self.now ≤ store_size }
     {
-        self.ring.len() as u32
+        self.ring.held()
     }
 
     /// Whether a frame that begins now carries an additional bit, so that its justifiable slot isn't

@@ -16,7 +16,7 @@ use Rattle.pdh_tx.specs.declared.tributary.Tributary.{Tributary}
 use Rattle.pdh_tx.specs.Meaning.{Plan, Meaning, Fits, is_failed}
 use Rattle.pdh_tx.specs.Held.{first_some}
 use Rattle.pdh_tx.specs.Tributary.{placed_in, held_in, meaning_in, share_in}
-use Rattle.pdh_tx.specs.Node.{EachPlaced, Stays, steps, came_at, came_to, read_to, taken_to}
+use Rattle.pdh_tx.specs.Node.{EachPlaced, Advance, Stays, beginning, steps, came_at, came_to, read_to, taken_to}
 use Rattle.pdh_tx.specs.Passing.{made_through}
 use Rattle.pdh_tx.specs.Tributaries.{meanings, HaveDecided, beginning_stretch, GoThrough, StopIn, HavePassed, IsPassable, FailFrom, IsClearFor, FailIn}
 use Rattle.pdh_tx.specs.laws.Growing.{given_more}
@@ -49,6 +49,13 @@ module _ {S C : Type 0} {shape : shape.Ghosts S} {tx : Ghosts C} (frame : IsFram
   at_first j = ap (λ made. made j) first ∙ upto_past (came_at s at.path plan n t) (came_at s at.path plan n u) 0 j (omega arith)
 
   -- ---- it began
+
+  -- and so with the same tributaries
+  pub begun_still : (mid over : Tributaries S C shape tx) → over.list.items ≡ mid.list.items → GoThrough ts mid plan (beginning_stretch ts at.path plan n t) a b → GoThrough ts over plan (beginning_stretch ts at.path plan n t) a b
+  begun_still mid over list begun =
+      let P : List (Tributary C) → Type 0 = λ ws. Advance (placed_in tx) (held_in tx) (meanings ts) plan ts.list.items ws (taken_to s at.path plan n t) (came_to s at.path plan n t 0) (read_to s at.path plan n t)
+      (λ size. beginning s at.path plan (meanings ts) size n t) a b in
+      subst P (sym list) begun
 
   module _ (mid : Tributaries S C shape tx) (same : meanings mid ≡ meanings ts) (begun : GoThrough ts mid plan (beginning_stretch ts at.path plan n t) a b) where
     pub begun_placed : HavePassed mid plan at 0

@@ -1,9 +1,6 @@
 -- Many bits of a leaf.
-use borrow.Rule.Slice.PartMut.{put_mid}
-use Rattle.std.proofs.Common.{◌≡◌, inl, inr, ℕ, zero, suc, ◌+◌, ◌<◌, ◌≤◌, ◌==◌, Bool, true, false, List, [], ◌++◌, length, take, drop, get_or, cond, refl, sym, ap, ◌∙◌, subst, eq-eqb, arith, Some, None}
+use Rattle.std.proofs.Common.{◌≡◌, inl, inr, ℕ, zero, suc, ◌+◌, ◌<◌, ◌≤◌, ◌==◌, Bool, true, false, List, [], ◌++◌, length, get_or, cond, refl, sym, ap, ◌∙◌, subst, eq-eqb, arith, Some, None}
 use Rattle.std.proofs.lemmas.Bool.{cases_lt, le-leb}
-use Rattle.std.proofs.lemmas.List.{length-take-le, take-append-le}
-use Rattle.std.proofs.Math.Seq.{take-append-add}
 use Rattle.pdh_edge.specs.Ports.{Inputs, Takes, before, for_leaf, nothing}
 use Rattle.pdh_shape.specs.declared.role.Service.{Service}
 use Rattle.pdh_tx.specs.declared.tx.TxStop.TheVariants.{Ended}
@@ -58,13 +55,6 @@ leaf_then leaf xs ys x y z p q =
 
 pub leaf_still : (leaf : ℕ) (xs : List Bool) (x y z : Inputs) → Takes (for_leaf leaf xs) x y → Takes nothing y z → Takes (for_leaf leaf (xs ++ [])) x z
 leaf_still leaf xs x y z p q = leaf_then leaf xs [] x y z p (takes_as nothing (for_leaf leaf []) y z (λ k. when_none (k == leaf)) q)
-
--- the front of a list whose rest was written
-pub front_then : (old new : List Bool) (a k count : ℕ) → a ≤ length old → count ≤ length new → take (a + count) (put_mid a k old new) ≡ take a old ++ take count new
-front_then old new a k count within few =
-    let front : List Bool = take a old in
-    let long : length front ≡ a = length-take-le a old within in
-    ap (λ n. take (n + count) (put_mid a k old new)) (sym long) ∙ take-append-add front (new ++ drop k (drop a old)) count ∙ ap (λ l. front ++ l) (take-append-le count new (drop k (drop a old)) few)
 
 -- the bits of a leaf in whose way nothing stands are in its list
 pub leaf_enough : (leaf : ℕ) (plan : Plan) (x len : ℕ) (a : Inputs) → IsClear (leaf_meaning leaf) plan x (x + len) a → len ≤ a.left leaf

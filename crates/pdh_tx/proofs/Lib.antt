@@ -20,6 +20,7 @@ pub mod Passing
 pub mod PassingAll
 mod OnePasses
 pub mod Clearing
+pub mod Overhead
 pub mod PieceSteps
 mod Begun
 pub mod NodePieces

@@ -1,7 +1,6 @@
 -- Bits of a line that are made, one call after another.
-use borrow.Rule.Slice.PartMut.{put_mid}
-use Rattle.std.proofs.Common.{◌≡◌, ℕ, suc, ◌+◌, ◌≤◌, Bool, List, [], ◌++◌, length, take, drop, refl, sym, ap, subst, ◌∙◌, arith}
-use Rattle.std.proofs.lemmas.List.{length-append, length-drop, length-take-le}
+use Rattle.std.proofs.Common.{◌≡◌, ℕ, suc, ◌≤◌, Bool, List, [], ◌++◌, refl, sym, ap, subst, ◌∙◌, arith}
+use Rattle.std.proofs.lemmas.List.{length-append}
 use Rattle.pdh_edge.specs.Ports.{Inputs, nothing}
 use Rattle.pdh_shape.specs.declared.role.Service.{Service}
 use Rattle.pdh_tx.specs.declared.tx.TxStop.{TxStop}
@@ -12,8 +11,8 @@ use Rattle.pdh_tx.proofs.Moving.{takes_join, takes_none, agrees_left, agrees_rig
 use Rattle.pdh_tx.proofs.Gaining.{halts_more}
 use Rattle.pdh_tx.proofs.Passing.{part_then}
 
-pub all_none : {now : Service} (m : Meaning) (placed : ℕ → Type 0) (old : Supply → ℕ → Type 0) (plan : Plan) (a b : ℕ) (x : Inputs) → a ≡ b → placed a → MakesAll m now placed old old plan a b [] x x
-all_none {now = now} m placed old plan a b x same here =
+pub all_none : {now : Service} (m : Meaning) (placed : ℕ → Type 0) (old : Supply → ℕ → Type 0) (plan : Plan) (a b : ℕ) (bits : List Bool) (x : Inputs) → a ≡ b → bits ≡ [] → placed a → MakesAll m now placed old old plan a b bits x x
+all_none {now = now} m placed old plan a b bits x same none here =
     let made : MakesAll m now placed old old plan a a [] x x = record {
       given = nothing;
       gives = record { takes = takes_none x; others = λ k out. refl; exact = λ k leaf. omega arith };
@@ -21,7 +20,7 @@ all_none {now = now} m placed old plan a b x same here =
       place = here;
       onward = λ supply s. (refl, s.stands);
     } in
-    subst (λ b. MakesAll m now placed old old plan a b [] x x) same made
+    subst (λ bits. MakesAll m now placed old old plan a b bits x x) (sym none) (subst (λ b. MakesAll m now placed old old plan a b [] x x) same made)
 
 pub all_then : {now : Service} (m : Meaning) (placed placed' : ℕ → Type 0) (old mid new : Supply → ℕ → Type 0) (plan : Plan) (a b c : ℕ) (xs ys : List Bool) (x y z : Inputs) → MakesAll m now placed old mid plan a b xs x y
     → MakesAll m now placed' mid new plan b c ys y z → MakesAll m now placed' old new plan a c (xs ++ ys) x z
@@ -73,15 +72,5 @@ pub halts_within : {now : Service} (m m' : Meaning) (placed : ℕ → Type 0) (o
 halts_within {now = now} m m' placed old mid plan a b c to xs stop x y z same most grows p q =
     halts_more m plan a c to stop x z grows most (halts_after m placed old mid plan a b c xs stop x y z p (subst (λ m. Halts m plan b c stop y z) same q))
 
-pub all_end : {now : Service} (m : Meaning) (placed : ℕ → Type 0) (old new : Supply → ℕ → Type 0) (plan : Plan) (a b to : ℕ) (xs ys : List Bool) (x y : Inputs) → b ≡ to → xs ≡ ys → MakesAll m now placed old new plan a b xs x y → MakesAll m now placed old new plan a to ys x y
-all_end {now = now} m placed old new plan a b to xs ys x y end same p = subst (λ to. MakesAll m now placed old new plan a to ys x y) end (subst (λ bits. MakesAll m now placed old new plan a b bits x y) same p)
-
--- a list in which a part was written keeps its length
-pub length-put_mid : (a k : ℕ) (xs ys : List Bool) → a + k ≤ length xs → length ys ≡ k → length (put_mid a k xs ys) ≡ length xs
-length-put_mid a k xs ys h long =
-    let first = length-take-le a xs (omega arith) in
-    let rest = length-drop k (drop a xs) in
-    let behind = length-drop a xs in
-    let whole = length-append (take a xs) (ys ++ drop k (drop a xs)) in
-    let part = length-append ys (drop k (drop a xs)) in
-    omega arith
+pub all_end : {now : Service} (m : Meaning) (placed : ℕ → Type 0) (old new : Supply → ℕ → Type 0) (plan : Plan) (a b to : ℕ) (xs : List Bool) (x y : Inputs) → b ≡ to → MakesAll m now placed old new plan a b xs x y → MakesAll m now placed old new plan a to xs x y
+all_end {now = now} m placed old new plan a b to xs x y end p = subst (λ to. MakesAll m now placed old new plan a to xs x y) end p

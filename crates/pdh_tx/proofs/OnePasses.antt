@@ -5,7 +5,7 @@ use Rattle.pdh_shape.specs.declared.shape.Shape as shape
 use Rattle.pdh_shape.specs.Frame.{FrameShape, IsFrame}
 use Rattle.pdh_shape.specs.Tributary.{reads_from, reads_below}
 use Rattle.pdh_line.specs.Sending.{arrived_in, sends_more}
-use Rattle.pdh_slots.proofs.Picking.{before_grows}
+use Rattle.pdh_runs.proofs.Counts.{before_grows}
 use Rattle.pdh_tx.specs.declared.tx.Tx.{Ghosts}
 use Rattle.pdh_tx.specs.declared.pieces.Piece.{Piece}
 use Rattle.pdh_tx.specs.declared.tributaries.Tributaries.{Tributaries}
@@ -19,18 +19,18 @@ use Rattle.pdh_tx.proofs.Advancing.{upto_here}
 use Rattle.pdh_tx.proofs.PassingAll.{arrived_most}
 
 module _ {S C : Type 0} {shape : shape.Ghosts S} {tx : Ghosts C} where
-  -- the next tributary, into which so many bits of its child come, where `len` slots are the piece's
-  pub record IsNext (ts : Tributaries S C shape tx) (plan : Plan) (at : Piece) (i : ℕ) (w : Tributary C) (len arriving : ℕ) : Type 0 where
+  -- the next tributary, into which so many bits of its child come
+  pub record IsNext (ts : Tributaries S C shape tx) (plan : Plan) (at : Piece) (i : ℕ) (w : Tributary C) (arriving : ℕ) : Type 0 where
     pub maker : slice_get (meanings ts) i ≡ Some (meaning_in tx w)
     pub share : IsShare shape.shape (plan.counts at.path i) at.frame w.share
     pub was : placed_in tx w plan (came_at shape.shape at.path plan at.frame at.slot i) (read_to shape.shape at.path plan at.frame at.slot i)
     pub came : came_at shape.shape at.path plan at.frame at.slot i + arriving ≡ came_at shape.shape at.path plan at.frame (at.slot + at.len) i
-    pub left : read_to shape.shape at.path plan at.frame at.slot i + carried_in shape.shape i w.share.more at.slot len ≡ read_to shape.shape at.path plan at.frame (at.slot + at.len) i
+    pub left : read_to shape.shape at.path plan at.frame at.slot i + carried_in shape.shape i w.share.more at.slot at.len ≡ read_to shape.shape at.path plan at.frame (at.slot + at.len) i
     pub few : arriving ≤ shape.shape.len
 
-  pub next_one : (frame : IsFrame shape.shape) (ts : Tributaries S C shape tx) (plan : Plan) (at : Piece) (i : ℕ) (w : Tributary C) (len arriving : ℕ) → slice_get ts.list.items i ≡ Some w → at.slot + at.len ≤ shape.shape.len → len ≡ at.len
-      → HaveDecided ts at.path plan at.frame → HavePassed ts plan at i → arrived_in shape.shape w.share.arriving at.slot + arriving ≡ arrived_in shape.shape w.share.arriving (at.slot + at.len) → IsNext ts plan at i w len arriving
-  next_one frame ts plan at i w len arriving here inside size decided passed arrives =
+  pub next_one : (frame : IsFrame shape.shape) (ts : Tributaries S C shape tx) (plan : Plan) (at : Piece) (i : ℕ) (w : Tributary C) (arriving : ℕ) → slice_get ts.list.items i ≡ Some w → at.slot + at.len ≤ shape.shape.len
+      → HaveDecided ts at.path plan at.frame → HavePassed ts plan at i → arrived_in shape.shape w.share.arriving at.slot + arriving ≡ arrived_in shape.shape w.share.arriving (at.slot + at.len) → IsNext ts plan at i w arriving
+  next_one frame ts plan at i w arriving here inside decided passed arrives =
       let s : FrameShape = shape.shape in
       let n : ℕ = at.frame in
       let t : ℕ = at.slot in
@@ -47,7 +47,7 @@ module _ {S C : Type 0} {shape : shape.Ghosts S} {tx : Ghosts C} where
       let Q : ℕ → Type 0 = λ k. placed_in tx w plan k (h i) in
       let R : ℕ → Type 0 = λ k. placed_in tx w plan (Rattle.pdh_tx.specs.Passing.up_to f f' i i) k in
       let below_t : reads_below s i more t ≡ reads_below s i (sends_more s counts n) t = ap (λ b. reads_below s i b t) share.more in
-      let below_u : reads_below s i more (t + len) ≡ reads_below s i (sends_more s counts n) u = ap (λ b. reads_below s i b (t + len)) share.more ∙ ap (λ k. reads_below s i (sends_more s counts n) (t + k)) size in
+      let below_u : reads_below s i more u ≡ reads_below s i (sends_more s counts n) u = ap (λ b. reads_below s i b u) share.more in
       let grows = before_grows (λ x. reads_from i (sends_more s counts n) (s.role x)) t u (omega arith) in
       record {
         maker = slice_get-map (meaning_in tx) ts.list.items i ∙ rw here refl;

@@ -1,5 +1,5 @@
 -- The parity of a frame's information and justifiable slots.
-use Rattle.std.proofs.Common.{◌≡◌, ℕ, zero, suc, ◌+◌, ◌<◌, ◌≤◌, List, length, ◌%◌, Bool, true, false, ◌&&◌, not, cond, eqb, refl, sym, ap, ◌∙◌, inl, inr, arith, add-zero}
+use Rattle.std.proofs.Common.{◌≡◌, ℕ, zero, suc, ◌+◌, ◌<◌, ◌≤◌, List, length, ◌%◌, Bool, true, false, ◌&&◌, not, cond, eqb, refl, sym, ap, ◌∙◌, inl, inr, arith, add-zero, zero-add}
 use Rattle.std.specs.Prelude.{count_by}
 use Rattle.std.specs.List.{range_with_len, slice_index_or}
 use Rattle.std.specs.Bool.{beq}
@@ -10,7 +10,7 @@ use Rattle.pdh_shape.specs.Frame.{FrameShape}
 use Rattle.pdh_line.specs.Sending.{Source, sends_more, input_bit, payload_bit, slot_bit, odd_before}
 use Rattle.pdh_line.proofs.Ranges.{count-range_push}
 use Rattle.pdh_tx.specs.Node.{odd_within}
-use Rattle.pdh_slots.specs.Slots.{is_payload, payload_ones}
+use Rattle.pdh_shape.specs.Payload.{is_payload, payload_ones}
 
 no_payload : (b : Bool) → (b && false) ≡ false
 no_payload true = refl
@@ -84,3 +84,15 @@ module _ (s : FrameShape) (source : Source) (n t : ℕ) (bits : List Bool) (is_o
   pub odd_piece : ((v : ℕ) → v < length bits → slice_index_or bits v false ≡ slot_bit s source n (t + v) (s.role (t + v))) → is_odd ≡ odd_within s source n t
       → eqb ((cond is_odd 1 0 + payload_ones s t bits) % 2) 1 ≡ odd_within s source n (t + length bits)
   odd_piece line odd = odd_upto line odd (length bits) (omega arith)
+
+-- the parity of a number added to one that is told
+pub odd_with : (is_odd : Bool) (k : ℕ) → not (beq is_odd (eqb (k % 2) 1)) ≡ eqb ((cond is_odd 1 0 + k) % 2) 1
+odd_with true k = elim (cases_eq (k % 2) 1) [
+  | inl one ↦ let even : (1 + k) % 2 ≡ 0 = omega arith in rw (even, one) refl
+  | inr none ↦ let zero : k % 2 ≡ 0 = omega arith in let odd : (1 + k) % 2 ≡ 1 = omega arith in rw (odd, zero) refl
+]
+odd_with false k = same (eqb (k % 2) 1) ∙ ap (λ n. eqb (n % 2) 1) (sym (zero-add k))
+  where
+    same : (b : Bool) → not (beq false b) ≡ b
+    same true = refl
+    same false = refl

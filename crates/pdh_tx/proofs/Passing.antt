@@ -1,11 +1,12 @@
 -- Many bits of a tributary at once.
-use Rattle.std.proofs.Common.{◌≡◌, ℕ, ◌+◌, ◌-◌, ◌<◌, ◌≤◌, Bool, true, false, List, ◌++◌, length, map, take, drop, get_or, refl, sym, ap, ◌∙◌, subst, arith}
+use Rattle.std.proofs.Common.{◌≡◌, ℕ, ◌+◌, ◌-◌, ◌<◌, ◌≤◌, Bool, false, List, [], ◌++◌, length, map, take, drop, get_or, refl, sym, ap, ◌∙◌, subst, arith}
 use Rattle.std.specs.List.{range_with_len}
-use Rattle.std.proofs.lemmas.List.{length-append, map-append, length-drop, length-take-le}
+use Rattle.std.proofs.lemmas.List.{length-append, map-append, length-drop, take_all}
 use Rattle.std.proofs.lemmas.List.FromFn.{get_or-map-range_with_len, length-map-range_with_len}
-use borrow.Rule.Slice.PartMut.{put_mid}
-use Rattle.std.proofs.lemmas.Slice.{take-put_mid, between_is}
-use Rattle.std.proofs.Math.Seq.{drop-append_seam, take-append_seam}
+use Rattle.std.proofs.Math.Seq.{drop-append_seam}
+use Rattle.pdh_bits.specs.BitOut.{BoundedBits}
+use Rattle.pdh_packed.specs.Gaining.{gained, IsGrown}
+use Rattle.pdh_packed.proofs.GainingLaws.{grown_long}
 use Rattle.pdh_edge.specs.Ports.{Inputs}
 use Rattle.pdh_shape.specs.declared.role.Service.{Service}
 use Rattle.pdh_shape.specs.Frame.{FrameShape}
@@ -14,8 +15,9 @@ use Rattle.pdh_line.proofs.Ranges.{range_append}
 use Rattle.pdh_tx.specs.Meaning.{Meaning, Plan, Supply}
 use Rattle.pdh_tx.specs.Held.{IsPart, Placed, Held, Gains}
 use Rattle.pdh_tx.specs.Making.{MakesAll}
-use Rattle.pdh_slots.specs.Slots.{Writes}
-use Rattle.pdh_tx.specs.Passing.{HeldAndWritten}
+use Rattle.pdh_runs.specs.Pieces.{FillsColumn}
+use Rattle.pdh_runs.proofs.Counts.{before_grows, before_less}
+use Rattle.pdh_tx.specs.Passing.{carried_in, HeldAndFilled}
 
 -- ---- parts of a line
 
@@ -48,7 +50,19 @@ part_drop line xs a k h p =
     let left : length (drop k xs) ≡ n = (let l = length-drop k xs in omega arith) in
     ap (drop k) (p ∙ ap (λ m. map line (range_with_len a m)) whole) ∙ drop-map-range line a k n ∙ ap (λ m. map line (range_with_len (a + k) m)) (sym left)
 
--- ---- a tributary that took many bits of its child, of which many went into their slots
+-- a column that is filled from a queue is so from the part of a line with which the queue begins
+pub fills_part : (s : FrameShape) (j : ℕ) (more : Bool) (first len gone : ℕ) (line : ℕ → Bool) (queue column : List Bool) (from : ℕ) → reads_below s j more first + gone ≡ reads_below s j more (first + len) → gone ≤ length queue
+    → IsPart line queue from → FillsColumn s j more first len queue column → FillsColumn s j more first len (map line (range_with_len from gone)) column
+fills_part s j more first len gone line queue column from all enough part fills = record {
+  carried = λ v i within reads number.
+      let less = before_less (λ t. reads_from j more (s.role t)) (first + v) (first + len) reads (omega arith) in
+      let few : i < gone = omega (arith, all, number, less) in
+      fills.carried v i within reads number
+      ∙ ap (turned (s.inverted j)) (part_at line queue from i false part (omega (arith, few, enough)) ∙ sym (get_or-map-range_with_len line from gone i (from + i) false few refl));
+  justified = fills.justified;
+}
+
+-- ---- a tributary that took many bits of its child, of which many went into their column
 
 module _ {C : Type 0} (stands_at : C → Plan → ℕ → Type 0) (stands_for : C → Supply → ℕ → Type 0) (meaning : C → Meaning) (says : C → Service) (is_stopped : C → Bool) (old new : C) (plan : Plan) (store bits : List Bool) (made read gone : ℕ) where
   pub pass_placed : (a b : Inputs) (to : ℕ) → says new ≡ says old → is_stopped new ≡ false → gone ≤ length (store ++ bits)
@@ -62,15 +76,14 @@ module _ {C : Type 0} (stands_at : C → Plan → ℕ → Type 0) (stands_for : 
     count = (let c = was.count in let m = makes.count in let l = length-append store bits in let d = length-drop gone (store ++ bits) in omega arith);
   }
 
-  -- `slots` is what the piece holds after the bits of the queue, by their numbers, went into its slots
-  pub pass_gains : (a b : Inputs) (to : ℕ) (s : FrameShape) (j : ℕ) (more : Bool) (first : ℕ) (slots : List Bool) → meaning new ≡ meaning old → gone ≤ length (store ++ bits)
-      → reads_below s j more first + gone ≡ reads_below s j more (first + length slots)
-      → ((v i : ℕ) → v < length slots → reads_from j more (s.role (first + v)) ≡ true → reads_below s j more first + i ≡ reads_below s j more (first + v) → i < gone)
+  -- `column` is filled with what the queue begins with
+  pub pass_gains : (a b : Inputs) (to : ℕ) (s : FrameShape) (j : ℕ) (more : Bool) (first len : ℕ) (column : List Bool) → meaning new ≡ meaning old → gone ≤ length (store ++ bits)
+      → reads_below s j more first + gone ≡ reads_below s j more (first + len)
       → Placed stands_at says is_stopped old store plan made read
       → MakesAll (meaning old) (says old) (stands_at new plan) (stands_for old) (stands_for new) plan made to bits a b
-      → Writes s j more first (λ i. get_or (store ++ bits) i false) 0 slots
-      → Gains (meaning old) plan (Held stands_for meaning old store) (HeldAndWritten stands_for meaning s j more first new (drop gone (store ++ bits)) slots gone) made to read a b
-  pass_gains a b to s j more first slots same enough all within placed makes writes = record {
+      → FillsColumn s j more first len (store ++ bits) column
+      → Gains (meaning old) plan (Held stands_for meaning old store) (HeldAndFilled stands_for meaning s j more first len gone new (drop gone (store ++ bits)) column) made to read a b
+  pass_gains a b to s j more first len column same enough all placed makes fills = record {
     given = makes.given;
     takes = makes.gives.takes;
     others = makes.gives.others;
@@ -82,28 +95,30 @@ module _ {C : Type 0} (stands_at : C → Plan → ℕ → Type 0) (stands_for : 
         let Q : Meaning → Type 0 = λ m. IsPart (m.line supply) bits made in
         let whole : IsPart line (store ++ bits) read = part_then line store bits read made placed.count (subst P (sym same) was.holds) (subst Q (sym same) next.0) in (
           record { quiet = was.quiet; made_for = next.1; holds = part_drop line (store ++ bits) read gone enough whole },
-          λ v i h passes number.
-              let few : i < gone = within v i h passes number in
-              let zero : 0 + i ≡ i = omega arith in
-              writes v i h passes number ∙ ap (turned (s.inverted j)) (ap (λ n. get_or (store ++ bits) n false) zero ∙ part_at line (store ++ bits) read i false whole (omega arith)),
+          fills_part s j more first len gone line (store ++ bits) column read all enough whole fills,
         );
   }
 
 -- ---- the queue: what the store held, and behind it what the child gave
 
-module _ (queue rest bits store : List Bool) (held arriving : ℕ) (is : queue ≡ store ++ rest) (same : held ≡ length store) (long : length bits ≡ arriving) where
-  pub queue_front : take (held + arriving) (put_mid held (held + arriving - held) queue bits) ≡ store ++ bits
-  queue_front =
-      let within : held ≤ length queue = (let l = ap length is in let m = length-append store rest in omega arith) in
-      let first : take held queue ≡ store = ap (take held) is ∙ ap (λ n. take n (store ++ rest)) same ∙ take-append_seam store rest in
-      take-put_mid held (held + arriving - held) queue bits (held + arriving) (omega arith) within ∙ ap (λ l. l ++ bits) first
+module _ (queue none front whole : BoundedBits) (store held : List Bool) (arriving : ℕ) (cleared : none ≡ record queue { bits = [] }) (same : held ≡ store) (held_first : front ≡ record none { bits = none.bits ++ held }) where
+  pub front_room : front.capacity ≡ queue.capacity
+  front_room = ap (λ (list : BoundedBits). list.capacity) held_first ∙ ap (λ (list : BoundedBits). list.capacity) cleared
 
-  pub queue_rest : (gone : ℕ) → take (held + arriving - gone) (drop gone (put_mid held (held + arriving - held) queue bits)) ≡ drop gone (store ++ bits)
-  queue_rest gone =
-      between_is (put_mid held (held + arriving - held) queue bits) gone (held + arriving) ∙ ap (drop gone) queue_front
+  pub front_is : front.bits ≡ store
+  front_is = ap (λ (list : BoundedBits). list.bits) held_first ∙ ap (λ (list : BoundedBits). list.bits ++ held) cleared ∙ same
 
--- a part of a list that holds so many
-pub part_long : (queue : List Bool) (held arriving : ℕ) → held + arriving ≤ length queue → length (take (held + arriving - held) (drop held queue)) ≡ arriving
-part_long queue held arriving h =
-    let d = length-drop held queue in
-    length-take-le (held + arriving - held) (drop held queue) (omega arith) ∙ omega arith
+  module _ (grown : IsGrown front whole arriving) where
+    pub queue_is : whole.bits ≡ store ++ gained front whole
+    queue_is = grown.bits ∙ ap (λ (bits : List Bool). bits ++ gained front whole) front_is
+
+    pub queue_long : length whole.bits ≡ length store + arriving
+    queue_long = grown_long front whole arriving grown ∙ ap (λ (bits : List Bool). length bits + arriving) front_is
+
+-- what is left of a list is all that stands behind its front
+pub rest_is : (bits : List Bool) (gone : ℕ) → take (length bits - gone) (drop gone bits) ≡ drop gone bits
+rest_is bits gone = take_all (length bits - gone) (drop gone bits) (omega (arith, length-drop gone bits))
+
+-- how many slots of a piece carry a bit
+pub carried_is : (s : FrameShape) (j : ℕ) (more : Bool) (first len : ℕ) → reads_below s j more first + carried_in s j more first len ≡ reads_below s j more (first + len)
+carried_is s j more first len = omega (arith, before_grows (λ t. reads_from j more (s.role t)) first (first + len) (omega arith))

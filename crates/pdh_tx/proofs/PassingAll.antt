@@ -1,9 +1,12 @@
 -- Tributaries that pass many bits, one after another.
-use Rattle.std.proofs.Common.{◌≡◌, inl, inr, ℕ, suc, ◌+◌, ◌-◌, ◌*◌, ◌/◌, ◌<◌, ◌≤◌, Bool, true, false, List, ◌++◌, length, map, refl, sym, ap, ◌∙◌, subst, arith, Some, slice_get, slice_set, ◌&&◌, cond, eqb, eqb-true}
-use Rattle.std.specs.List.{slice_index_or}
-use Rattle.std.proofs.lemmas.Bool.{cases_Bool, cases_eq, ne_eqb, lt-ltb, le-ltb}
-use Rattle.std.proofs.lemmas.List.{length-append}
+use Rattle.std.proofs.Common.{◌≡◌, inl, inr, ℕ, suc, ◌+◌, ◌-◌, ◌*◌, ◌/◌, ◌<◌, ◌≤◌, Bool, true, false, List, [], ◌++◌, length, map, refl, sym, ap, ◌∙◌, subst, arith, Some, slice_get, slice_set, ◌&&◌, cond, eqb, eqb-true}
+use Rattle.std.specs.Prelude.{All}
+use Rattle.std.specs.List.{range_with_len, slice_index_or}
+use Rattle.std.proofs.lemmas.Bool.{cases_Bool, cases_lt, lt-ltb, le-ltb}
+use Rattle.std.proofs.lemmas.List.{length-append, length-map, map-set, get_or-map, get_or-set_same, get_or-set_other}
+use Rattle.std.proofs.lemmas.List.FromFn.{get_or-map-range_with_len}
 use Rattle.std.proofs.lemmas.Option.{slice_get-map}
+use Rattle.pdh_bits.specs.BitOut.{BoundedBits}
 use Rattle.pdh_edge.specs.Ports.{Inputs, nothing}
 use Rattle.pdh_shape.specs.declared.place.Path.{Path}
 use Rattle.pdh_shape.specs.declared.role.Role.{Role}
@@ -12,7 +15,7 @@ use Rattle.std.proofs.lemmas.Nat.{le-div}
 use Rattle.std.proofs.Math.Nat.{div-mul-le_self, mul-le-mul_right}
 use Rattle.pdh_shape.specs.Frame.{FrameShape, IsFrame}
 use Rattle.pdh_shape.specs.Tributary.{reads_from, reads_below, turned}
-use Rattle.pdh_line.specs.Sending.{Source, sends_more, came_before, read_before, arrived_in}
+use Rattle.pdh_line.specs.Sending.{Source, sends_more, came_before, read_before, arrived_in, sent, input_bit, slot_bit}
 use Rattle.pdh_line.proofs.SendingLaws.{came_before_grows, arrived_in-all}
 use Rattle.pdh_tx.specs.declared.tx.TxStop.{TxStop}
 use Rattle.pdh_tx.specs.declared.pieces.Piece.{Piece}
@@ -21,11 +24,12 @@ use Rattle.pdh_tx.specs.Held.{Gains}
 use Rattle.pdh_tx.specs.Making.{IsClear}
 use Rattle.pdh_tx.specs.Node.{below, source_of, line_of, any_leaf, given_by, IsDisjoint, EachPlaced, EachHeld, Stays, came_at}
 use Rattle.pdh_tx.specs.laws.Growing.{grows_to}
-use Rattle.pdh_slots.specs.Slots.{KeepsOthers, Writes}
-use Rattle.pdh_tx.specs.Passing.{up_to, made_through, CanPass, HoldsBits, HoldsBitsOf, KeepsSlots, Passes}
-use Rattle.pdh_slots.proofs.Picking.{before_grows}
+use Rattle.pdh_runs.specs.Pieces.{row, rows, FillsColumn}
+use Rattle.pdh_tx.specs.Passing.{up_to, made_through, CanPass, HoldsBits, HoldsBitsOf, HasRows, HasRowsOf, Passes}
+use Rattle.pdh_runs.proofs.Counts.{before_grows, before_less}
 use Rattle.pdh_tx.proofs.Moving.{takes_join, takes_none, agrees_left, agrees_right, leaf_of, not_leaf, given_at, given_same, slice_get_set}
 use Rattle.pdh_tx.proofs.Advancing.{upto_here, upto_next, upto_other}
+use Rattle.pdh_tx.proofs.Reading.{read_is}
 
 some_same : {X : Type 0} {a b : X} → Some a ≡ Some b → a ≡ b
 some_same h = cc
@@ -121,55 +125,77 @@ module _ {W : Type 0} (placed : W → Plan → ℕ → ℕ → Type 0) (held : W
             subst N (upto_other h l i j p.0) (subst M (upto_other f g i j p.0) (each j c p.1))
       ]
 
--- ---- what stands in the slots
+-- ---- what stands in the columns
 
--- a slot carries a bit of one tributary at most
-pub one_reader : (i j : ℕ) (p q : Bool) (r : Role) → reads_from i p r ≡ true → (j ≡ i → ⊥) → reads_from j q r ≡ false
-one_reader i j p q (Info k) h ne = ne_eqb k j (λ e. ne (sym e ∙ eqb-true k i h))
-one_reader i j p q (Just k) h ne = ap (λ b. b && q) (ne_eqb k j (λ e. ne (sym e ∙ eqb-true k i (left (eqb k i) p h))))
-  where
-    left : (a b : Bool) → (a && b) ≡ true → a ≡ true
-    left true b h = refl
-    left false b h = h
-one_reader i j p q (Align b) h ne = refl
-one_reader i j p q (ServiceSlot k) h ne = refl
-one_reader i j p q (Control k copy) h ne = refl
+-- one of them was written
+pub column_same : (columns : List BoundedBits) (i : ℕ) (column : BoundedBits) → i < length columns → slice_index_or (map (λ (c : BoundedBits). c.bits) (slice_set columns i column)) i [] ≡ column.bits
+column_same columns i column within =
+    ap (λ l. slice_index_or l i []) (map-set (λ (c : BoundedBits). c.bits) columns i column)
+    ∙ get_or-set_same (map (λ (c : BoundedBits). c.bits) columns) i column.bits [] (omega (arith, within, length-map columns (λ (c : BoundedBits). c.bits)))
 
-pub holds_more : (s : FrameShape) (source : Source) (n first i : ℕ) (old new : List Bool) → length new ≡ length old → KeepsOthers s i (sends_more s (source.counts i) n) first old new
-    → HoldsBits s source n first old i → HoldsBitsOf s source n first new i → HoldsBits s source n first new (suc i)
-holds_more s source n first i old new long keeps before' now j less v within reads = elim (cases_eq j i) [
-  | inl same ↦
-      let P : ℕ → Type 0 = λ m. HoldsBitsOf s source n first new m in
-      subst P (sym same) now v within reads
-  | inr other ↦
-      let passed : reads_from i (sends_more s (source.counts i) n) (s.role (first + v)) ≡ false = one_reader j i (sends_more s (source.counts j) n) (sends_more s (source.counts i) n) (s.role (first + v)) reads (λ e. other (sym e)) in
-      keeps v (omega arith) passed ∙ before' j (omega arith) v (omega arith) reads
+pub column_other : (columns : List BoundedBits) (i j : ℕ) (column : BoundedBits) → (j ≡ i → ⊥) → slice_index_or (map (λ (c : BoundedBits). c.bits) (slice_set columns i column)) j [] ≡ slice_index_or (map (λ (c : BoundedBits). c.bits) columns) j []
+column_other columns i j column other =
+    ap (λ l. slice_index_or l j []) (map-set (λ (c : BoundedBits). c.bits) columns i column) ∙ get_or-set_other (map (λ (c : BoundedBits). c.bits) columns) i j column.bits [] other
+
+-- those of one more
+pub holds_more : (s : FrameShape) (source : Source) (n first len i : ℕ) (old new : List (List Bool)) → ((j : ℕ) → j < i → slice_index_or new j [] ≡ slice_index_or old j [])
+    → HoldsBits s source n first len old i → HoldsBitsOf s source n first len new i → HoldsBits s source n first len new (suc i)
+holds_more s source n first len i old new kept before' now j less v within reads = elim (cases_lt j i) [
+  | inl earlier ↦ ap (λ column. slice_index_or column (row s first v) false) (kept j earlier) ∙ before' j earlier v within reads
+  | inr here ↦
+      let same : i ≡ j = omega arith in
+      let P : ℕ → Type 0 = λ m. HoldsBitsOf s source n first len new m in
+      subst P same now v within reads
 ]
 
-pub keeps_more : (s : FrameShape) (path : Path) (plan : Plan) (n first i : ℕ) (old mid new : List Bool) → length mid ≡ length old → KeepsOthers s i (sends_more s (plan.counts path i) n) first mid new
-    → KeepsSlots s path plan n first old mid i → KeepsSlots s path plan n first old new (suc i)
-keeps_more s path plan n first i old mid new long keeps before' v within none = keeps v (omega arith) (none i (omega arith)) ∙ before' v within (λ j less. none j (omega arith))
+pub rows_more : (s : FrameShape) (first len i : ℕ) (old new : List (List Bool)) → ((j : ℕ) → j < i → slice_index_or new j [] ≡ slice_index_or old j []) → HasRows s first len old i → HasRowsOf s first len new i → HasRows s first len new (suc i)
+rows_more s first len i old new kept before' now j less = elim (cases_lt j i) [
+  | inl earlier ↦ ap length (kept j earlier) ∙ before' j earlier
+  | inr here ↦ let same : i ≡ j = omega arith in subst (λ m. HasRowsOf s first len new m) same now
+]
 
--- what went into the slots of a piece are the tributary's bits, as the line has them
-pub holds_from : (s : FrameShape) (path : Path) (ms : List Meaning) (plan : Plan) (supply : Supply) (n t i j : ℕ) (more : Bool) (m : Meaning) (bits : List Bool) → supply.plan ≡ plan → j ≡ i → more ≡ sends_more s (plan.counts path i) n
-    → slice_get ms i ≡ Some m → Writes s j more t (m.line (below supply)) (read_before s i (plan.counts path i) n t) bits → HoldsBitsOf s (source_of path ms supply) n t bits i
-holds_from s path ms plan supply n t i j more m bits is same carries at writes =
+-- all are
+pub rows_all : (s : FrameShape) (first len : ℕ) (columns : List BoundedBits) → HasRows s first len (map (λ (c : BoundedBits). c.bits) columns) (length columns) → All (λ (column : BoundedBits). length column.bits ≡ rows s first len) columns
+rows_all s first len columns each k d within = ap length (sym (get_or-map (λ (c : BoundedBits). c.bits) columns k d [] within)) ∙ each k within
+
+-- a payload slot that carries nothing is 1
+spare_is : (s : FrameShape) (source : Source) (n t i : ℕ) (r : Role) → reads_from i true r ≡ true → reads_from i (sends_more s (source.counts i) n) r ≡ false → slot_bit s source n t r ≡ true
+spare_is s source n t i (Info k) own none = absurd (differ (sym none ∙ own))
+spare_is s source n t i (Just k) own none =
+    let here : eqb k i ≡ true = left (eqb k i) own in
+    let less : sends_more s (source.counts i) n ≡ false = ap (λ b. b && sends_more s (source.counts i) n) (sym here) ∙ none in
+    ap (λ v. slot_bit s source n t (Just v)) (eqb-true k i here) ∙ ap (λ b. cond b (input_bit s source n t i) true) less
+  where
+    left : (a : Bool) → (a && true) ≡ true → a ≡ true
+    left true h = refl
+    left false h = h
+spare_is s source n t i (Align b) own none = absurd (differ own)
+spare_is s source n t i (ServiceSlot k) own none = absurd (differ own)
+spare_is s source n t i (Control k copy) own none = absurd (differ own)
+
+-- what a column is filled with are the bits of the tributary's slots
+pub holds_from : (s : FrameShape) (path : Path) (ms : List Meaning) (plan : Plan) (supply : Supply) (n t len i gone : ℕ) (more : Bool) (m : Meaning) (columns : List (List Bool)) (column : List Bool) → supply.plan ≡ plan → more ≡ sends_more s (plan.counts path i) n
+    → slice_get ms i ≡ Some m → slice_index_or columns i [] ≡ column → reads_below s i more t + gone ≡ reads_below s i more (t + len)
+    → FillsColumn s i more t len (map (m.line (below supply)) (range_with_len (read_before s i (plan.counts path i) n t) gone)) column → HoldsBitsOf s (source_of path ms supply) n t len columns i
+holds_from s path ms plan supply n t len i gone more m columns column is carries at own all fills v within reads =
     let counts : ℕ → ℕ = plan.counts path i in
     let line : ℕ → Bool = m.line (below supply) in
-    let p : ℕ → Bool = λ x. reads_from i (sends_more s counts n) (s.role x) in
-    let P : Plan → Type 0 = λ plan.
-    (v : ℕ) → v < length bits → reads_from i (sends_more s (plan.counts path i) n) (s.role (t + v)) ≡ true
-    → slice_index_or bits v false ≡ turned (s.inverted i) (line_of (slice_get ms i) (below supply) (read_before s i (plan.counts path i) n (t + v))) in
-    let U : ℕ → Type 0 = λ k. Writes s k more t line (read_before s i counts n t) bits in
-    let V : Bool → Type 0 = λ b. Writes s i b t line (read_before s i counts n t) bits in
-    let wrote : V (sends_more s counts n) = subst V carries (subst U same writes) in
-    subst P (sym is)
-    (λ v within reads.
-    let k : ℕ = reads_below s i (sends_more s counts n) (t + v) - reads_below s i (sends_more s counts n) t in
-    let grows = before_grows p t (t + v) (omega arith) in
-    let number : reads_below s i (sends_more s counts n) t + k ≡ reads_below s i (sends_more s counts n) (t + v) = omega (arith, grows) in
-    let there : read_before s i counts n t + k ≡ read_before s i counts n (t + v) = omega (arith, number) in
-    wrote v k within reads number ∙ ap (λ x. turned (s.inverted i) (line x)) there ∙ sym (ap (λ o. turned (s.inverted i) (line_of o (below supply) (read_before s i counts n (t + v)))) at))
+    let source : Source = source_of path ms supply in
+    let r : Role = s.role (t + v) in
+    let same : sends_more s (source.counts i) n ≡ more = ap (λ (p : Plan). sends_more s (p.counts path i) n) is ∙ sym carries in
+    ap (λ l. slice_index_or l (row s t v) false) own ∙ elim (cases_Bool (reads_from i more r)) [
+      | inl carried ↦
+          let p : ℕ → Bool = λ x. reads_from i more (s.role x) in
+          let k : ℕ = reads_below s i more (t + v) - reads_below s i more t in
+          let number : reads_below s i more t + k ≡ reads_below s i more (t + v) = omega (arith, before_grows p t (t + v) (omega arith)) in
+          let few : k < gone = omega (arith, all, number, before_less p (t + v) (t + len) carried (omega arith)) in
+          let there : read_before s i counts n t + k ≡ read_before s i counts n (t + v) = ap (λ b. sent s counts n + reads_below s i b t + k) (sym carries) ∙ omega (arith, number) ∙ ap (λ b. sent s counts n + reads_below s i b (t + v)) carries in
+          let bit : slot_bit s source n (t + v) r ≡ turned (s.inverted i) (line (read_before s i counts n (t + v))) =
+          read_is s source n (t + v) i r (ap (λ b. reads_from i b r) same ∙ carried) ∙ ap (λ (p : Plan). turned (s.inverted i) (line_of (slice_get ms i) (below supply) (read_before s i (p.counts path i) n (t + v)))) is
+          ∙ ap (λ o. turned (s.inverted i) (line_of o (below supply) (read_before s i counts n (t + v)))) at in
+          fills.carried v k within carried number ∙ ap (turned (s.inverted i)) (get_or-map-range_with_len line (read_before s i counts n t) gone k (read_before s i counts n (t + v)) false few there) ∙ sym bit
+      | inr spare ↦ fills.justified v within reads spare ∙ sym (spare_is s source n (t + v) i r reads (ap (λ b. reads_from i b r) same ∙ spare))
+    ]
 
 -- ---- what arrives in a piece
 

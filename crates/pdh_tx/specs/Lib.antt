@@ -3,6 +3,7 @@ pub mod Meaning
 pub mod Leaf
 pub mod Held
 pub mod Tributary
+pub mod Scratch
 pub mod Node
 pub mod Locked
 pub mod NodeState

@@ -1,12 +1,14 @@
 -- Many slots of a node's frame at once.
-use Rattle.std.specs.Prelude.{◌≡◌, ℕ, suc, ◌+◌, ◌-◌, ◌<◌, ◌≤◌, ◌^◌, Bool, true, false, nat_lt, List, [], length, None, if◌then◌else◌}
-use Rattle.std.specs.List.{slice_index_or}
+use Rattle.std.specs.Prelude.{◌≡◌, ℕ, suc, ◌+◌, ◌-◌, ◌<◌, ◌≤◌, ◌^◌, Bool, true, false, nat_lt, List, [], length, map, None, if◌then◌else◌}
+use Rattle.std.specs.List.{range_with_len, slice_index_or}
 use Rattle.pdh_edge.specs.Ports.{Inputs, Takes}
 use Rattle.pdh_shape.specs.declared.place.Path.{Path}
 use Rattle.pdh_shape.specs.Frame.{FrameShape}
+use Rattle.pdh_shape.specs.Payload.{is_payload}
 use Rattle.pdh_shape.specs.Tributary.{reads_from, reads_below}
 use Rattle.pdh_shape.specs.OwnNumbers.{store_size}
-use Rattle.pdh_line.specs.Sending.{Source, sends_more, input_bit, slot_bit, odd_before}
+use Rattle.pdh_line.specs.Sending.{Source, slot_bit, odd_before}
+use Rattle.pdh_runs.specs.Pieces.{row, rows, overhead_before, FillsColumn}
 use Rattle.pdh_tx.specs.declared.pieces.Piece.{Piece}
 use Rattle.pdh_tx.specs.declared.tributary.Tributary.{Tributary}
 use Rattle.pdh_tx.specs.declared.tx.Tx.{Ghosts}
@@ -15,8 +17,7 @@ use Rattle.pdh_tx.specs.Meaning.{Plan, Supply, Meaning, Agrees}
 use Rattle.pdh_shape.specs.declared.role.Service.{Service}
 use Rattle.pdh_tx.specs.declared.tributary.FrameShare.{FrameShare}
 use Rattle.pdh_tx.specs.Held.{Held, first_some}
-use Rattle.pdh_tx.specs.Node.{below, source_of, any_leaf, given_by, AllFit, steps, taken_to, read_to, EachPlaced, IsDecided, EachHeld, came_at}
-use Rattle.pdh_slots.specs.Slots.{Writes}
+use Rattle.pdh_tx.specs.Node.{below, source_of, any_leaf, given_by, AllFit, steps, taken_to, read_to, EachPlaced, IsDecided, EachHeld, came_at, overhead_bit}
 
 -- numbers of which the first i are others
 abbrev pub up_to : (ℕ → ℕ) → (ℕ → ℕ) → ℕ → ℕ → ℕ
@@ -44,29 +45,37 @@ pub record CanPass (s : FrameShape) (plan : Plan) (at : Piece) (j : ℕ) (m : Me
 abbrev pub carried_in : FrameShape → ℕ → Bool → ℕ → ℕ → ℕ
 carried_in s j more first len = reads_below s j more (first + len) - reads_below s j more first
 
--- what a tributary holds, where so many of its bits went into the slots of a piece of a frame, and these slots
-abbrev pub HeldAndWritten : {C : Type 0} → (C → Supply → ℕ → Type 0) → (C → Meaning) → FrameShape → ℕ → Bool → ℕ → C → List Bool → List Bool → ℕ → Supply → ℕ → ℕ → Type 0
-HeldAndWritten stands_for meaning s j more first child store bits gone supply made read =
-    Held stands_for meaning child store supply made (read + gone) × Writes s j more first ((meaning child).line supply) read bits
+-- what a tributary holds, where the next so many of its bits went into the column of a piece of a frame, and this column
+abbrev pub HeldAndFilled : {C : Type 0} → (C → Supply → ℕ → Type 0) → (C → Meaning) → FrameShape → ℕ → Bool → ℕ → ℕ → ℕ → C → List Bool → List Bool → Supply → ℕ → ℕ → Type 0
+HeldAndFilled stands_for meaning s j more first len gone child store column supply made read =
+    Held stands_for meaning child store supply made (read + gone) × FillsColumn s j more first len (map ((meaning child).line supply) (range_with_len read gone)) column
 
--- the same, of tributary j in a frame in progress, before and after the bits of a piece went into their slots
-abbrev pub passed_in : {C : Type 0} → Ghosts C → FrameShape → ℕ → ℕ → Tributary C → Tributary C → List Bool → Supply → ℕ → ℕ → Type 0
-passed_in tx s j first old new bits =
-    HeldAndWritten tx.stands_for tx.meaning s j old.share.more first new.child new.store bits (carried_in s j old.share.more first (length bits))
+-- the same, of tributary j in a frame in progress, before and after the bits of a piece went into their column
+abbrev pub passed_in : {C : Type 0} → Ghosts C → FrameShape → ℕ → ℕ → ℕ → Tributary C → Tributary C → List Bool → Supply → ℕ → ℕ → Type 0
+passed_in tx s j first len old new =
+    HeldAndFilled tx.stands_for tx.meaning s j old.share.more first len (carried_in s j old.share.more first len) new.child new.store
 
--- the slots of a piece of frame n that carry a bit of tributary j hold it
-abbrev pub HoldsBitsOf : FrameShape → Source → ℕ → ℕ → List Bool → ℕ → Type 0
-HoldsBitsOf s source n first bits j =
-    (v : ℕ) → v < length bits → reads_from j (sends_more s (source.counts j) n) (s.role (first + v)) ≡ true → slice_index_or bits v false ≡ input_bit s source n (first + v) j
+-- the column of tributary j holds the bits of its slots of a piece of frame n
+abbrev pub HoldsBitsOf : FrameShape → Source → ℕ → ℕ → ℕ → List (List Bool) → ℕ → Type 0
+HoldsBitsOf s source n first len columns j =
+    (v : ℕ) → v < len → reads_from j true (s.role (first + v)) ≡ true → slice_index_or (slice_index_or columns j []) (row s first v) false ≡ slot_bit s source n (first + v) (s.role (first + v))
 
--- those of the first i tributaries
-abbrev pub HoldsBits : FrameShape → Source → ℕ → ℕ → List Bool → ℕ → Type 0
-HoldsBits s source n first bits i = (j : ℕ) → j < i → HoldsBitsOf s source n first bits j
+-- those of the first i tributaries do
+abbrev pub HoldsBits : FrameShape → Source → ℕ → ℕ → ℕ → List (List Bool) → ℕ → Type 0
+HoldsBits s source n first len columns i = (j : ℕ) → j < i → HoldsBitsOf s source n first len columns j
 
--- a slot that carries a bit of none of the first i tributaries is as before
-abbrev pub KeepsSlots : FrameShape → Path → Plan → ℕ → ℕ → List Bool → List Bool → ℕ → Type 0
-KeepsSlots s path plan n first old new i =
-    (v : ℕ) → v < length old → ((j : ℕ) → j < i → reads_from j (sends_more s (plan.counts path j) n) (s.role (first + v)) ≡ false) → slice_index_or new v false ≡ slice_index_or old v false
+-- the column of tributary j is as long as a piece wants it
+abbrev pub HasRowsOf : FrameShape → ℕ → ℕ → List (List Bool) → ℕ → Type 0
+HasRowsOf s first len columns j = length (slice_index_or columns j []) ≡ rows s first len
+
+-- those of the first i tributaries are
+abbrev pub HasRows : FrameShape → ℕ → ℕ → List (List Bool) → ℕ → Type 0
+HasRows s first len columns i = (j : ℕ) → j < i → HasRowsOf s first len columns j
+
+-- these are the bits of the slots of a piece that are no payload slots
+abbrev pub HoldsOverhead : FrameShape → Service → Bool → List FrameShare → ℕ → ℕ → List Bool → Type 0
+HoldsOverhead s say odd shares first len overhead =
+    (v : ℕ) → v < len → is_payload (s.role (first + v)) ≡ false → slice_index_or overhead (overhead_before s (first + v) - overhead_before s first) false ≡ overhead_bit s say odd shares (s.role (first + v))
 
 -- Tributaries took bits of their children, and bits of them were read. `written` tells what was written, by what decides
 -- the node's line.

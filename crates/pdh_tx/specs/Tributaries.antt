@@ -1,5 +1,6 @@
 -- The tributaries of a node.
 use Rattle.std.specs.Prelude.{◌≡◌, ℕ, suc, ◌+◌, ◌<◌, ◌^◌, Bool, List, map, slice_get, Option, Some}
+use Rattle.pdh_bits.specs.BitOut.{BoundedBits}
 use Rattle.pdh_edge.specs.Ports.{Inputs}
 use Rattle.pdh_shape.specs.declared.shape.Shape as shape
 use Rattle.pdh_shape.specs.declared.place.Path.{Path}
@@ -42,6 +43,10 @@ module _ {S C : Type 0} {shape : shape.Ghosts S} {tx : Ghosts C} where
   -- what the frame in progress brings and carries of each
   abbrev pub shares : Tributaries S C shape tx → List FrameShare
   shares ts = map share_in ts.list.items
+
+  -- their columns of a piece of a frame
+  abbrev pub columns : Tributaries S C shape tx → List (List Bool)
+  columns ts = map (λ (column : BoundedBits). column.bits) ts.scratch.columns.items
 
   -- what their node, at this path, makes, takes and meets
   abbrev pub meaning_of : Tributaries S C shape tx → Path → Meaning

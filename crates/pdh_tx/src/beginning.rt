@@ -107,9 +107,9 @@ impl<S: Shape, C: Tx> Tributaries<S, C> {
             → (share_in w).arriving ≡ (plan_of clock.now).counts path j frame }
         ensures fits { (j : ℕ) → j < S.TRIBS → (plan_of clock.now).counts path j frame ≤ S.LEN }
     {
+        let arriving = clock.counts(&path, frame);
         for trib in 0..S::TRIBS {
-            let arriving = clock.count(&path, frame, trib);
-            self.list[trib as usize].decide(arriving);
+            self.list[trib as usize].decide(arriving[trib as usize]);
         }
     }
 

@@ -1,4 +1,5 @@
-ghost use Rattle.std.specs.Prelude.{◌≡◌, ◌≤◌, length, IsTrue, OnOk, OnErr};
+ghost use Rattle.std.specs.Prelude.{◌≡◌, ◌+◌, ◌≤◌, length, IsTrue, OnOk, OnErr};
+ghost use Rattle.pdh_packed.specs.Gaining.{gained, IsGrown};
 ghost use Rattle.pdh_edge.specs.Ports.{Takes, HasCause, for_leaf};
 ghost use Rattle.pdh_shape.specs.Frame.{idle};
 ghost use Rattle.pdh_tx.specs.Meaning.{IsFresh};
@@ -8,6 +9,7 @@ ghost use Rattle.pdh_tx.specs.laws.LeafLaws.{leaf_grows};
 use crate::{Tx, TxStop};
 use pdh_clock::Schedule;
 use pdh_edge::{Failed, Feed, FeedStop};
+use pdh_packed::Packed;
 
 /// Passes the bits of one leaf of a feed.
 #[derive(Drop)]
@@ -30,21 +32,29 @@ impl Leaf {
     }
 }
 
-// Takes the next bits of a leaf's list, which has so many, into all of `into`.
-fn take_bits<F: Feed>(feed: &mut F, leaf: u32, into: &mut [bool]) -> Result<(), Failed>
+// Takes the next bits of a leaf's list, so many, which it has, and appends them to `into`.
+#[inline(always)]
+fn take_bits<F: Feed>(
+    feed: &mut F,
+    leaf: u32,
+    count: usize,
+    into: &mut Packed,
+) -> Result<(), Failed>
     requires held { IsTrue ((F.inputs feed.old).holds leaf) }
-    requires enough { length into.old ≤ (F.inputs feed.old).left leaf }
+    requires enough { count ≤ (F.inputs feed.old).left leaf }
+    requires room { length into.old.bits + count ≤ into.old.capacity }
+    ensures grown { OnOk result (IsGrown into.old into.new count) }
     ensures ok { OnOk result
-        (Takes (for_leaf leaf into.new) (F.inputs feed.old) (F.inputs feed.new)) }
-    ensures err { OnErr result
-        (TakesUpTo leaf (length into.old) (F.inputs feed.old) (F.inputs feed.new)) }
+        (Takes (for_leaf leaf (gained into.old into.new)) (F.inputs feed.old) (F.inputs feed.new)) }
+    ensures err { OnErr result (TakesUpTo leaf count (F.inputs feed.old) (F.inputs feed.new)) }
     ensures cause { HasCause (F.feed_faults feed.old) (F.feed_faults feed.new) result }
     ensures fed { F.fed feed.old feed.new }
+    ensures capacity { into.new.capacity ≡ into.old.capacity }
 {
     let mut taken = 0;
-    while taken < into.len() {
-        match feed.bits(leaf, &mut into[taken..]) {
-            Ok(count) => taken += count,
+    while taken < count {
+        match feed.bits(leaf, count - taken, into) {
+            Ok(more) => taken += more,
             Err(FeedStop::Failed) => return Err(Failed),
             Err(FeedStop::Ended) => unreachable!(),
         }
@@ -83,13 +93,15 @@ impl Tx for Leaf {
         }
     }
 
+    #[inline(always)]
     fn make_clear<F: Feed>(
         &mut self,
         _clock: &Schedule,
         feed: &mut F,
-        into: &mut [bool],
+        count: usize,
+        into: &mut Packed,
     ) -> Result<(), Failed> {
-        match take_bits(feed, self.leaf, into) {
+        match take_bits(feed, self.leaf, count, into) {
             Ok(()) => Ok(()),
             Err(Failed) => {
                 self.stopped = true;

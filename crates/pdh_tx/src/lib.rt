@@ -9,6 +9,7 @@ mod leaf;
 mod node;
 mod pieces;
 mod position;
+mod scratch;
 mod slots;
 #[cfg(test)]
 mod tests;
@@ -19,4 +20,5 @@ mod tx;
 pub use leaf::Leaf;
 pub use node::Node;
 pub use position::{Position, after, moved, said};
+pub use scratch::Scratch;
 pub use tx::{Tx, TxStop};

@@ -1,4 +1,5 @@
 ghost use Rattle.std.specs.Prelude.{◌≡◌, ◌<◌, ◌≤◌, ◌+◌, ◌%◌, ◌/◌, ℕ, All, length, map, OnOk, OnErr, IfOk, IfErr, List};
+ghost use Rattle.pdh_packed.specs.Gaining.{gained, IsGrown};
 ghost use Rattle.pdh_edge.specs.Ports.{HasCause};
 ghost use Rattle.pdh_line.specs.Sending.{taken, read_before};
 ghost use Rattle.pdh_tx.specs.Meaning.{Plan, Supply, plan_of, Meaning, Makes, Stops, IsFresh};
@@ -15,8 +16,9 @@ use crate::tributaries::Tributaries;
 use crate::{Tx, TxStop};
 use pdh_clock::Schedule;
 use pdh_edge::{Failed, Feed};
+use pdh_packed::Packed;
+use pdh_runs::Layout;
 use pdh_shape::{Path, Service, Shape};
-use pdh_slots::SlotTables;
 use std::alloc::{AllocError, Global};
 use std::rc::Rc;
 
@@ -47,12 +49,12 @@ impl<S: Shape, C: Tx> Drop for Node<S, C> {
 impl<S: Shape, C: Tx> Node<S, C> {
     /// Joins children, one for each tributary, into a multiplexer that has made no bit and whose
     /// service bits are idle; or it finds no memory. `path` is its place in a chain: a child that is
-    /// a multiplexer has this path with its number, from 1, added. `tables` may be shared with other
+    /// a multiplexer has this path with its number, from 1, added. `layout` may be shared with other
     /// nodes.
     pub fn open(
         alloc: Global,
         path: Path,
-        tables: Rc<SlotTables<S>>,
+        layout: Rc<Layout<S>>,
         children: Vec<C>,
     ) -> Result<Node<S, C>, AllocError>
         requires count { length children.items ≡ S.TRIBS }
@@ -67,7 +69,7 @@ impl<S: Shape, C: Tx> Node<S, C> {
             ⟦<Node<S, C> as Tx>⟧.is_stopped) }
     {
         Ok(Node {
-            tributaries: Tributaries::open(alloc, tables, children)?,
+            tributaries: Tributaries::open(alloc, layout, children)?,
             path,
             at: Position {
                 frame: 0,
@@ -141,45 +143,47 @@ impl<S: Shape, C: Tx> Node<S, C> {
         Ok(bit)
     }
 
-    // Makes the next bits, within a frame, in whose way nothing stands.
+    // Makes the next bits, so many within a frame, in whose way nothing stands, and appends them to
+    // `into`.
     fn piece<F: Feed>(
         &mut self,
         clock: &Schedule,
         feed: &mut F,
-        into: &mut [bool],
+        len: usize,
+        into: &mut Packed,
     ) -> Result<(), Failed>
         requires fed { AreFed self.old.tributaries self.old.path clock.now (F.inputs feed.old) }
-        requires some { 0 < length into.old }
-        requires inside { self.old.at.slot + length into.old ≤ S.LEN }
+        requires some { 0 < len }
+        requires inside { self.old.at.slot + len ≤ S.LEN }
+        requires room { length into.old.bits + len ≤ into.old.capacity }
         requires clear { let tx = ⟦<Node<S, C> as Tx>⟧ in let plan = plan_of clock.now in (x : ℕ) × (tx.stands_at self.old plan x)
-            × (IsClear (tx.meaning self.old) plan x (x + length into.old) (F.inputs feed.old)) }
+            × (IsClear (tx.meaning self.old) plan x (x + len) (F.inputs feed.old)) }
+        ensures grown { OnOk result (IsGrown into.old into.new len) }
         ensures made { let tx = ⟦<Node<S, C> as Tx>⟧ in let plan = plan_of clock.now in OnOk result ((x : ℕ) → tx.stands_at self.old plan x
-            → MakesAll (tx.meaning self.old) self.old.next_say (tx.stands_at self.new plan) (tx.stands_for self.old) (tx.stands_for self.new) plan x (x + length into.old)
-            into.new (F.inputs feed.old) (F.inputs feed.new)) }
+            → MakesAll (tx.meaning self.old) self.old.next_say (tx.stands_at self.new plan) (tx.stands_for self.old) (tx.stands_for self.new) plan x (x + len)
+            (gained into.old into.new) (F.inputs feed.old) (F.inputs feed.new)) }
         ensures halts { let tx = ⟦<Node<S, C> as Tx>⟧ in let plan = plan_of clock.now in OnErr result ((x : ℕ) → tx.stands_at self.old plan x
-            → Halts (tx.meaning self.old) plan x (x + length into.old) TxStop.Failed (F.inputs feed.old) (F.inputs feed.new)) }
+            → Halts (tx.meaning self.old) plan x (x + len) TxStop.Failed (F.inputs feed.old) (F.inputs feed.new)) }
         ensures running { self.new.stopped ≡ self.old.stopped }
         ensures cause { HasCause (F.feed_faults feed.old) (F.feed_faults feed.new) result }
         ensures fed { F.fed feed.old feed.new }
         ensures same { ⟦<Node<S, C> as Tx>⟧.meaning self.new ≡ ⟦<Node<S, C> as Tx>⟧.meaning self.old }
         ensures same_says { self.new.next_say ≡ self.old.next_say }
+        ensures capacity { into.new.capacity ≡ into.old.capacity }
     {
         let say = said(self.at.slot, self.say, self.next_say);
         let at = Piece {
             path: self.path,
             frame: self.at.frame,
             slot: self.at.slot,
-            len: into.len(),
+            len,
         };
-        self.tributaries
-            .make_piece(at, &say, self.at.last_odd, clock, feed, into)?;
-        let is_odd = self
+        let odd = self
             .tributaries
-            .tables
-            .is_odd(at.slot, self.at.is_odd, into);
-        let last = (at.slot as usize + at.len - 1) as u32;
+            .make_piece(at, &say, self.at.last_odd, clock, feed, into)?;
+        let last = (at.slot as usize + len - 1) as u32;
         self.say = say;
-        self.at = moved::<S>(self.at, last, is_odd);
+        self.at = moved::<S>(self.at, last, self.at.is_odd ^ odd);
         Ok(())
     }
 }
@@ -215,13 +219,14 @@ impl<S: Shape, C: Tx> Tx for Node<S, C> {
         &mut self,
         clock: &Schedule,
         feed: &mut F,
-        into: &mut [bool],
+        count: usize,
+        into: &mut Packed,
     ) -> Result<(), Failed> {
         let mut made = 0;
-        while made < into.len() {
+        while made < count {
             let rest = (S::LEN - self.at.slot) as usize;
-            let len = rest.min(into.len() - made);
-            match self.piece(clock, feed, &mut into[made..made + len]) {
+            let len = rest.min(count - made);
+            match self.piece(clock, feed, len, into) {
                 Ok(()) => made += len,
                 Err(Failed) => {
                     self.stopped = true;

@@ -1,17 +1,19 @@
-ghost use Rattle.std.specs.Prelude.{◌≡◌, ◌+◌, ◌<◌, ◌≤◌, ℕ, suc, false, length, OnOk, OnErr};
+ghost use Rattle.std.specs.Prelude.{◌≡◌, ◌+◌, ◌%◌, ◌<◌, ◌≤◌, ◌==◌, ℕ, suc, [], length, OnOk, OnErr, IfOk};
 ghost use Rattle.std.specs.List.{slice_index_or};
+ghost use Rattle.pdh_packed.specs.Gaining.{gained, IsGrown};
 ghost use Rattle.pdh_edge.specs.Ports.{HasCause};
-ghost use Rattle.pdh_line.specs.Sending.{arrived_in, sends_more};
-ghost use Rattle.pdh_slots.specs.Slots.{is_info, KeepsOthers};
+ghost use Rattle.pdh_line.specs.Sending.{arrived_in};
+ghost use Rattle.pdh_shape.specs.Payload.{payload_ones};
+ghost use Rattle.pdh_runs.specs.Pieces.{overhead_before};
 ghost use Rattle.pdh_tx.specs.Meaning.{plan_of};
-ghost use Rattle.pdh_tx.specs.Node.{overhead_bit};
-ghost use Rattle.pdh_tx.specs.Passing.{HoldsBits, HoldsBitsOf, KeepsSlots};
-ghost use Rattle.pdh_tx.specs.Tributaries.{meanings, shares, AreFed, HaveDecided, StandBefore, HavePassed, IsPassable, PassOn, FailFrom, IsClearFor, MakePiece, FailIn};
+ghost use Rattle.pdh_tx.specs.Passing.{HoldsBits, HoldsBitsOf, HasRows, HasRowsOf, HoldsOverhead};
+ghost use Rattle.pdh_tx.specs.Tributaries.{meanings, shares, columns, AreFed, HaveDecided, StandBefore, HavePassed, IsPassable, PassOn, FailFrom, IsClearFor, MakePiece, FailIn};
 
 use crate::Tx;
 use crate::tributaries::Tributaries;
 use pdh_clock::Schedule;
 use pdh_edge::{Failed, Feed};
+use pdh_packed::Packed;
 use pdh_shape::{Path, Service, Shape};
 
 /// A piece of a node's frame.
@@ -39,17 +41,16 @@ fn arriving<S: Shape>(count: u32, first: u32, len: usize) -> usize
 }
 
 impl<S: Shape, C: Tx> Tributaries<S, C> {
-    // Passes the bits of a tributary through a piece of a frame, in whose way nothing stands.
+    // Passes the bits of a tributary through a piece of a frame, in whose way nothing stands, into
+    // its column.
     fn pass_one<F: Feed>(
         &mut self,
         trib: u8,
         at: Piece,
         clock: &Schedule,
         feed: &mut F,
-        into: &mut [bool],
     ) -> Result<(), Failed>
         requires trib { trib < S.TRIBS }
-        requires len { length into.old ≡ at.len }
         requires inside { at.slot + at.len ≤ S.LEN }
         requires decided { HaveDecided self.old at.path (plan_of clock.now) at.frame }
         requires fed { AreFed self.old at.path clock.now (F.inputs feed.old) }
@@ -58,40 +59,36 @@ impl<S: Shape, C: Tx> Tributaries<S, C> {
         ensures placed { OnOk result (HavePassed self.new (plan_of clock.now) at (suc trib)) }
         ensures passes { OnOk result (PassOn self.old self.new (plan_of clock.now) at trib (suc trib)
             (F.inputs feed.old) (F.inputs feed.new)
-            (λ source. HoldsBitsOf S.shape source at.frame at.slot into.new trib)) }
-        ensures keeps { OnOk result (KeepsOthers S.shape trib
-            (sends_more S.shape ((plan_of clock.now).counts at.path trib) at.frame)
-            at.slot into.old into.new) }
+            (λ source. HoldsBitsOf S.shape source at.frame at.slot at.len (columns self.new) trib)) }
+        ensures rows { OnOk result (HasRowsOf S.shape at.slot at.len (columns self.new) trib) }
+        ensures earlier { (j : ℕ) → j < trib
+            → slice_index_or (columns self.new) j [] ≡ slice_index_or (columns self.old) j [] }
         ensures halts { OnErr result (FailFrom self.old (plan_of clock.now) at trib
             (F.inputs feed.old) (F.inputs feed.new)) }
         ensures cause { HasCause (F.feed_faults feed.old) (F.feed_faults feed.new) result }
         ensures fed { F.fed feed.old feed.new }
         ensures same { meanings self.new ≡ meanings self.old }
         ensures shares { shares self.new ≡ shares self.old }
+        ensures overhead { self.new.scratch.overhead ≡ self.old.scratch.overhead }
     {
         let tributary = &mut self.list[trib as usize];
         let arriving = arriving::<S>(tributary.share.arriving, at.slot, at.len);
         tributary.pass::<S, F>(
             trib,
             arriving,
-            &self.tables,
+            &self.layout,
             at.slot,
+            at.len,
             clock,
             feed,
-            &mut self.queue,
-            into,
+            &mut self.scratch.queue,
+            &mut self.scratch.columns[trib as usize],
         )
     }
 
-    // Passes the bits of all tributaries through a piece of a frame, in whose way nothing stands.
-    fn pass_all<F: Feed>(
-        &mut self,
-        at: Piece,
-        clock: &Schedule,
-        feed: &mut F,
-        into: &mut [bool],
-    ) -> Result<(), Failed>
-        requires len { length into.old ≡ at.len }
+    // Passes the bits of all tributaries through a piece of a frame, in whose way nothing stands,
+    // into their columns.
+    fn pass_all<F: Feed>(&mut self, at: Piece, clock: &Schedule, feed: &mut F) -> Result<(), Failed>
         requires inside { at.slot + at.len ≤ S.LEN }
         requires decided { HaveDecided self.old at.path (plan_of clock.now) at.frame }
         requires fed { AreFed self.old at.path clock.now (F.inputs feed.old) }
@@ -100,45 +97,47 @@ impl<S: Shape, C: Tx> Tributaries<S, C> {
         ensures placed { OnOk result (HavePassed self.new (plan_of clock.now) at S.TRIBS) }
         ensures passes { OnOk result (PassOn self.old self.new (plan_of clock.now) at 0 S.TRIBS
             (F.inputs feed.old) (F.inputs feed.new)
-            (λ source. HoldsBits S.shape source at.frame at.slot into.new S.TRIBS)) }
-        ensures keeps { OnOk result (KeepsSlots S.shape at.path (plan_of clock.now) at.frame at.slot
-            into.old into.new S.TRIBS) }
+            (λ source. HoldsBits S.shape source at.frame at.slot at.len (columns self.new) S.TRIBS)) }
+        ensures rows { OnOk result (HasRows S.shape at.slot at.len (columns self.new) S.TRIBS) }
         ensures halts { OnErr result (FailFrom self.old (plan_of clock.now) at 0
             (F.inputs feed.old) (F.inputs feed.new)) }
         ensures cause { HasCause (F.feed_faults feed.old) (F.feed_faults feed.new) result }
         ensures fed { F.fed feed.old feed.new }
         ensures same { meanings self.new ≡ meanings self.old }
         ensures shares { shares self.new ≡ shares self.old }
+        ensures overhead { self.new.scratch.overhead ≡ self.old.scratch.overhead }
     {
         for trib in 0..S::TRIBS {
-            self.pass_one(trib, at, clock, feed, into)?;
+            self.pass_one(trib, at, clock, feed)?;
         }
         Ok(())
     }
 
-    // Writes the bits of a piece's slots that aren't information slots, as they are where they carry
-    // no tributary's bit.
-    fn write_overhead(&self, at: Piece, say: &Service, odd: bool, into: &mut [bool])
-        requires len { length into.old ≡ at.len }
+    // Writes the bits of a piece's slots that are no payload slots, in order.
+    fn write_overhead(&mut self, at: Piece, say: &Service, odd: bool)
         requires inside { at.slot + at.len ≤ S.LEN }
-        ensures { (v : ℕ) → v < at.len → is_info (S.shape.role (at.slot + v)) ≡ false
-            → slice_index_or into.new v false
-            ≡ overhead_bit S.shape say.now odd (shares self.now) (S.shape.role (at.slot + v)) }
+        ensures bits { HoldsOverhead S.shape say.now odd (shares self.old) at.slot at.len
+            self.new.scratch.overhead.bits }
+        ensures count { overhead_before S.shape (at.slot + at.len)
+            ≡ overhead_before S.shape at.slot + length self.new.scratch.overhead.bits }
+        ensures list { self.new.list ≡ self.old.list }
     {
-        let end = at.slot as usize + at.len;
-        let others = self.tables.others();
-        for other in others {
-            let slot = u32::from(*other);
-            if slot < at.slot || slot as usize >= end {
-                continue;
-            }
-            into[(slot - at.slot) as usize] = self.overhead(slot, say, odd);
+        let from = self.layout.overhead_before(at.slot);
+        let to = self
+            .layout
+            .overhead_before((at.slot as usize + at.len) as u32);
+        self.scratch.overhead.clear();
+        for place in from..to {
+            let slot = u32::from(self.layout.overhead_slots()[place]);
+            let bit = self.overhead(slot, say, odd);
+            self.scratch.overhead.push(bit);
         }
     }
 
     /// Makes the bits of a piece of a frame, with all their steps, in whose way nothing stands,
-    /// where the frame says `say` and `odd` is whether the information and justifiable slots of the
-    /// frame before hold an odd number of ones.
+    /// appends them to `into`, and answers whether its information and justifiable slots hold an odd
+    /// number of ones. The frame says `say`, and `odd` is whether those of the frame before hold an
+    /// odd number.
     pub fn make_piece<F: Feed>(
         &mut self,
         at: Piece,
@@ -146,26 +145,40 @@ impl<S: Shape, C: Tx> Tributaries<S, C> {
         odd: bool,
         clock: &Schedule,
         feed: &mut F,
-        into: &mut [bool],
-    ) -> Result<(), Failed>
-        requires len { length into.old ≡ at.len }
+        into: &mut Packed,
+    ) -> Result<bool, Failed>
         requires some { 0 < at.len }
         requires inside { at.slot + at.len ≤ S.LEN }
+        requires room { length into.old.bits + at.len ≤ into.old.capacity }
         requires fed { AreFed self.old at.path clock.now (F.inputs feed.old) }
         requires placed { StandBefore self.old at.path (plan_of clock.now) at.frame at.slot }
         requires clear { IsClearFor self.old (plan_of clock.now) at (F.inputs feed.old) }
+        ensures grown { OnOk result (IsGrown into.old into.new at.len) }
         ensures made { OnOk result (MakePiece self.old self.new (plan_of clock.now) at
-            say.now odd into.new (F.inputs feed.old) (F.inputs feed.new)) }
+            say.now odd (gained into.old into.new) (F.inputs feed.old) (F.inputs feed.new)) }
+        ensures odd { IfOk result (λ is_odd. is_odd
+            ≡ (payload_ones S.shape at.slot (gained into.old into.new) % 2 == 1)) }
         ensures halts { OnErr result (FailIn self.old (plan_of clock.now) at
             (F.inputs feed.old) (F.inputs feed.new)) }
         ensures cause { HasCause (F.feed_faults feed.old) (F.feed_faults feed.new) result }
         ensures fed { F.fed feed.old feed.new }
         ensures same { meanings self.new ≡ meanings self.old }
+        ensures capacity { into.new.capacity ≡ into.old.capacity }
     {
         match self.begin(at.path, at.frame, at.slot, clock, feed) {
             Ok(()) => {
-                self.write_overhead(at, say, odd, into);
-                self.pass_all(at, clock, feed, into)
+                self.write_overhead(at, say, odd);
+                self.pass_all(at, clock, feed)?;
+                Ok(
+                    self.layout.assemble(
+                        at.slot,
+                        at.len,
+                        &self.scratch.overhead,
+                        &self.scratch.columns,
+                        &mut self.scratch.payload,
+                        into,
+                    ),
+                )
             }
             Err(_stop) => Err(Failed),
         }

@@ -1,6 +1,6 @@
 ghost use Rattle.std.specs.Prelude.{◌≡◌, ◌<◌, ◌^◌, ◌==◌, suc, if◌then◌else◌};
 ghost use Rattle.pdh_line.specs.Sending.{Source, odd_before};
-ghost use Rattle.pdh_slots.specs.Slots.{is_payload as is_payload_role};
+ghost use Rattle.pdh_shape.specs.Payload.{is_payload as is_payload_role};
 ghost use Rattle.pdh_tx.specs.Node.{odd_within};
 ghost use Rattle.pdh_tx.specs.Follows.{Follows};
 ghost use Rattle.pdh_tx.specs.NodeState.{HasParity, KeepsParity};

@@ -8,8 +8,9 @@ use crate::{Leaf, Node, Tx, TxStop};
 use pdh_clock::Schedule;
 use pdh_edge::{Feed, MemPort};
 use pdh_levels::E2_LEVEL;
+use pdh_packed::Packed;
+use pdh_runs::Layout;
 use pdh_shape::{E2, TOP};
-use pdh_slots::SlotTables;
 use std::alloc::{AllocError, Global};
 use std::rc::Rc;
 use std::test::Fail;
@@ -32,8 +33,17 @@ fn node(alloc: Global) -> Result<Node<E2, Leaf>, AllocError>
         ⟦<Node<E2, Leaf> as Tx>⟧.stands_for ⟦<Node<E2, Leaf> as Tx>⟧.says
         ⟦<Node<E2, Leaf> as Tx>⟧.is_stopped) }
 {
-    let tables = Rc::new(alloc, SlotTables::open(alloc)?)?;
-    Node::open(alloc, TOP, tables, leaves(alloc)?)
+    let layout = Rc::new(alloc, Layout::open(alloc)?)?;
+    Node::open(alloc, TOP, layout, leaves(alloc)?)
+}
+
+// A list of so many zeros.
+fn zero_bits(alloc: Global, count: usize) -> Result<Packed, AllocError> {
+    let mut bits = Packed::open(alloc, count)?;
+    for _bit in 0..count {
+        bits.push(false);
+    }
+    Ok(bits)
 }
 
 // A feed of zeros, as many as a frame with counts of 205 enters.
@@ -42,10 +52,10 @@ fn zeros(alloc: Global) -> Result<MemPort, AllocError>
         → IsTrue ((⟦<MemPort as Feed>⟧.inputs feed).holds k)) }
 {
     let mut lists = Vec::new(alloc);
-    lists.push(vec![in alloc; false; 229]?)?;
-    lists.push(vec![in alloc; false; 229]?)?;
-    lists.push(vec![in alloc; false; 229]?)?;
-    lists.push(vec![in alloc; false; 229]?)?;
+    lists.push(zero_bits(alloc, 229)?)?;
+    lists.push(zero_bits(alloc, 229)?)?;
+    lists.push(zero_bits(alloc, 229)?)?;
+    lists.push(zero_bits(alloc, 229)?)?;
     MemPort::open(alloc, lists, 0)
 }
 

@@ -1,12 +1,13 @@
-ghost use Rattle.std.specs.Prelude.{◌≡◌, ◌<◌, ◌≤◌, ◌+◌, ◌==◌, false, All, [], length, map, IfOk};
-ghost use Rattle.pdh_shape.specs.OwnNumbers.{store_size};
+ghost use Rattle.std.specs.Prelude.{◌≡◌, ◌<◌, ◌==◌, false, All, [], length, map, IfOk};
+ghost use Rattle.pdh_tx.specs.Scratch.{HasRoom};
 ghost use Rattle.pdh_tx.specs.Tributary.{meaning_in, child_in};
 ghost use Rattle.pdh_tx.specs.Node.{IsDisjoint};
 
 use crate::Tx;
+use crate::scratch::Scratch;
 use crate::tributary::{FrameShare, Tributary};
-use pdh_shape::{STORE_SIZE, Shape};
-use pdh_slots::SlotTables;
+use pdh_runs::Layout;
+use pdh_shape::Shape;
 use pdh_store::Store;
 use std::alloc::{AllocError, Global};
 use std::rc::Rc;
@@ -15,22 +16,22 @@ use std::rc::Rc;
 pub struct Tributaries<S: Shape, C: Tx> {
     /// In order.
     pub list: Vec<Tributary<C>>,
-    /// What the slots of the node's frame carry, which nodes with such frames share.
-    pub tables: Rc<SlotTables<S>>,
-    /// Room for the bits that a frame brings of a tributary, behind those that its store holds.
-    pub queue: Vec<bool>,
+    /// How the node's frame is put together, which nodes with such frames share.
+    pub layout: Rc<Layout<S>>,
+    /// Room for the bits of a piece of a frame.
+    pub scratch: Scratch,
     ghost count: { length list.items ≡ S.TRIBS },
     ghost stores: { (S.shape.copies == 0) ≡ false },
     ghost disjoint: { IsDisjoint (map (meaning_in C.Tx) list.items) },
-    ghost room: { S.LEN + store_size ≤ length queue.items },
+    ghost room: { HasRoom S.LEN S.TRIBS S.LOW scratch },
 }
 
 impl<S: Shape, C: Tx> Drop for Tributaries<S, C> {
     fn drop(self) {
         let Self {
             list: _,
-            tables: _,
-            queue: _,
+            layout: _,
+            scratch: _,
         } = self;
     }
 }
@@ -58,18 +59,11 @@ fn join<C: Tx>(alloc: Global, children: Vec<C>) -> Result<Vec<Tributary<C>>, All
     Ok(tributaries)
 }
 
-// Room for so many bits behind those that a store holds.
-fn empty_queue(alloc: Global, len: u32) -> Result<Vec<bool>, AllocError>
-    ensures { IfOk result (λ queue. len + store_size ≤ length queue.items) }
-{
-    vec![in alloc; false; len as usize + STORE_SIZE]
-}
-
 impl<S: Shape, C: Tx> Tributaries<S, C> {
     /// Gives each child an empty store; or it finds no memory.
     pub fn open(
         alloc: Global,
-        tables: Rc<SlotTables<S>>,
+        layout: Rc<Layout<S>>,
         children: Vec<C>,
     ) -> Result<Tributaries<S, C>, AllocError>
         requires count { length children.items ≡ S.TRIBS }
@@ -81,11 +75,11 @@ impl<S: Shape, C: Tx> Tributaries<S, C> {
             All (λ tributary. tributary.store ≡ []) tributaries.list.items) }
     {
         let list = join(alloc, children)?;
-        let queue = empty_queue(alloc, S::LEN)?;
+        let scratch = Scratch::open::<S>(alloc)?;
         Ok(Tributaries {
             list,
-            tables,
-            queue,
+            layout,
+            scratch,
         })
     }
 }

@@ -5,15 +5,16 @@ ghost use Rattle.pdh_shape.specs.OwnNumbers.{lead, threshold, store_size};
 ghost use Rattle.pdh_tx.specs.Meaning.{Plan, Supply, plan_of, IsNodeOf, HoldsAll, Fits, Met};
 ghost use Rattle.pdh_tx.specs.Held.{Gains, Halts, lead_of, first_some};
 ghost use Rattle.pdh_tx.specs.Making.{IsClear};
-ghost use Rattle.pdh_slots.specs.Slots.{KeepsOthers};
+ghost use Rattle.pdh_runs.specs.Pieces.{rows};
 ghost use Rattle.pdh_tx.specs.Tributary.{placed_in, held_in, meaning_in, arrival_in};
 ghost use Rattle.pdh_tx.specs.Passing.{carried_in, passed_in};
 
 use crate::{Tx, TxStop};
 use pdh_clock::Schedule;
 use pdh_edge::{Failed, Feed};
+use pdh_packed::Packed;
+use pdh_runs::Layout;
 use pdh_shape::{LEAD, Place, Shape};
-use pdh_slots::SlotTables;
 use pdh_store::{Store, Underflow};
 
 /// What a frame brings and carries of a tributary.
@@ -71,50 +72,56 @@ impl<C: Tx> Tributary<C> {
         }
     }
 
-    /// Takes the child's next bits, so many, and puts those that a piece of a frame carries into its
-    /// slots; the others stand in the store. Nothing stands in the way.
+    /// Takes the child's next bits, so many, and puts those that a piece of a frame carries, of so
+    /// many slots from `first` on, into its column; the others stand in the store. Nothing stands in
+    /// the way.
+    #[inline(always)]
     pub fn pass<S: Shape, F: Feed>(
         &mut self,
         trib: u8,
         arriving: usize,
-        tables: &SlotTables<S>,
+        layout: &Layout<S>,
         first: u32,
+        len: usize,
         clock: &Schedule,
         feed: &mut F,
-        queue: &mut [bool],
-        into: &mut [bool],
+        queue: &mut Packed,
+        column: &mut Packed,
     ) -> Result<(), Failed>
         requires lists { HoldsAll (meaning_in C.Tx self.old).leaves (F.inputs feed.old) }
         requires nodes { All (IsNodeOf clock.now.levels) (meaning_in C.Tx self.old).nodes }
         requires trib { trib < S.TRIBS }
-        requires inside { first + length into.old ≤ S.LEN }
-        requires room { arriving + store_size ≤ length queue.old }
+        requires inside { first + len ≤ S.LEN }
+        requires room { arriving + store_size ≤ queue.old.capacity }
+        requires column { S.LOW + 1 ≤ column.old.capacity }
         requires clear { (made : ℕ) × (read : ℕ) × (placed_in C.Tx self.old (plan_of clock.now) made read)
             × (IsClear (meaning_in C.Tx self.old) (plan_of clock.now) made (made + arriving) (F.inputs feed.old)) }
-        requires enough { carried_in S.shape trib self.old.share.more first (length into.old) ≤ length self.old.store + arriving }
+        requires enough { carried_in S.shape trib self.old.share.more first len ≤ length self.old.store + arriving }
         requires few { length self.old.store ≤ store_size
-            → length self.old.store + arriving ≤ carried_in S.shape trib self.old.share.more first (length into.old) + store_size }
-        ensures placed { OnOk result (let gone = carried_in S.shape trib self.old.share.more first (length into.old) in
+            → length self.old.store + arriving ≤ carried_in S.shape trib self.old.share.more first len + store_size }
+        ensures placed { OnOk result (let gone = carried_in S.shape trib self.old.share.more first len in
             (made read : ℕ) → placed_in C.Tx self.old (plan_of clock.now) made read → placed_in C.Tx self.new (plan_of clock.now) (made + arriving) (read + gone)) }
         ensures gains { OnOk result (let plan = plan_of clock.now in (made read : ℕ) → placed_in C.Tx self.old plan made read
-            → Gains (meaning_in C.Tx self.old) plan (held_in C.Tx self.old) (passed_in C.Tx S.shape trib first self.old self.new into.new)
+            → Gains (meaning_in C.Tx self.old) plan (held_in C.Tx self.old) (passed_in C.Tx S.shape trib first len self.old self.new column.new.bits)
             made (made + arriving) read (F.inputs feed.old) (F.inputs feed.new)) }
-        ensures keeps { OnOk result (KeepsOthers S.shape trib self.old.share.more first into.old into.new) }
+        ensures rows { OnOk result (length column.new.bits ≡ rows S.shape first len) }
         ensures halts { OnErr result ((made read : ℕ) → placed_in C.Tx self.old (plan_of clock.now) made read
             → Halts (meaning_in C.Tx self.old) (plan_of clock.now) made (made + arriving) TxStop.Failed (F.inputs feed.old) (F.inputs feed.new)) }
         ensures cause { HasCause (F.feed_faults feed.old) (F.feed_faults feed.new) result }
         ensures fed { F.fed feed.old feed.new }
         ensures same { meaning_in C.Tx self.new ≡ meaning_in C.Tx self.old }
         ensures share { self.new.share ≡ self.old.share }
+        ensures queue_room { queue.new.capacity ≡ queue.old.capacity }
+        ensures column_room { column.new.capacity ≡ column.old.capacity }
     {
         let more = self.share.more;
-        let gone = tables.carried(trib, more, first, into.len());
-        let held = self.store.fill() as usize;
-        let all = held + arriving;
-        self.store.take_all(queue);
-        self.child.make_clear(clock, feed, &mut queue[held..all])?;
-        tables.spread(trib, more, first, &queue[..all], into);
-        self.store.put_all(&queue[gone..all]);
+        queue.clear();
+        queue.append(self.store.take_all());
+        self.child.make_clear(clock, feed, arriving, queue)?;
+        let gone = layout.carried(trib, more, first, len);
+        layout.fill_column(trib, more, first, len, queue, column);
+        self.store
+            .put_all(queue.read(gone, (queue.len() - gone) as u32));
         Ok(())
     }
 

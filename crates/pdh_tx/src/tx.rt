@@ -1,4 +1,5 @@
 ghost use Rattle.std.specs.Prelude.{◌≡◌, ◌≤◌, ◌+◌, ℕ, suc, Bool, true, false, All, length, IfOk, OnOk, IfErr, OnErr};
+ghost use Rattle.pdh_packed.specs.Gaining.{gained, IsGrown};
 ghost use Rattle.pdh_edge.specs.Ports.{HasCause};
 ghost use Rattle.pdh_shape.specs.declared.role.Service.{Service};
 ghost use Rattle.pdh_tx.specs.Meaning.{Supply, Plan, plan_of, Meaning, IsNodeOf, HoldsAll, Makes, Stops};
@@ -7,6 +8,7 @@ ghost use Rattle.pdh_tx.specs.Making.{IsClear, MakesAll};
 
 use pdh_clock::Schedule;
 use pdh_edge::{Failed, Feed};
+use pdh_packed::Packed;
 use pdh_shape::{Path, Place};
 
 /// Why a line has no next bit.
@@ -75,34 +77,37 @@ pub trait Tx: Drop {
         ensures same { meaning self.new ≡ meaning self.old }
         ensures same_says { says self.new ≡ says self.old };
 
-    /// Makes the next bits of the line, as many as `into` has, in whose way nothing stands; it fails
-    /// only where the feed's count of faults rose, and the leaves gave no more than these bits take.
-    /// Each frame that they begin says the same.
+    /// Makes the next bits of the line, so many, in whose way nothing stands, and appends them to
+    /// `into`; it fails only where the feed's count of faults rose, and the leaves gave no more than
+    /// these bits take. Each frame that they begin says the same.
     fn make_clear<F: Feed>(
         &mut self,
         clock: &Schedule,
         feed: &mut F,
-        into: &mut [bool],
+        count: usize,
+        into: &mut Packed,
     ) -> Result<(), Failed>
         requires running { is_stopped self.old ≡ false }
         requires lists { HoldsAll (meaning self.old).leaves (F.inputs feed.old) }
         requires nodes { All (IsNodeOf clock.now.levels) (meaning self.old).nodes }
+        requires room { length into.old.bits + count ≤ into.old.capacity }
         requires clear { (x : ℕ) × (stands_at self.old (plan_of clock.now) x)
-            × (IsClear (meaning self.old) (plan_of clock.now) x (x + length into.old)
-            (F.inputs feed.old)) }
+            × (IsClear (meaning self.old) (plan_of clock.now) x (x + count) (F.inputs feed.old)) }
+        ensures grown { OnOk result (IsGrown into.old into.new count) }
         ensures made { OnOk result ((x : ℕ) → stands_at self.old (plan_of clock.now) x
             → MakesAll (meaning self.old) (says self.old) (stands_at self.new (plan_of clock.now))
-            (stands_for self.old) (stands_for self.new) (plan_of clock.now) x
-            (x + length into.old) into.new (F.inputs feed.old) (F.inputs feed.new)) }
+            (stands_for self.old) (stands_for self.new) (plan_of clock.now) x (x + count)
+            (gained into.old into.new) (F.inputs feed.old) (F.inputs feed.new)) }
         ensures halts { OnErr result ((x : ℕ) → stands_at self.old (plan_of clock.now) x
-            → Halts (meaning self.old) (plan_of clock.now) x (x + length into.old)
+            → Halts (meaning self.old) (plan_of clock.now) x (x + count)
             TxStop.Failed (F.inputs feed.old) (F.inputs feed.new)) }
         ensures cause { HasCause (F.feed_faults feed.old) (F.feed_faults feed.new) result }
         ensures running { OnOk result (is_stopped self.new ≡ false) }
         ensures stopped { OnErr result (is_stopped self.new ≡ true) }
         ensures fed { F.fed feed.old feed.new }
         ensures same { meaning self.new ≡ meaning self.old }
-        ensures same_says { says self.new ≡ says self.old };
+        ensures same_says { says self.new ≡ says self.old }
+        ensures capacity { into.new.capacity ≡ into.old.capacity };
 
     /// A longer line takes no fewer bits.
     ghost grows: { (t : Self) (plan : Plan) (x k : ℕ)

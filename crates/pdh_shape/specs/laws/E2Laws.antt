@@ -9,7 +9,7 @@ use Rattle.pdh_shape.specs.KeptLaws.{keeps_laws, keeps_laws_by}
 use Rattle.pdh_shape.specs.laws.LawsOfTest.{laws-is_frame, laws-has_tributaries, laws-reads_evenly}
 
 pub e2_is_plan : IsSetPlan e2_signal e2_plan
-e2_is_plan = record { whole = refl; some = (lit< tt, lit< tt); few = lit≤ tt; short = lit< tt }
+e2_is_plan = record { whole = refl; some = (lit< tt, lit< tt); few = lit≤ tt; short = lit< tt; signal_is = refl }
 
 pub e2_keeps_laws : keeps_laws e2 ≡ true
 unfolding keeps_laws_by walk set_role set_mark four_wrong

@@ -1,19 +1,21 @@
 -- The laws of a shape that passes the computed test.
 use Rattle.std.proofs.Common.{◌≡◌, ℕ, suc, ◌+◌, ◌*◌, ◌%◌, ◌<◌, ◌≤◌, Bool, true, false, not, ◌||◌, cond, eqb, refl, sym, ap, ◌∙◌, subst, inl, inr, ◌⊎◌, arith}
-use Rattle.std.specs.Prelude.{count_by}
+use Rattle.std.specs.Prelude.{count_by, nat_lt, ◌==◌}
+use Rattle.std.specs.Bool.{beq}
 use Rattle.std.specs.List.{range_with_len, list_all}
 use Rattle.std.proofs.lemmas.Bool.{eqb-true, ltb-true, leb-true, cases_lt, eq-eqb}
 use Rattle.std.proofs.lemmas.List.Folds.{list_all-map}
 use Rattle.pdh_shape.specs.declared.role.Role.{Role}
-use Rattle.pdh_shape.specs.declared.role.Role.TheVariants.{Control, Just}
+use Rattle.pdh_shape.specs.declared.role.Role.TheVariants.{Align, Service, Control, Just, Info}
 use Rattle.pdh_shape.specs.declared.role.Mark.{Mark}
 use Rattle.pdh_shape.specs.declared.role.Mark.TheVariants.{Framing, Multi, Other}
-use Rattle.pdh_shape.specs.OwnNumbers.{most_slots}
-use Rattle.pdh_shape.specs.Frame.{FrameShape, IsFrame, HasMarks, slots, clean, is_align, is_marked, is_framing, framing_before}
+use Rattle.pdh_shape.specs.OwnNumbers.{most_slots, most_signal}
+use Rattle.pdh_shape.specs.Frame.{FrameShape, IsFrame, HasMarks, HasSignal, slots, clean, is_align, is_marked, is_framing, framing_before}
 use Rattle.pdh_shape.specs.Tributary.{HasTributaries, ReadsEvenly, reads_from, controls, is_control, is_just, reads_below}
+use Rattle.pdh_shape.specs.Payload.{PayloadInTurn, is_payload, payload_before}
 use Rattle.pdh_shape.specs.laws.Ranges.{and_true, list_all-at, count_push, count-range_grows, count-made}
 use Rattle.pdh_shape.specs.laws.Walks.{walk-at, walk-end}
-use Rattle.pdh_shape.specs.KeptLaws.{keeps_laws, keeps_laws_by, keeps_numbers, keeps_marks, keeps_copies, keeps_tributary, names_known, mark_fits, marks_at, marks_next, slot_fits, all_passed, passes, Passed, roles_of}
+use Rattle.pdh_shape.specs.KeptLaws.{keeps_laws, keeps_laws_by, keeps_numbers, keeps_marks, keeps_copies, keeps_tributary, names_known, mark_fits, signal_fits, marks_at, marks_next, turn_fits, turn_next, all_turns, keeps_turns, slot_fits, all_passed, passes, Passed, roles_of}
 
 not_true : (b : Bool) → not b ≡ true → b ≡ false
 not_true false h = refl
@@ -23,6 +25,12 @@ or_true : (a b : Bool) → (a || b) ≡ true → (a ≡ true) ⊎ (b ≡ true)
 or_true true b h = inl refl
 or_true false b h = inr h
 
+same_bool : (a b : Bool) → beq a b ≡ true → a ≡ b
+same_bool true true h = refl
+same_bool true false h = cc
+same_bool false true h = cc
+same_bool false false h = refl
+
 where_so : (a b : Bool) → a ≡ true → (not a || b) ≡ true → b ≡ true
 where_so true b so h = h
 where_so false b so h = cc
@@ -31,6 +39,7 @@ where_so false b so h = cc
 record Parts (s : FrameShape) : Type 0 where
   numbers : keeps_numbers s ≡ true
   marks : keeps_marks s (roles_of s) ≡ true
+  turns : keeps_turns s (roles_of s) ≡ true
   names : list_all (names_known s) (roles_of s) ≡ true
   copies : list_all (keeps_copies s (roles_of s)) (range_with_len 0 s.tribs) ≡ true
   tributaries : list_all (keeps_tributary s (roles_of s)) (range_with_len 0 s.tribs) ≡ true
@@ -42,13 +51,16 @@ parts_of s kept =
     let b = and_true _ _ a.1 in
     let c = and_true _ _ b.1 in
     let d = and_true _ _ c.1 in
-    record { numbers = a.0; marks = b.0; names = c.0; copies = d.0; tributaries = d.1 }
+    let e = and_true _ _ d.1 in
+    record { numbers = a.0; marks = b.0; turns = c.0; names = d.0; copies = e.0; tributaries = e.1 }
 
 -- ---- the numbers and the loss rule
 
 record Numbers (s : FrameShape) : Type 0 where
   some_slots : 0 < s.len
   few_slots : s.len ≤ most_slots
+  few_signal : s.signal ≤ most_signal
+  signal_within : s.signal ≤ s.len
   no_loss : s.loses clean clean clean clean ≡ false
   odd : (s.copies ≡ 0) ⊎ (s.copies % 2 ≡ 1)
 
@@ -57,11 +69,15 @@ numbers_of s kept =
     let a = and_true _ _ (parts_of s kept).numbers in
     let b = and_true _ _ a.1 in
     let c = and_true _ _ b.1 in
+    let d = and_true _ _ c.1 in
+    let e = and_true _ _ d.1 in
     record {
       some_slots = ltb-true _ _ a.0;
       few_slots = leb-true _ _ b.0;
-      no_loss = not_true _ c.0;
-      odd = elim (or_true _ _ c.1) [ inl none ↦ inl (eqb-true _ _ none) | inr odd ↦ inr (eqb-true _ _ odd) ];
+      few_signal = leb-true _ _ c.0;
+      signal_within = leb-true _ _ d.0;
+      no_loss = not_true _ e.0;
+      odd = elim (or_true _ _ e.1) [ inl none ↦ inl (eqb-true _ _ none) | inr odd ↦ inr (eqb-true _ _ odd) ];
     }
 
 pub laws-is_frame : (s : FrameShape) → keeps_laws s ≡ true → IsFrame s
@@ -69,7 +85,7 @@ laws-is_frame s kept = let numbers = numbers_of s kept in record { some_slots = 
 
 -- ---- the marks
 
-marks_fit : (s : FrameShape) (t : ℕ) → keeps_laws s ≡ true → t < s.len → mark_fits (s.mark t) (s.role t) (framing_before s t) ≡ true
+marks_fit : (s : FrameShape) (t : ℕ) → keeps_laws s ≡ true → t < s.len → marks_at s (s.role t) t (framing_before s t) ≡ true
 marks_fit s t kept h =
     walk-at (marks_at s) (marks_next s) (λ framing. true) s.role (framing_before s) (count_push (λ slot. is_framing (s.mark slot))) s.len 0 t (parts_of s kept).marks (omega arith) (omega arith)
 
@@ -85,9 +101,42 @@ fits-framing mark role framing number h is =
 
 pub laws-has_marks : (s : FrameShape) → keeps_laws s ≡ true → HasMarks s
 laws-has_marks s kept = record {
-  marked = λ t h. fits-marked (s.mark t) (s.role t) (framing_before s t) (marks_fit s t kept h);
-  numbered = λ t number h is. (fits-framing (s.mark t) (s.role t) (framing_before s t) number (marks_fit s t kept h) is).0;
-  few = λ t number h is. (fits-framing (s.mark t) (s.role t) (framing_before s t) number (marks_fit s t kept h) is).1;
+  marked = λ t h. fits-marked (s.mark t) (s.role t) (framing_before s t) (and_true _ _ (marks_fit s t kept h)).0;
+  numbered = λ t number h is. (fits-framing (s.mark t) (s.role t) (framing_before s t) number (and_true _ _ (marks_fit s t kept h)).0 is).0;
+  few = λ t number h is. (fits-framing (s.mark t) (s.role t) (framing_before s t) number (and_true _ _ (marks_fit s t kept h)).0 is).1;
+}
+
+-- ---- the alignment signal
+
+fits-signal : (s : FrameShape) (role : Role) (t : ℕ) → 0 < s.signal → signal_fits s role t ≡ true → is_align role ≡ nat_lt t s.signal
+fits-signal s role t some fits = elim (or_true (s.signal == 0) (beq (is_align role) (nat_lt t s.signal)) fits) [
+  | inl none ↦ let zero : s.signal ≡ 0 = eqb-true s.signal 0 none in absurd (omega arith)
+  | inr same ↦ same_bool (is_align role) (nat_lt t s.signal) same
+]
+
+pub laws-has_signal : (s : FrameShape) → keeps_laws s ≡ true → HasSignal s
+laws-has_signal s kept = record {
+  few = (numbers_of s kept).few_signal;
+  within = (numbers_of s kept).signal_within;
+  first = λ some t h. fits-signal s (s.role t) t some (and_true _ _ (marks_fit s t kept h)).1;
+}
+
+-- ---- the payload
+
+turn_at : (s : FrameShape) (t : ℕ) → keeps_laws s ≡ true → t < s.len → turn_fits s (s.role t) t (payload_before s t) ≡ true
+turn_at s t kept h = walk-at (turn_fits s) turn_next (all_turns s) s.role (payload_before s) (count_push (λ slot. is_payload (s.role slot))) s.len 0 t (parts_of s kept).turns (omega arith) (omega arith)
+
+fits-turn : (s : FrameShape) (role : Role) (t payload j : ℕ) → turn_fits s role t payload ≡ true → reads_from j true role ≡ true → j ≡ payload % s.tribs
+fits-turn s (Info i) t payload j fits reads = sym (eqb-true i j reads) ∙ eqb-true i (payload % s.tribs) fits
+fits-turn s (Just i) t payload j fits reads = sym (eqb-true i j (and_true (i == j) true reads).0) ∙ eqb-true i (payload % s.tribs) fits
+fits-turn s (Align signal) t payload j fits reads = cc
+fits-turn s (Service number) t payload j fits reads = cc
+fits-turn s (Control i copy) t payload j fits reads = cc
+
+pub laws-in_turn : (s : FrameShape) → keeps_laws s ≡ true → PayloadInTurn s
+laws-in_turn s kept = record {
+  turn = λ t j h reads. fits-turn s (s.role t) t (payload_before s t) j (turn_at s t kept h) reads;
+  whole = eqb-true _ _ (walk-end (turn_fits s) turn_next (all_turns s) s.role (payload_before s) (count_push (λ slot. is_payload (s.role slot))) s.len 0 s.len (parts_of s kept).turns (omega arith));
 }
 
 -- ---- the tributaries

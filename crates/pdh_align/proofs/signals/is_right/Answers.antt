@@ -1,12 +1,11 @@
-use Rattle.std.proofs.Common.{false, arith}
-use Rattle.pdh_align.proofs.SignalLaws.{signal_within, signal_right}
+use Rattle.std.proofs.Common.{◌≡◌, take, drop, sym, ap, ◌∙◌, arith}
+use Rattle.pdh_align.proofs.SignalLaws.{right_by_number}
 use Rattle.pdh_align.proofs.signals.is_right.Goals as goal
 
-pub overflow_add-start : goal.overflow_add-start
-overflow_add-start g c =
-    omega (arith, g.met.S.Shape.len_is, signal_within g.S.Shape.shape c.args.signals.now c.loop-signal.signal-index (record { slot = 0; bit = false }) c.requires.signals c.loop-signal-test.true)
-
-pub loop-signal-preserved : goal.loop-signal-preserved
-loop-signal-preserved g c =
-    signal_right g.S.Shape.shape c.args.signals.now c.args.held.now.items c.args.start g.S.Shape.LEN c.loop-signal.signal-index (record { slot = 0; bit = false }) c.bit_at.result
-    c.requires.signals g.met.S.Shape.len_is c.loop-signal-test.true c.bit_at.ensures c.if-bit_at-signal.false c.loop-signal.invariant
+pub returns-then-SIGNAL-gt0 : goal.returns-then-SIGNAL-gt0
+returns-then-SIGNAL-gt0 g c =
+    let s = g.S.Shape.shape in
+    let read : c.read.result ≡ take s.signal (drop c.args.start c.args.held.now.bits) =
+    c.read.ensures ∙ ap (λ n. take n (drop c.args.start c.args.held.now.bits)) (c.SIGNAL-then-SIGNAL-gt0.ensures ∙ sym g.met.S.Shape.signal_is) in
+    right_by_number s c.args.held.now.bits c.read.result c.args.start g.S.Shape.LEN c.number.result c.args.signals.now.number g.met.S.Shape.has_signal (omega (arith, c.if-SIGNAL-gt0.true, c.SIGNAL.ensures, g.met.S.Shape.signal_is))
+    g.met.S.Shape.len_is c.requires.whole read c.number.ensures.value c.requires.judges.number

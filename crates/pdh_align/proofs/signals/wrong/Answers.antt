@@ -6,6 +6,6 @@ use Rattle.pdh_align.proofs.signals.wrong.Goals as goal
 
 pub returns-then-is_right : goal.returns-then-is_right
 returns-then-is_right g c =
-    let all : take g.S.Shape.LEN c.args.held.now.items ≡ c.args.held.now.items = take_all g.S.Shape.LEN c.args.held.now.items (omega arith) in
-    let right : is_right g.S.Shape.shape c.args.held.now.items ≡ true = ap (is_right g.S.Shape.shape) (sym all) ∙ sym c.is_right.ensures ∙ c.if-is_right.true in
-    c.clean.ensures ∙ sym (wrong_of_right g.S.Shape.shape c.args.held.now.items right)
+    let all : take g.S.Shape.LEN c.args.held.now.bits ≡ c.args.held.now.bits = take_all g.S.Shape.LEN c.args.held.now.bits (omega arith) in
+    let right : is_right g.S.Shape.shape c.args.held.now.bits ≡ true = ap (is_right g.S.Shape.shape) (sym all) ∙ sym c.is_right.ensures ∙ c.if-is_right.true in
+    c.clean.ensures ∙ sym (wrong_of_right g.S.Shape.shape c.args.held.now.bits right)

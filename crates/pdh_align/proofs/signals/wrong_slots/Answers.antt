@@ -1,14 +1,45 @@
-use Rattle.std.proofs.Common.{◌≡◌, ap, ◌∙◌, arith}
-use Rattle.pdh_shape.specs.Frame.{breaks, breaks_at}
-use Rattle.pdh_align.proofs.SignalLaws.{marks_push, marks_all}
+use Rattle.std.proofs.Common.{◌≡◌, ◌<◌, not, false, take, get_or, sym, ap, ◌∙◌, arith}
+use Rattle.std.specs.Bool.{beq}
+use Rattle.std.proofs.lemmas.List.{take_all}
+use Rattle.std.proofs.lemmas.List.Sums.{sum_by_more_le}
+use Rattle.pdh_shape.specs.Frame.{breaks_at, framing_mark, wrong}
+use Rattle.pdh_align.proofs.SignalLaws.{framing_of, multi_of, signal_within, signal_broken, wrong_fits, marks_all}
 use Rattle.pdh_align.proofs.signals.wrong_slots.Goals as goal
 
-pub loop-slot-preserved : goal.loop-slot-preserved
-loop-slot-preserved g c =
-    let broken : c.breaks-broken.result ≡ breaks_at g.S.Shape.shape c.args.held.now.items c.loop-slot.slot =
-    c.breaks-broken.ensures ∙ ap (λ r. breaks r c.bit_at.result) c.role.ensures ∙ ap (breaks (g.S.Shape.shape.role c.loop-slot.slot)) c.bit_at.ensures in
-    marks_push g.S.Shape.shape c.args.held.now.items c.loop-slot.slot c.loop-slot.framing c.framing_bit-framing.result c.loop-slot.multi c.multi_bit-multi.result c.mark-mark.result c.breaks-broken.result
-    g.met.S.Shape.has_marks (omega (arith, g.met.S.Shape.len_is)) c.loop-slot.invariant (omega (arith, c.loop-slot.auto.framing-fits)) c.mark-mark.ensures broken c.framing_bit-framing.ensures c.multi_bit-multi.ensures
+pub bit-requires : goal.bit-requires
+bit-requires g c =
+    omega (arith, c.requires.whole, g.met.S.Shape.len_is, signal_within g.S.Shape.shape c.args.slots.now c.loop-signal.signal-index (record { slot = 0; bit = false }) c.requires.signals c.loop-signal-test.true)
+
+pub mark-mark-requires : goal.mark-mark-requires
+mark-mark-requires g c =
+    omega (arith, g.met.S.Shape.len_is, signal_within g.S.Shape.shape c.args.slots.now c.loop-signal.signal-index (record { slot = 0; bit = false }) c.requires.signals c.loop-signal-test.true)
+
+pub framing_bit-framing-requires : goal.framing_bit-framing-requires
+framing_bit-framing-requires g c number is =
+    let signal = get_or c.args.slots.now c.loop-signal.signal-index (record { slot = 0; bit = false }) in
+    let within : signal.slot < g.S.Shape.shape.len = signal_within g.S.Shape.shape c.args.slots.now c.loop-signal.signal-index (record { slot = 0; bit = false }) c.requires.signals c.loop-signal-test.true in
+    g.met.S.Shape.has_marks.few signal.slot number within (sym c.mark-mark.ensures ∙ is)
+
+pub overflow_add-framing : goal.overflow_add-framing
+overflow_add-framing g c =
+    let s = g.S.Shape.shape in
+    let slots = c.args.slots.now in
+    let bits = c.args.held.now.bits in
+    let j = c.loop-signal.signal-index in
+    let signal = get_or slots j (record { slot = 0; bit = false }) in
+    let broken = signal_broken s slots bits j (record { slot = 0; bit = false }) c.bit.result c.requires.signals c.loop-signal-test.true c.bit.ensures in
+    let more : c.framing_bit-framing.result ≡ framing_mark (s.mark signal.slot) (breaks_at s bits signal.slot) =
+    c.framing_bit-framing.ensures ∙ ap (λ m. framing_mark m (not (beq c.bit.result signal.bit))) c.mark-mark.ensures ∙ ap (framing_mark (s.mark signal.slot)) broken in
+    let most = sum_by_more_le (λ signal. framing_mark (s.mark signal.slot) (breaks_at s bits signal.slot)) slots j (record { slot = 0; bit = false }) c.loop-signal-test.true in
+    let whole : framing_of s bits slots ≡ (wrong s bits).framing = ap (λ m. m.framing) (marks_all s bits slots c.requires.signals) in
+    omega (arith, most, whole, more, c.loop-signal.invariant.0, wrong_fits s bits g.met.S.Shape.has_marks)
 
 pub returns : goal.returns
-returns g c = marks_all g.S.Shape.shape c.args.held.now.items c.loop-slot.slot c.loop-slot.framing c.loop-slot.multi (omega (arith, g.met.S.Shape.len_is)) c.loop-slot.invariant
+returns g c =
+    let s = g.S.Shape.shape in
+    let slots = c.args.slots.now in
+    let bits = c.args.held.now.bits in
+    let all : take c.loop-signal.signal-index slots ≡ slots = take_all c.loop-signal.signal-index slots (omega (arith, c.loop-signal-test.false)) in
+    let framing = c.loop-signal.invariant.0 ∙ ap (framing_of s bits) all in
+    let multi = c.loop-signal.invariant.1 ∙ ap (multi_of s bits) all in
+    (λ i. record { framing = framing i; multi = multi i }) ∙ marks_all s bits slots c.requires.signals

@@ -1,6 +1,8 @@
-use Rattle.pdh_align.proofs.SignalLaws.{MarksSoFar}
+use Rattle.std.proofs.Common.{◌≡◌, take}
+use Rattle.pdh_align.proofs.SignalLaws.{framing_of, multi_of}
 use Rattle.pdh_align.proofs.signals.wrong_slots.Given as goal
 
 -- the marks are those of the slots so far
-abbrev pub invariant-loop-slot : goal.invariant-loop-slot
-invariant-loop-slot g l = MarksSoFar g.S.Shape.shape l.held.items l.slot l.framing l.multi
+abbrev pub invariant-loop-signal : goal.invariant-loop-signal
+invariant-loop-signal g l =
+    (l.framing ≡ framing_of g.S.Shape.shape l.held.bits (take l.signal-index l.slots)) × (l.multi ≡ multi_of g.S.Shape.shape l.held.bits (take l.signal-index l.slots))

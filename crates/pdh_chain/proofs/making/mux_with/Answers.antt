@@ -24,7 +24,7 @@ send_clear_frames-requires-clause-nodes g c =
 
 pub send_clear_frames-requires-clause-frames : goal.send_clear_frames-requires-clause-frames
 send_clear_frames-requires-clause-frames g c =
-    let long : top_len g.T.ChainTx.shapes ≡ length c.deref_mut.result.now = omega (arith, c.deref_mut.ensures.len, c.in_ok-frame.ensures.len, c.LEN.ensures, g.met.T.ChainTop.len_is) in
+    let long : top_len g.T.ChainTx.shapes ≡ c.LEN-len.result = g.met.T.ChainTop.len_is ∙ sym c.LEN-len.ensures in
     frames_held g.T.ChainTx.shapes _ _ g.met.T.ChainTx.are_frames c.in_ok-top.ensures.meaning long
 
 pub send_clear_frames-requires-clause-stands : goal.send_clear_frames-requires-clause-stands
@@ -32,14 +32,14 @@ send_clear_frames-requires-clause-stands g c = c.in_ok-top.ensures.fresh.placed 
 
 pub send_clear_frames-requires-clause-free : goal.send_clear_frames-requires-clause-free
 send_clear_frames-requires-clause-free g c =
-    let long : top_len g.T.ChainTx.shapes ≡ length c.deref_mut.result.now = omega (arith, c.deref_mut.ensures.len, c.in_ok-frame.ensures.len, c.LEN.ensures, g.met.T.ChainTop.len_is) in
+    let long : top_len g.T.ChainTx.shapes ≡ c.LEN-len.result = g.met.T.ChainTop.len_is ∙ sym c.LEN-len.ensures in
     unhindered g.T.ChainTx.shapes c.args.clock.now c.args.frames (g.P.Feed.inputs c.args.port.now) _ _ _ c.in_default.ensures.inputs g.met.T.ChainTx.are_frames g.met.T.ChainTx.read_evenly c.requires.depth c.in_ok-top.ensures.meaning long c.requires.levels
     (c.is_unhindered-unhindered.ensures c.if-unhindered.true)
 
 pub returns-in_err-send_clear_frames-clause-err : goal.returns-in_err-send_clear_frames-clause-err
 returns-in_err-send_clear_frames-clause-err g c =
     let shapes = g.T.ChainTx.shapes in
-    let long : top_len g.T.ChainTx.shapes ≡ length c.deref_mut.result.now = omega (arith, c.deref_mut.ensures.len, c.in_ok-frame.ensures.len, c.LEN.ensures, g.met.T.ChainTop.len_is) in
+    let long : top_len g.T.ChainTx.shapes ≡ c.LEN-len.result = g.met.T.ChainTop.len_is ∙ sym c.LEN-len.ensures in
     let since = g.met.P.Port.kept_counts c.args.port.now c.start.new.self c.start.ensures.kept in
     let p = err_from_is_err_and c.from_residual-in_err-send_clear_frames.result c.from_residual-in_err-send_clear_frames.ensures.1 in
     rw (p.1, p.2, sym c.in_default.ensures.inputs, sym c.in_default.ensures.outputs)
@@ -49,7 +49,7 @@ returns-in_err-send_clear_frames-clause-err g c =
 pub returns-then-unhindered-clause-ok : goal.returns-then-unhindered-clause-ok
 returns-then-unhindered-clause-ok g c =
     let shapes = g.T.ChainTx.shapes in
-    let long : top_len g.T.ChainTx.shapes ≡ length c.deref_mut.result.now = omega (arith, c.deref_mut.ensures.len, c.in_ok-frame.ensures.len, c.LEN.ensures, g.met.T.ChainTop.len_is) in
+    let long : top_len g.T.ChainTx.shapes ≡ c.LEN-len.result = g.met.T.ChainTop.len_is ∙ sym c.LEN-len.ensures in
     rw (sym c.in_default.ensures.inputs, sym c.in_default.ensures.outputs)
     (sent shapes (counts c.args.clock.now.rows) (says_of c.args.feac) (frame_count c.args.clock.now.rows) g.met.T.ChainTx.are_frames (at_top shapes c.requires.depth) _ _ c.in_ok-top.ensures.meaning long _ _ _ c.args.frames _ _ _ _ c.in_ok-top.ensures.fresh.held c.in_ok-send_clear_frames.ensures.sent)
 
@@ -64,7 +64,7 @@ send_frames-requires-clause-nodes g c =
 
 pub send_frames-requires-clause-frames : goal.send_frames-requires-clause-frames
 send_frames-requires-clause-frames g c =
-    frames_held g.T.ChainTx.shapes _ _ g.met.T.ChainTx.are_frames c.in_ok-top.ensures.meaning (g.met.T.ChainTop.len_is ∙ sym c.LEN-2.ensures)
+    frames_held g.T.ChainTx.shapes _ _ g.met.T.ChainTx.are_frames c.in_ok-top.ensures.meaning (g.met.T.ChainTop.len_is ∙ sym c.LEN-len.ensures)
 
 pub send_frames-requires-clause-stands : goal.send_frames-requires-clause-stands
 send_frames-requires-clause-stands g c = c.in_ok-top.ensures.fresh.placed (plan_of c.args.clock.now)
@@ -72,26 +72,26 @@ send_frames-requires-clause-stands g c = c.in_ok-top.ensures.fresh.placed (plan_
 pub returns-in-Ok-clause-ok : goal.returns-in-Ok-clause-ok
 returns-in-Ok-clause-ok g c =
     let shapes = g.T.ChainTx.shapes in
-    let whole = g.met.T.ChainTop.len_is ∙ sym c.LEN-2.ensures in
+    let whole = g.met.T.ChainTop.len_is ∙ sym c.LEN-len.ensures in
     rw (sym c.in_default.ensures.inputs, sym c.in_default.ensures.outputs)
-    (sent shapes (counts c.args.clock.now.rows) (says_of c.args.feac) (frame_count c.args.clock.now.rows) g.met.T.ChainTx.are_frames (at_top shapes c.requires.depth) _ c.LEN-2.result c.in_ok-top.ensures.meaning whole _ _ _ c.args.frames _ _ _ _ c.in_ok-top.ensures.fresh.held c.in-Ok.ensures.sent)
+    (sent shapes (counts c.args.clock.now.rows) (says_of c.args.feac) (frame_count c.args.clock.now.rows) g.met.T.ChainTx.are_frames (at_top shapes c.requires.depth) _ c.LEN-len.result c.in_ok-top.ensures.meaning whole _ _ _ c.args.frames _ _ _ _ c.in_ok-top.ensures.fresh.held c.in-Ok.ensures.sent)
 
 pub returns-in-Err-Sender-clause-err : goal.returns-in-Err-Sender-clause-err
 returns-in-Err-Sender-clause-err g c =
     let shapes = g.T.ChainTx.shapes in
-    let whole = g.met.T.ChainTop.len_is ∙ sym c.LEN-2.ensures in
+    let whole = g.met.T.ChainTop.len_is ∙ sym c.LEN-len.ensures in
     let since = g.met.P.Port.kept_counts c.args.port.now c.start.new.self c.start.ensures.kept in
     let stops = rw c.in-Err-Sender.field-0-is at c.in-Err-Sender.ensures.stops in
     rw (c.stop_of.ensures, sym c.in_default.ensures.inputs, sym c.in_default.ensures.outputs)
     (stop_since shapes (counts c.args.clock.now.rows) (says_of c.args.feac) (frame_count c.args.clock.now.rows) c.args.frames _ _ _ _ _ _ _ _ _ _ _ since.0 since.1
-    (stopped shapes (counts c.args.clock.now.rows) (says_of c.args.feac) (frame_count c.args.clock.now.rows) g.met.T.ChainTx.are_frames (at_top shapes c.requires.depth) _ c.LEN-2.result c.in_ok-top.ensures.meaning whole _ c.args.frames c.in-Err-Sender.stop _ _ _ _ _ _ _ _ c.requires.scheduled
+    (stopped shapes (counts c.args.clock.now.rows) (says_of c.args.feac) (frame_count c.args.clock.now.rows) g.met.T.ChainTx.are_frames (at_top shapes c.requires.depth) _ c.LEN-len.result c.in_ok-top.ensures.meaning whole _ c.args.frames c.in-Err-Sender.stop _ _ _ _ _ _ _ _ c.requires.scheduled
     c.in_ok-top.ensures.fresh.held stops))
 
 pub returns-clause-err : goal.returns-clause-err
 returns-clause-err g c =
     let shapes = g.T.ChainTx.shapes in
-    let whole = g.met.T.ChainTop.len_is ∙ sym c.LEN-2.ensures in
+    let whole = g.met.T.ChainTop.len_is ∙ sym c.LEN-len.ensures in
     let since = g.met.P.Port.kept_counts c.args.port.now c.start.new.self c.start.ensures.kept in
     let fails = rw c.in-Err-WriteFailed.field-0-is at c.in-Err-WriteFailed.ensures.fails in
-    let stop = failed shapes (counts c.args.clock.now.rows) (says_of c.args.feac) (frame_count c.args.clock.now.rows) g.met.T.ChainTx.are_frames (at_top shapes c.requires.depth) _ c.LEN-2.result c.in_ok-top.ensures.meaning whole _ c.args.frames _ _ _ _ _ _ c.in_ok-top.ensures.fresh.held fails in
+    let stop = failed shapes (counts c.args.clock.now.rows) (says_of c.args.feac) (frame_count c.args.clock.now.rows) g.met.T.ChainTx.are_frames (at_top shapes c.requires.depth) _ c.LEN-len.result c.in_ok-top.ensures.meaning whole _ c.args.frames _ _ _ _ _ _ c.in_ok-top.ensures.fresh.held fails in
     rw (sym c.in_default.ensures.inputs, sym c.in_default.ensures.outputs) (omega (arith, stop.0, since.1), stop.1)

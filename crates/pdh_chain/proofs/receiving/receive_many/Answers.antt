@@ -1,9 +1,11 @@
 use Rattle.std.specs.Prelude.{⊤}
-use Rattle.std.proofs.Common.{◌≡◌, ◌≤◌, ◌+◌, Err, length, take, refl, ap, ◌∙◌, sym, subst, arith}
-use Rattle.std.proofs.lemmas.List.{length-take, length-take-le, take-append-le}
+use Rattle.std.proofs.Common.{◌≡◌, ◌≤◌, ◌+◌, Bool, List, Err, length, refl, ap, ◌∙◌, sym, subst, arith}
 use Rattle.std.proofs.lemmas.Result.{err_from_is_err_and}
-use Rattle.pdh_rx.specs.Meaning.{TakesBits, TakesPart}
+use Rattle.pdh_bits.specs.BitOut.{BoundedBits}
+use Rattle.pdh_packed.specs.Gaining.{gained}
+use Rattle.pdh_edge.specs.Ports.{Takes, for_leaf}
 use Rattle.pdh_chain.specs.Demuxing.{Receives}
+use Rattle.pdh_chain.proofs.Lists.{gained_whole}
 use Rattle.pdh_chain.proofs.Received.{receives_none, receives_many, feed_stops, put_stops_many}
 use Rattle.pdh_chain.proofs.receiving.receive_many.Goals as goal
 
@@ -11,6 +13,7 @@ pub loop-received-init : goal.loop-received-init
 loop-received-init g c = record {
   same = refl;
   within = omega arith;
+  room = refl;
   kept = g.met.P.Port.kept_same c.args.port.now;
   inputs = refl;
   outputs = refl;
@@ -52,17 +55,19 @@ returns-in_err-take-clause-stops g c =
     let p = err_from_is_err_and c.from_residual-in_err-take.result c.from_residual-in_err-take.ensures.1 in
     let inv = c.loop-received.invariant in
     let n = c.in_ok-count.count in
-    let within : n ≤ length c.bits.new.into = omega (arith, c.in_ok-count.ensures.count.1, c.bits.auto.into) in
+    let bits : List Bool = c.bits.new.into.bits in
+    let whole : gained c.clear.new.self c.bits.new.into ≡ bits = gained_whole c.clear.new.self c.bits.new.into (ap (λ (b : BoundedBits). b.bits) c.clear.ensures) in
+    let count : length bits ≡ n = sym (ap (λ (l : List Bool). length l) whole) ∙ c.in_ok-count.ensures.grown.count in
     let fed = g.met.P.Port.fed_keeps_outputs c.loop-received.port c.bits.new.self c.bits.ensures.fed in
     let drained = g.met.P.Port.drained_keeps_inputs c.bits.new.self c.take.new.drain c.take.ensures.drained in
     let counts = g.met.P.Port.kept_counts c.args.port.now c.loop-received.port inv.kept in
     let later : g.P.Drain.drain_faults c.args.port.now ≤ g.P.Drain.drain_faults c.bits.new.self = omega (arith, counts.1, fed.1) in
-    let few : c.loop-received.received + length (take n c.bits.new.into) ≤ c.args.bits = omega (arith, length-take-le n c.bits.new.into within, c.in_ok-count.ensures.count.1, length-take c.part-most.result c.loop-received.buffer, c.part-most.ensures.left, c.loop-received-test.true) in
+    let few : c.loop-received.received + length bits ≤ c.args.bits = omega (arith, count, c.in_ok-count.ensures.count.1, c.part-most.ensures.left, c.loop-received-test.true) in
     rw (p.1, p.2)
-    (put_stops_many (g.R.Rx.meaning c.args.receiver.now) (g.R.Rx.meaning c.loop-received.receiver) (g.R.Rx.stands c.loop-received.receiver) c.loop-received.received c.args.bits (take n c.bits.new.into) (g.P.Feed.inputs c.args.port.now)
+    (put_stops_many (g.R.Rx.meaning c.args.receiver.now) (g.R.Rx.meaning c.loop-received.receiver) (g.R.Rx.stands c.loop-received.receiver) c.loop-received.received c.args.bits bits (g.P.Feed.inputs c.args.port.now)
     (g.P.Feed.inputs c.loop-received.port) (g.P.Feed.inputs c.bits.new.self) (g.P.Feed.inputs c.take.new.drain) (g.P.Drain.outputs c.args.port.now) (g.P.Drain.outputs c.loop-received.port) (g.P.Drain.outputs c.bits.new.self)
-    (g.P.Drain.outputs c.take.new.drain) (g.P.Feed.feed_faults c.args.port.now) (g.P.Feed.feed_faults c.take.new.drain) _ _ _ inv.same drained.0 fed.0 few inv.receives c.in_ok-count.ensures.ok
-    (subst (λ bits. TakesPart (g.R.Rx.meaning c.loop-received.receiver) bits (g.R.Rx.stands c.loop-received.receiver) (g.P.Drain.outputs c.bits.new.self) (g.P.Drain.outputs c.take.new.drain)) (take-append-le n c.bits.new.into _ within) c.in_err-take.ensures.part) later c.in_err-take.ensures.cause.failed)
+    (g.P.Drain.outputs c.take.new.drain) (g.P.Feed.feed_faults c.args.port.now) (g.P.Feed.feed_faults c.take.new.drain) _ _ _ inv.same drained.0 fed.0 few inv.receives (subst (λ (l : List Bool). Takes (for_leaf 0 l) (g.P.Feed.inputs c.loop-received.port) (g.P.Feed.inputs c.bits.new.self)) whole c.in_ok-count.ensures.ok)
+    c.in_err-take.ensures.part later c.in_err-take.ensures.cause.failed)
 
 pub returns-in_err-take-clause-kept : goal.returns-in_err-take-clause-kept
 returns-in_err-take-clause-kept g c =
@@ -76,20 +81,23 @@ pub loop-received-preserved : goal.loop-received-preserved
 loop-received-preserved g c =
     let inv = c.loop-received.invariant in
     let n = c.in_ok-count.count in
-    let within : n ≤ length c.bits.new.into = omega (arith, c.in_ok-count.ensures.count.1, c.bits.auto.into) in
+    let bits : List Bool = c.bits.new.into.bits in
+    let whole : gained c.clear.new.self c.bits.new.into ≡ bits = gained_whole c.clear.new.self c.bits.new.into (ap (λ (b : BoundedBits). b.bits) c.clear.ensures) in
+    let count : length bits ≡ n = sym (ap (λ (l : List Bool). length l) whole) ∙ c.in_ok-count.ensures.grown.count in
     let fed = g.met.P.Port.fed_keeps_outputs c.loop-received.port c.bits.new.self c.bits.ensures.fed in
     let drained = g.met.P.Port.drained_keeps_inputs c.bits.new.self c.take.new.drain c.take.ensures.drained in
     let kept = g.met.P.Port.kept_join c.args.port.now c.loop-received.port c.bits.new.self inv.kept (g.met.P.Port.fed_is_kept c.loop-received.port c.bits.new.self c.bits.ensures.fed) in
     record {
-      within = omega (arith, c.in_ok-count.ensures.count.1, length-take c.part-most.result c.loop-received.buffer, c.part-most.ensures.left, c.loop-received-test.true);
+      within = omega (arith, c.in_ok-count.ensures.count.1, c.part-most.ensures.left, c.loop-received-test.true);
+      room = c.in_ok-count.ensures.grown.capacity ∙ ap (λ (b : BoundedBits). b.capacity) c.clear.ensures ∙ inv.room;
       same = c.take.ensures.same ∙ inv.same;
       kept = g.met.P.Port.kept_join c.args.port.now c.bits.new.self c.take.new.drain kept (g.met.P.Port.drained_is_kept c.bits.new.self c.take.new.drain c.take.ensures.drained);
       inputs = ap (λ i. i.holds) drained.0 ∙ g.met.P.Feed.fed_holds c.loop-received.port c.bits.new.self c.bits.ensures.fed ∙ inv.inputs;
       outputs = g.met.P.Drain.drained_holds c.bits.new.self c.take.new.drain c.take.ensures.drained ∙ ap (λ o. o.holds) fed.0 ∙ inv.outputs;
-      receives = receives_many (g.R.Rx.meaning c.args.receiver.now) (g.R.Rx.meaning c.loop-received.receiver) (g.R.Rx.stands c.loop-received.receiver) (g.R.Rx.stands c.take.new.self) c.loop-received.received n (take n c.bits.new.into)
+      receives = receives_many (g.R.Rx.meaning c.args.receiver.now) (g.R.Rx.meaning c.loop-received.receiver) (g.R.Rx.stands c.loop-received.receiver) (g.R.Rx.stands c.take.new.self) c.loop-received.received n bits
           (g.P.Feed.inputs c.args.port.now) (g.P.Feed.inputs c.loop-received.port) (g.P.Feed.inputs c.bits.new.self) (g.P.Feed.inputs c.take.new.drain) (g.P.Drain.outputs c.args.port.now) (g.P.Drain.outputs c.loop-received.port)
-          (g.P.Drain.outputs c.bits.new.self) (g.P.Drain.outputs c.take.new.drain) inv.same drained.0 fed.0 (length-take-le n c.bits.new.into within) inv.receives c.in_ok-count.ensures.ok
-          (subst (λ bits. TakesBits (g.R.Rx.meaning c.loop-received.receiver) bits (g.R.Rx.stands c.loop-received.receiver) (g.R.Rx.stands c.take.new.self) (g.P.Drain.outputs c.bits.new.self) (g.P.Drain.outputs c.take.new.drain)) (take-append-le n c.bits.new.into _ within) c.in_ok-take.ensures.taken);
+          (g.P.Drain.outputs c.bits.new.self) (g.P.Drain.outputs c.take.new.drain) inv.same drained.0 fed.0 count inv.receives (subst (λ (l : List Bool). Takes (for_leaf 0 l) (g.P.Feed.inputs c.loop-received.port) (g.P.Feed.inputs c.bits.new.self)) whole c.in_ok-count.ensures.ok)
+          c.in_ok-take.ensures.taken;
     }
 
 pub returns-clause-received : goal.returns-clause-received
@@ -105,4 +113,4 @@ pub returns-clause-same : goal.returns-clause-same
 returns-clause-same g c = c.loop-received.invariant.same
 
 pub bits-requires-clause-some : goal.bits-requires-clause-some
-bits-requires-clause-some g c = omega (arith, length-take c.part-most.result c.loop-received.buffer, c.part-most.ensures.some, c.part-most.ensures.room)
+bits-requires-clause-some g c = c.part-most.ensures.some

@@ -7,6 +7,7 @@ use Rattle.pdh_chain.proofs.receiving.receive_many.Given as goal
 abbrev pub invariant-loop-received : goal.invariant-loop-received
 invariant-loop-received g l = record {
   within : l.received ≤ l.bits;
+  room : l.buffer.capacity ≡ l.fn.buffer.capacity;
   same : g.R.Rx.meaning l.receiver ≡ g.R.Rx.meaning l.fn.receiver;
   kept : g.P.Port.kept l.fn.port l.port;
   inputs : (g.P.Feed.inputs l.port).holds ≡ (g.P.Feed.inputs l.fn.port).holds;

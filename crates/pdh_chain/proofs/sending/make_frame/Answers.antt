@@ -1,5 +1,7 @@
-use Rattle.std.proofs.Common.{◌≡◌, ◌+◌, ◌∙◌, refl, sym, arith}
+use Rattle.std.proofs.Common.{◌≡◌, ◌+◌, ◌∙◌, length, refl, sym, ap, arith}
 use Rattle.std.proofs.lemmas.Result.{err_from_is_err_and}
+use Rattle.std.proofs.lemmas.List.{length-append}
+use Rattle.pdh_bits.specs.BitOut.{BoundedBits}
 use Rattle.pdh_tx.specs.Meaning.{plan_of}
 use Rattle.pdh_chain.proofs.Frames.{makes_start, makes_more, stops_making}
 use Rattle.pdh_chain.proofs.sending.make_frame.Goals as goal
@@ -10,11 +12,11 @@ loop-made-init g c = record {
   same_says = refl;
   same = refl;
   fed = g.met.F.Feed.fed_same c.args.feed.now;
-  len = c.clear.ensures.len;
-  room = c.clear.ensures.capacity;
+  len = ap (λ f. length f.bits) c.clear.ensures;
+  room = ap (λ f. f.capacity) c.clear.ensures;
   makes = λ x says here told.
       makes_start (g.T.Tx.meaning c.args.sender.now) says (g.T.Tx.stands_at c.args.sender.now (plan_of c.args.clock.now)) (g.T.Tx.stands_for c.args.sender.now) (plan_of c.args.clock.now) x _ _ (g.F.Feed.inputs c.args.feed.now) (omega arith)
-      c.clear.ensures.items here;
+      (ap (λ f. f.bits) c.clear.ensures) here;
 }
 
 pub returns-in_err-bit-clause-stops : goal.returns-in_err-bit-clause-stops
@@ -23,7 +25,7 @@ returns-in_err-bit-clause-stops g c =
     rw (p.1, p.2)
     (λ x here.
     let makes = c.loop-made.invariant.makes x (λ n. g.T.Tx.says c.args.sender.now) here (λ y n l h begins. refl) in
-    stops_making (g.T.Tx.meaning c.args.sender.now) (g.T.Tx.meaning c.loop-made.sender) (λ n. g.T.Tx.says c.args.sender.now) _ _ _ (plan_of c.args.clock.now) x _ _ c.loop-made.frame.items _ (g.F.Feed.inputs c.args.feed.now) (g.F.Feed.inputs c.loop-made.feed)
+    stops_making (g.T.Tx.meaning c.args.sender.now) (g.T.Tx.meaning c.loop-made.sender) (λ n. g.T.Tx.says c.args.sender.now) _ _ _ (plan_of c.args.clock.now) x _ _ c.loop-made.frame.bits _ (g.F.Feed.inputs c.args.feed.now) (g.F.Feed.inputs c.loop-made.feed)
     (g.F.Feed.inputs c.next.new.feed) _ _ _ makes c.loop-made.invariant.same (g.met.F.Feed.fed_counts c.args.feed.now c.loop-made.feed c.loop-made.invariant.fed) (omega arith) (c.in_err-bit.ensures.stops _ makes.place))
 
 pub loop-made-preserved : goal.loop-made-preserved
@@ -34,12 +36,12 @@ loop-made-preserved g c =
       same_says = cc;
       same = cc;
       fed = g.met.F.Feed.fed_join c.args.feed.now c.loop-made.feed c.next.new.feed inv.fed c.next.ensures.fed;
-      len = omega arith;
-      room = cc;
+      len = ap (λ (f : BoundedBits). length f.bits) c.push.ensures ∙ length-append c.loop-made.frame.bits _ ∙ omega (arith, inv.len);
+      room = ap (λ f. f.capacity) c.push.ensures ∙ inv.room;
       makes = λ x says here told.
           let makes = inv.makes x says here told in
-          makes_more (g.T.Tx.meaning c.args.sender.now) (g.T.Tx.meaning c.loop-made.sender) says (g.T.Tx.says c.loop-made.sender) _ _ _ _ _ (plan_of c.args.clock.now) x _ _ c.loop-made.frame.items _ _ (g.F.Feed.inputs c.args.feed.now)
-          (g.F.Feed.inputs c.loop-made.feed) (g.F.Feed.inputs c.next.new.feed) inv.same (λ n begins. told (x + c.loop-made._made) n (omega arith) (omega (arith, c.loop-made-test.true)) begins ∙ sym inv.same_says) (omega arith) c.push_reserved.ensures.items makes (c.in_ok-bit.ensures.made _ makes.place);
+          makes_more (g.T.Tx.meaning c.args.sender.now) (g.T.Tx.meaning c.loop-made.sender) says (g.T.Tx.says c.loop-made.sender) _ _ _ _ _ (plan_of c.args.clock.now) x _ _ c.loop-made.frame.bits _ _ (g.F.Feed.inputs c.args.feed.now)
+          (g.F.Feed.inputs c.loop-made.feed) (g.F.Feed.inputs c.next.new.feed) inv.same (λ n begins. told (x + c.loop-made._made) n (omega arith) (omega (arith, c.loop-made-test.true)) begins ∙ sym inv.same_says) (omega arith) (ap (λ f. f.bits) c.push.ensures) makes (c.in_ok-bit.ensures.made _ makes.place);
     }
 
 pub next-requires-clause-stands : goal.next-requires-clause-stands

@@ -1,4 +1,4 @@
-use Rattle.std.proofs.Common.{◌≡◌, ℕ, ◌+◌, false, vec_capacity, vec_len}
+use Rattle.std.proofs.Common.{◌≡◌, ℕ, ◌+◌, false, length}
 use Rattle.pdh_shape.specs.declared.role.Service.{Service}
 use Rattle.pdh_tx.specs.Meaning.{plan_of}
 use Rattle.pdh_chain.specs.Muxing.{SayInFrames, MakesBits}
@@ -11,8 +11,8 @@ invariant-loop-made g l = record {
   same_says : g.T.Tx.says l.sender ≡ g.T.Tx.says l.fn.sender;
   same : g.T.Tx.meaning l.sender ≡ g.T.Tx.meaning l.fn.sender;
   fed : g.F.Feed.fed l.fn.feed l.feed;
-  len : vec_len l.frame ≡ l._made;
-  room : vec_capacity l.frame ≡ vec_capacity l.fn.frame;
+  len : length l.frame.bits ≡ l._made;
+  room : l.frame.capacity ≡ l.fn.frame.capacity;
   makes : (x : ℕ) (says : ℕ → Service) → g.T.Tx.stands_at l.fn.sender (plan_of l.fn.clock) x → SayInFrames (g.T.Tx.meaning l.fn.sender) says (g.T.Tx.says l.fn.sender) x (x + l.len)
-      → MakesBits (g.T.Tx.meaning l.fn.sender) says (g.T.Tx.stands_at l.sender (plan_of l.fn.clock)) (g.T.Tx.stands_for l.fn.sender) (g.T.Tx.stands_for l.sender) (plan_of l.fn.clock) x (x + l._made) l.frame.items (g.F.Feed.inputs l.fn.feed) (g.F.Feed.inputs l.feed);
+      → MakesBits (g.T.Tx.meaning l.fn.sender) says (g.T.Tx.stands_at l.sender (plan_of l.fn.clock)) (g.T.Tx.stands_for l.fn.sender) (g.T.Tx.stands_for l.sender) (plan_of l.fn.clock) x (x + l._made) l.frame.bits (g.F.Feed.inputs l.fn.feed) (g.F.Feed.inputs l.feed);
 }

@@ -44,9 +44,9 @@ returns-in-Err-put_all-clause-fails g c =
     let counts = g.met.P.Port.kept_counts c.args.port.now c.loop-whole.port inv.kept in
     let later : g.P.Drain.drain_faults c.args.port.now ≤ g.P.Drain.drain_faults c.make_frame.new.feed = omega (arith, fed.1, counts.1) in
     sending_fails m (g.T.Tx.meaning c.set.new.self) (says_of c.args.feac) (g.T.Tx.stands_at c.set.new.self plan) (g.T.Tx.stands_at c.make_frame.new.sender plan) (g.T.Tx.stands_for c.args.sender.now)
-    (g.T.Tx.stands_for c.set.new.self) (g.T.Tx.stands_for c.make_frame.new.sender) plan c.args.len c.args.frames c.loop-whole._whole c.make_frame.new.frame.items c.deref.result.now (g.P.Feed.inputs c.args.port.now)
+    (g.T.Tx.stands_for c.set.new.self) (g.T.Tx.stands_for c.make_frame.new.sender) plan c.args.len c.args.frames c.loop-whole._whole c.make_frame.new.frame.bits c.make_frame.new.frame.bits (g.P.Feed.inputs c.args.port.now)
     (g.P.Feed.inputs c.loop-whole.port) (g.P.Feed.inputs c.make_frame.new.feed) (g.P.Feed.inputs c.put_all.new.self) (g.P.Drain.outputs c.args.port.now) (g.P.Drain.outputs c.loop-whole.port) (g.P.Drain.outputs c.make_frame.new.feed)
-    (g.P.Drain.outputs c.put_all.new.self) (g.P.Drain.drain_faults c.args.port.now) (g.P.Drain.drain_faults c.make_frame.new.feed) (g.P.Drain.drain_faults c.put_all.new.self) same c.deref.ensures.value
+    (g.P.Drain.outputs c.put_all.new.self) (g.P.Drain.drain_faults c.args.port.now) (g.P.Drain.drain_faults c.make_frame.new.feed) (g.P.Drain.drain_faults c.put_all.new.self) same refl
     (g.met.P.Port.drained_keeps_inputs c.make_frame.new.feed c.put_all.new.self c.put_all.ensures.drained).0 fed.0 c.loop-whole-test.true later sending
     (c.in_default.ensures.made (c.loop-whole._whole * c.args.len) (says_of c.args.feac) sending.makes.place told) c.in-Err-put_all.ensures.err c.in-Err-put_all.ensures.cause.failed
 
@@ -78,9 +78,9 @@ loop-whole-preserved g c =
       lists = ap (λ i. i.holds) drained.0 ∙ g.met.P.Feed.fed_holds c.loop-whole.port c.make_frame.new.feed c.make_frame.ensures.fed ∙ inv.lists;
       lines = g.met.P.Drain.drained_holds c.make_frame.new.feed c.put_all.new.self c.put_all.ensures.drained ∙ ap (λ o. o.holds) fed.0 ∙ inv.lines;
       sending = sending_more m (g.T.Tx.meaning c.set.new.self) (says_of c.args.feac) (g.T.Tx.stands_at c.set.new.self plan) (g.T.Tx.stands_at c.make_frame.new.sender plan) (g.T.Tx.stands_for c.args.sender.now)
-          (g.T.Tx.stands_for c.set.new.self) (g.T.Tx.stands_for c.make_frame.new.sender) plan (c.loop-whole._whole * c.args.len) (c.loop-whole._whole * c.args.len + c.args.len) ((c.loop-whole._whole + 1) * c.args.len) c.make_frame.new.frame.items
-          c.deref.result.now (g.P.Feed.inputs c.args.port.now) (g.P.Feed.inputs c.loop-whole.port) (g.P.Feed.inputs c.make_frame.new.feed) (g.P.Feed.inputs c.put_all.new.self) (g.P.Drain.outputs c.args.port.now)
-          (g.P.Drain.outputs c.loop-whole.port) (g.P.Drain.outputs c.make_frame.new.feed) (g.P.Drain.outputs c.put_all.new.self) same c.deref.ensures.value drained.0 fed.0 (frame_end c.loop-whole._whole c.args.len) sending
+          (g.T.Tx.stands_for c.set.new.self) (g.T.Tx.stands_for c.make_frame.new.sender) plan (c.loop-whole._whole * c.args.len) (c.loop-whole._whole * c.args.len + c.args.len) ((c.loop-whole._whole + 1) * c.args.len) c.make_frame.new.frame.bits
+          c.make_frame.new.frame.bits (g.P.Feed.inputs c.args.port.now) (g.P.Feed.inputs c.loop-whole.port) (g.P.Feed.inputs c.make_frame.new.feed) (g.P.Feed.inputs c.put_all.new.self) (g.P.Drain.outputs c.args.port.now)
+          (g.P.Drain.outputs c.loop-whole.port) (g.P.Drain.outputs c.make_frame.new.feed) (g.P.Drain.outputs c.put_all.new.self) same refl drained.0 fed.0 (frame_end c.loop-whole._whole c.args.len) sending
           (c.in_default.ensures.made (c.loop-whole._whole * c.args.len) (says_of c.args.feac) sending.makes.place told) c.in_default-put_all.ensures.ok;
     }
 

@@ -1,4 +1,4 @@
-use Rattle.std.proofs.Common.{◌≡◌, ◌*◌, false, vec_capacity}
+use Rattle.std.proofs.Common.{◌≡◌, ◌*◌, false}
 use Rattle.pdh_tx.specs.Meaning.{plan_of}
 use Rattle.pdh_chain.specs.Saying.{says_of, HasSaid}
 use Rattle.pdh_chain.proofs.Frames.{Sending}
@@ -10,7 +10,7 @@ invariant-loop-whole g l = record {
   running : g.T.Tx.is_stopped l.sender ≡ false;
   said : HasSaid l.channel l.fn.feac l._whole;
   same : g.T.Tx.meaning l.sender ≡ g.T.Tx.meaning l.fn.sender;
-  room : vec_capacity l.frame ≡ vec_capacity l.fn.frame;
+  room : l.frame.capacity ≡ l.fn.frame.capacity;
   kept : g.P.Port.kept l.fn.port l.port;
   lists : (g.P.Feed.inputs l.port).holds ≡ (g.P.Feed.inputs l.fn.port).holds;
   lines : (g.P.Drain.outputs l.port).holds ≡ (g.P.Drain.outputs l.fn.port).holds;

@@ -18,7 +18,7 @@ room-requires g c =
 pub demux-end-requires-clause-line : goal.demux-end-requires-clause-line
 demux-end-requires-clause-line g c =
     ap (λ (i : Inputs). i.holds 0) c.loop-leaf.invariant.inputs ∙ ap (λ (i : Inputs). i.holds 0) c.in_ok-port.ensures.inputs
-    ∙ ap (λ l. nat_lt 0 (length (map items_of l))) (c.in_ok-push.ensures.items ∙ ap (λ l. l ++ c.args.line ∷ []) c.new-lists.ensures.items)
+    ∙ ap (λ l. nat_lt 0 (length (map items_of l))) (c.in_ok-push.ensures.items ∙ ap (λ l. l ++ c.in_ok-of_bits.field-0 ∷ []) c.new-lists.ensures.items)
 
 pub demux-end-requires-clause-leaves : goal.demux-end-requires-clause-leaves
 demux-end-requires-clause-leaves g c k low =

@@ -8,7 +8,7 @@ room-requires g c = record { held = ap (λ o. o.holds 1) c.in_ok-port.ensures.ou
 pub bit-requires : goal.bit-requires
 bit-requires g c =
     ap (λ i. i.holds 0) c.start.ensures.inputs ∙ ap (λ i. i.holds 0) c.room.ensures.inputs ∙ ap (λ i. i.holds 0) c.in_ok-port.ensures.inputs
-    ∙ ap (λ l. nat_lt 0 (length (map items_of l))) (c.in_ok-push.ensures.items ∙ ap (λ l. l ++ c.in_ok-vec.field-0 ∷ []) c.new-lists.ensures.items)
+    ∙ ap (λ l. nat_lt 0 (length (map items_of l))) (c.in_ok-push.ensures.items ∙ ap (λ l. l ++ c.in_ok-list_of.field-0 ∷ []) c.new-lists.ensures.items)
 
 pub put-requires : goal.put-requires
 put-requires g c =
@@ -30,7 +30,7 @@ output-requires g c =
     ap (λ h. h 0) c.put-3.ensures.drained.2 ∙ ap (λ v. nat_lt 0 (length (map items_of v.items))) c.bit-3.ensures.fed.0 ∙ ap (λ h. h 0) c.put-2.ensures.drained.2 ∙ ap (λ v. nat_lt 0 (length (map items_of v.items))) c.bit-2.ensures.fed.0 ∙ ap (λ h. h 0) c.put.ensures.drained.2 ∙ ap (λ v. nat_lt 0 (length (map items_of v.items))) c.bit.ensures.fed.0
     ∙ ap (λ o. o.holds 0) c.start.ensures.outputs ∙ ap (λ o. o.holds 0) c.room.ensures.outputs ∙ ap (λ o. o.holds 0) c.in_ok-port.ensures.outputs
 
-pub output-requires-2 : goal.output-requires-2
-output-requires-2 g c =
+pub output-output-requires : goal.output-output-requires
+output-output-requires g c =
     ap (λ h. h 1) c.put-3.ensures.drained.2 ∙ ap (λ v. nat_lt 1 (length (map items_of v.items))) c.bit-3.ensures.fed.0 ∙ ap (λ h. h 1) c.put-2.ensures.drained.2 ∙ ap (λ v. nat_lt 1 (length (map items_of v.items))) c.bit-2.ensures.fed.0 ∙ ap (λ h. h 1) c.put.ensures.drained.2 ∙ ap (λ v. nat_lt 1 (length (map items_of v.items))) c.bit.ensures.fed.0
     ∙ ap (λ o. o.holds 1) c.start.ensures.outputs ∙ ap (λ o. o.holds 1) c.room.ensures.outputs ∙ ap (λ o. o.holds 1) c.in_ok-port.ensures.outputs

@@ -14,12 +14,13 @@ returns-in_err-put_all-clause-part g c =
     let bits = c.args.held.now.items in
     let k = c.args.frame in
     let n = c.loop-number.number in
-    let copied : c.copy_bits.new.into ≡ take 248 (drop (256 * (k + n) + 8) bits) = c.copy_bits.ensures ∙ ap (λ m. take m (drop (256 * (k + n) + 8) bits)) c.loop-number.invariant.room in
-    let more : payload_from (frames_of bits) k (n + 1) ≡ payload_from (frames_of bits) k n ++ c.copy_bits.new.into = payload_more bits k n (256 * (k + n) + 8) (omega arith) refl ∙ ap (λ (x : List Bool). payload_from (frames_of bits) k n ++ x) (sym copied) in
+    let payload : List Bool = c.bits.result.now.bits in
+    let copied : payload ≡ take 248 (drop (256 * (k + n) + 8) bits) = c.bits.ensures ∙ c.load.ensures in
+    let more : payload_from (frames_of bits) k (n + 1) ≡ payload_from (frames_of bits) k n ++ payload = payload_more bits k n (256 * (k + n) + 8) (omega arith) refl ∙ ap (λ (x : List Bool). payload_from (frames_of bits) k n ++ x) (sym copied) in
     let front = payload_begins bits k (n + 1) c.args.count (omega arith) in
-    let begins : IsPrefix (payload_from (frames_of bits) k n ++ c.copy_bits.new.into) (payload_from (frames_of bits) k c.args.count) = subst (λ (x : List Bool). IsPrefix x (payload_from (frames_of bits) k c.args.count)) more front in
+    let begins : IsPrefix (payload_from (frames_of bits) k n ++ payload) (payload_from (frames_of bits) k c.args.count) = subst (λ (x : List Bool). IsPrefix x (payload_from (frames_of bits) k c.args.count)) more front in
     rw p.1
-    (puts_part 0 (payload_from (frames_of bits) k n) c.copy_bits.new.into (payload_from (frames_of bits) k c.args.count) (outputs c.args.drain.now) (outputs c.loop-number.drain) (outputs c.put_all.new.self)
+    (puts_part 0 (payload_from (frames_of bits) k n) payload (payload_from (frames_of bits) k c.args.count) (outputs c.args.drain.now) (outputs c.loop-number.drain) (outputs c.put_all.new.self)
     c.loop-number.invariant.puts c.in_err-put_all.ensures.err begins)
 
 pub loop-number-preserved : goal.loop-number-preserved
@@ -28,11 +29,11 @@ loop-number-preserved g c =
     let bits = c.args.held.now.items in
     let k = c.args.frame in
     let n = c.loop-number.number in
-    let copied : c.copy_bits.new.into ≡ take 248 (drop (256 * (k + n) + 8) bits) = c.copy_bits.ensures ∙ ap (λ m. take m (drop (256 * (k + n) + 8) bits)) c.loop-number.invariant.room in
-    let more : payload_from (frames_of bits) k (n + 1) ≡ payload_from (frames_of bits) k n ++ c.copy_bits.new.into = payload_more bits k n (256 * (k + n) + 8) (omega arith) refl ∙ ap (λ (x : List Bool). payload_from (frames_of bits) k n ++ x) (sym copied) in
+    let payload : List Bool = c.bits.result.now.bits in
+    let copied : payload ≡ take 248 (drop (256 * (k + n) + 8) bits) = c.bits.ensures ∙ c.load.ensures in
+    let more : payload_from (frames_of bits) k (n + 1) ≡ payload_from (frames_of bits) k n ++ payload = payload_more bits k n (256 * (k + n) + 8) (omega arith) refl ∙ ap (λ (x : List Bool). payload_from (frames_of bits) k n ++ x) (sym copied) in
     record {
-      room = c.copy_bits.auto.into ∙ c.loop-number.invariant.room;
       puts = subst (λ (x : List Bool). Puts (for_leaf 0 x) (outputs c.args.drain.now) (outputs c.put_all.new.self)) (sym more)
-          (puts_then 0 (payload_from (frames_of bits) k n) c.copy_bits.new.into (outputs c.args.drain.now) (outputs c.loop-number.drain) (outputs c.put_all.new.self) c.loop-number.invariant.puts c.in_ok-put_all.ensures.ok);
+          (puts_then 0 (payload_from (frames_of bits) k n) payload (outputs c.args.drain.now) (outputs c.loop-number.drain) (outputs c.put_all.new.self) c.loop-number.invariant.puts c.in_ok-put_all.ensures.ok);
       drained = g.met.D.Drain.drained_join c.args.drain.now c.loop-number.drain c.put_all.new.self c.loop-number.invariant.drained c.put_all.ensures.drained;
     }

@@ -32,17 +32,17 @@ pub with_leaf-drill-requires-clause-out : goal.with_leaf-drill-requires-clause-o
 with_leaf-drill-requires-clause-out c =
     let leaf = c.loop-leaf.leaf in
     let low : leaf < leaves_of c.args.chain = omega (arith, c.leaves-leaf-end.ensures.value) in
-    let bits : c.output-bits.result.now ≡ output_of c.args.chain c.args.seed c.args.frames leaf = came_out c.args.chain c.args.seed c.args.frames leaf _ c.output-bits.result.now c.output-bits.ensures (c.requires.received.told leaf low) in
+    let bits : c.output-bits.result.now.bits ≡ output_of c.args.chain c.args.seed c.args.frames leaf = came_out c.args.chain c.args.seed c.args.frames leaf _ c.output-bits.result.now.bits c.output-bits.ensures (c.requires.received.told leaf low) in
     omega (arith, ap length bits, out_fewer c.args.chain c.args.seed c.args.frames leaf low, entered_few c.args.chain c.args.frames c.args.clock.now c.requires.clock leaf c.requires.few low)
 
 pub loop-leaf-preserved : goal.loop-leaf-preserved
 loop-leaf-preserved c =
     let leaf = c.loop-leaf.leaf in
     let low : leaf < leaves_of c.args.chain = omega (arith, c.leaves-leaf-end.ensures.value) in
-    let bits : c.output-bits.result.now ≡ output_of c.args.chain c.args.seed c.args.frames leaf = came_out c.args.chain c.args.seed c.args.frames leaf _ c.output-bits.result.now c.output-bits.ensures (c.requires.received.told leaf low) in
+    let bits : c.output-bits.result.now.bits ≡ output_of c.args.chain c.args.seed c.args.frames leaf = came_out c.args.chain c.args.seed c.args.frames leaf _ c.output-bits.result.now.bits c.output-bits.ensures (c.requires.received.told leaf low) in
     let enters : c.entered-entered.result ≡ entered_of c.args.chain c.args.frames leaf = c.entered-entered.ensures ∙ entered_answer c.args.chain c.args.frames c.args.clock.now c.requires.clock leaf in
-    leaf_more c.args.chain c.args.seed c.args.frames leaf _ _ _ c.loop-leaf.drill _ c.loop-leaf.invariant enters (ap length bits)
-    (c.is_prefix-equal.ensures ∙ ap (λ n. starts_with beq (pattern c.args.seed leaf n) c.output-bits.result.now) enters ∙ ap (starts_with beq (input_of c.args.chain c.args.seed c.args.frames leaf)) bits)
+    leaf_more c.args.chain c.args.seed c.args.frames leaf _ _ _ c.loop-leaf.drill _ c.loop-leaf.invariant enters (c.len.ensures.count ∙ ap length bits)
+    (c.is_prefix-equal.ensures ∙ ap (λ n. starts_with beq (pattern c.args.seed leaf n) c.output-bits.result.now.bits) enters ∙ ap (starts_with beq (input_of c.args.chain c.args.seed c.args.frames leaf)) bits)
     c.with_leaf-drill.ensures
 
 pub returns : goal.returns

@@ -12,6 +12,6 @@ send-requires-clause-enough c = record {
 
 pub returns : goal.returns
 returns c =
-    subst (λ line. IfOk c.from_slice.result (λ copy. copy.items ≡ line))
-    (line_sent c.args.chain c.args.seed c.args.frames c.args.clock.now c.in_ok-inputs.inputs.items c.output.result.now _ _ _ _ c.requires.clock c.in_ok-inputs.ensures c.in_ok-port.ensures.inputs c.in_ok-port.ensures.outputs c.in_ok-send.ensures.ok c.output.ensures)
-    c.from_slice.ensures.items
+    subst (λ line. IfOk c.copied.result (λ copy. copy.bits ≡ line))
+    (line_sent c.args.chain c.args.seed c.args.frames c.args.clock.now c.in_ok-inputs.inputs.items c.output.result.now.bits _ _ _ _ c.requires.clock c.in_ok-inputs.ensures c.in_ok-port.ensures.inputs c.in_ok-port.ensures.outputs c.in_ok-send.ensures.ok c.output.ensures)
+    c.copied.ensures

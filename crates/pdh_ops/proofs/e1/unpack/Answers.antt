@@ -1,4 +1,4 @@
-use Rattle.std.proofs.Common.{ap, refl, ◌∙◌}
+use Rattle.std.proofs.Common.{ap, refl}
 use Rattle.pdh_edge.specs.Ports.{Outputs}
 use Rattle.pdh_ops.proofs.E1Unpacking.{is_unpacked}
 use Rattle.pdh_ops.proofs.e1.unpack.Goals as goal
@@ -8,5 +8,5 @@ deliver-requires-clause-list c = ap (λ (o : Outputs). o.holds 0) c.in_ok-port.e
 
 pub returns : goal.returns
 returns c =
-    is_unpacked c.args.line.now c.deref.result.now c.output.result.now _ _ _ _ _ _ _ (c.deref.ensures.value ∙ c.in_ok-bits.ensures) c.in_ok-port.ensures c.in_ok-deliver.ensures.put c.output.ensures c.in_ok-payload.ensures
+    is_unpacked c.args.line.now _ c.output.result.now.bits _ _ _ _ _ _ _ refl c.in_ok-port.ensures c.in_ok-deliver.ensures.put c.output.ensures c.in_ok-payload.ensures
     c.in_ok-deliver.ensures.stands c.multiframes.ensures c.blocks-2.ensures c.errored.ensures refl

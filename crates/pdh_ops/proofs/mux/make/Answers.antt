@@ -16,4 +16,4 @@ send-requires-clause-enough c = record {
 pub returns : goal.returns
 returns c =
     let is : IsOpened c.args.chain c.args.leaves.items _ _ = record { all = c.requires.count; inputs_are = c.in_ok-port.ensures.inputs; outputs_are = c.in_ok-port.ensures.outputs } in
-    sent_made c.args.chain c.args.feac c.args.clock.now.rows c.args.leaves.items _ _ _ _ c.output.result.now c.in_ok-bytes.bytes c.args.frames c.in_ok-end.end c.requires.frames is c.output.ensures c.in_ok-end.ensures.ok c.in_ok-bytes.ensures
+    sent_made c.args.chain c.args.feac c.args.clock.now.rows c.args.leaves.items _ _ _ _ c.output.result.now.bits c.in_ok-bytes.bytes c.args.frames c.in_ok-end.end c.requires.frames is c.output.ensures c.in_ok-end.ensures.ok c.in_ok-bytes.ensures

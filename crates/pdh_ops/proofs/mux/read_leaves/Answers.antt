@@ -1,6 +1,6 @@
-use Rattle.std.proofs.Common.{◌≡◌, None, refl, suc, ℕ, ◌*◌, ◌<◌, ◌∷◌, [], ◌++◌, Bool, Vec, List, length, ap, sym, ◌∙◌, subst, arith}
+use Rattle.std.proofs.Common.{◌≡◌, None, refl, suc, ℕ, ◌*◌, ◌<◌, ◌∷◌, [], ◌++◌, List, length, ap, sym, ◌∙◌, subst, arith}
 use Rattle.std.specs.Prelude.{slice_index}
-use Rattle.std.specs.declared.alloc.Global.{Global}
+use Rattle.pdh_bits.specs.BitOut.{BoundedBits}
 use Rattle.std.proofs.lemmas.Grind.{common_steps}
 use Rattle.std.proofs.lemmas.Result.{err_from_is_err_and}
 use Rattle.pdh_bits.specs.Bits.{bits_of}
@@ -72,18 +72,18 @@ loop-leaf-preserved g c =
     let old = g.S.Shelf.state c.args.shelf.now in
     let here : c.loop-leaf.leaf < leaves_of c.args.chain = omega (arith, c.leaf_count-leaf-end.ensures.value) in
     let leaf = c.loop-leaf.leaf in
-    let bits : Vec Bool Global = c.in_ok-bits.bits in
+    let bits : BoundedBits = c.in_ok-bits.bits in
     let bytes : List ℕ = c.in_ok-bytes.bytes.items in
     let pushed : c.push.new.self.items ≡ c.loop-leaf.leaves.items ++ bits ∷ [] = grind (arith, common_steps) in
-    let made : bits.items ≡ bits_of bytes = c.in_ok-bits.ensures ∙ ap bits_of c.deref.ensures.value in
-    let long : length bits.items ≡ 8 * slice_index c.args.sizes.now.leaves leaf = ap length made ∙ length-bits_of bytes ∙ ap (λ n. 8 * n) c.in_ok-bytes.ensures.len in
+    let made : bits.bits ≡ bits_of bytes = (ap (λ (l : BoundedBits). l.bits) c.in_ok-bits.ensures) ∙ ap bits_of c.deref.ensures.value in
+    let long : length bits.bits ≡ 8 * slice_index c.args.sizes.now.leaves leaf = ap length made ∙ length-bits_of bytes ∙ ap (λ n. 8 * n) c.in_ok-bytes.ensures.len in
     let holds : Holds (old.told (leaf_name leaf)) bytes = subst (λ (t : List ℕ → Told). Holds (t (leaf_name leaf)) bytes) inv.looks.told c.in_ok-bytes.ensures.ok in
     record {
       looks = looks_then _ _ _ inv.looks c.read.ensures.looks;
       same = c.in_ok-bytes.ensures.counted ∙ inv.same;
       count = grind (arith, common_steps);
-      len = each_pushed (λ k v. length v.items ≡ 8 * slice_index c.args.sizes.now.leaves k) c.loop-leaf.leaves.items c.push.new.self.items bits leaf pushed inv.count inv.len long;
-      bits = each_pushed (λ k v. OfInputs (Mux c.args.chain None) old (λ files. v.items ≡ leaf_bits files k)) c.loop-leaf.leaves.items c.push.new.self.items bits leaf pushed inv.count inv.bits
+      len = each_pushed (λ k v. length v.bits ≡ 8 * slice_index c.args.sizes.now.leaves k) c.loop-leaf.leaves.items c.push.new.self.items bits leaf pushed inv.count inv.len long;
+      bits = each_pushed (λ k v. OfInputs (Mux c.args.chain None) old (λ files. v.bits ≡ leaf_bits files k)) c.loop-leaf.leaves.items c.push.new.self.items bits leaf pushed inv.count inv.bits
           (λ files told. made ∙ sym (bits_are c.args.chain None old leaf bytes files here holds told));
     }
 

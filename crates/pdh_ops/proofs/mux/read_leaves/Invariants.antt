@@ -1,6 +1,6 @@
-use Rattle.std.proofs.Common.{None, ◌≡◌, ℕ, ◌<◌, ◌*◌, Bool, Vec, length}
+use Rattle.std.proofs.Common.{None, ◌≡◌, ℕ, ◌<◌, ◌*◌, length}
 use Rattle.std.specs.Prelude.{slice_index, slice_index_or}
-use Rattle.std.specs.declared.alloc.Global.{Global}
+use Rattle.pdh_bits.specs.BitOut.{BoundedBits}
 use Rattle.pdh_edge.specs.Files.{Looks}
 use Rattle.pdh_ops.specs.Mux.{leaf_bits}
 use Rattle.pdh_ops.specs.Commands.{OfInputs}
@@ -15,6 +15,6 @@ invariant-loop-leaf g l =
       looks : Looks old new;
       same : new.counts ≡ old.counts;
       count : length l.leaves.items ≡ l.leaf;
-      len : (k : ℕ) (d : Vec Bool Global) → k < l.leaf → length (slice_index_or l.leaves.items k d).items ≡ 8 * slice_index l.sizes.leaves k;
-      bits : (k : ℕ) (d : Vec Bool Global) → k < l.leaf → OfInputs (Mux l.fn.chain None) old (λ files. (slice_index_or l.leaves.items k d).items ≡ leaf_bits files k);
+      len : (k : ℕ) (d : BoundedBits) → k < l.leaf → length (slice_index_or l.leaves.items k d).bits ≡ 8 * slice_index l.sizes.leaves k;
+      bits : (k : ℕ) (d : BoundedBits) → k < l.leaf → OfInputs (Mux l.fn.chain None) old (λ files. (slice_index_or l.leaves.items k d).bits ≡ leaf_bits files k);
     }

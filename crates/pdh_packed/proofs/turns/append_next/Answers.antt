@@ -29,7 +29,7 @@ returns-in-len4 c =
     (item lists c.b-item.result place count 1 _ c.b-item.is (omega arith) c.read_left-in-len4.ensures)
     (item lists c.c-item.result place count 2 _ c.c-item.is (omega arith) c.read_left-in-len4-2.ensures)
     (item lists c.d-item.result place count 3 _ c.d-item.is (omega arith) c.read_left-in-len4-3.ensures)) in
-    c.append_rows.ensures ∙ ap (λ (bits : List Bool). bounded line.capacity (line.bits ++ bits)) alike
+    c.append_four.ensures ∙ ap (λ (bits : List Bool). bounded line.capacity (line.bits ++ bits)) alike
 
 pub returns-in-len7 : goal.returns-in-len7
 returns-in-len7 c =
@@ -49,4 +49,4 @@ returns-in-len7 c =
     (item lists c.e-item.result place count 4 _ c.e-item.is (omega arith) c.read_left-in-len7-5.ensures)
     (item lists c.f-item.result place count 5 _ c.f-item.is (omega arith) c.read_left-in-len7-6.ensures)
     (item lists c.g-item.result place count 6 _ c.g-item.is (omega arith) c.read_left-in-len7-7.ensures)) in
-    c.append_rows-in-len7.ensures ∙ ap (λ (bits : List Bool). bounded line.capacity (line.bits ++ bits)) alike
+    c.append_rows.ensures ∙ ap (λ (bits : List Bool). bounded line.capacity (line.bits ++ bits)) alike

@@ -30,12 +30,12 @@ give_slot-requires-clause-known g c =
     names_known s c.loop-slot.slot g.S.Shape.TRIBS c.role-role.result g.met.S.Shape.has_tributaries inside c.role-role.ensures g.met.S.Shape.tribs_is
 
 pub give_slot-requires-clause-tells : goal.give_slot-requires-clause-tells
-give_slot-requires-clause-tells g c = (after_acts c.requires.tells.0 (flat_map (slot_acts g.S.Shape.shape c.args.strip.now.frame) (range_with_len 0 c.loop-slot.slot)), c.loop-slot.invariant.played.gives.each _ c.requires.tells.1)
+give_slot-requires-clause-tells g c = (after_acts c.requires.tells.0 (flat_map (slot_acts g.S.Shape.shape c.args.copy.now) (range_with_len 0 c.loop-slot.slot)), c.loop-slot.invariant.played.gives.each _ c.requires.tells.1)
 
 pub loop-slot-preserved : goal.loop-slot-preserved
 loop-slot-preserved g c =
     let s = g.S.Shape.shape in
-    let frame = c.args.strip.now.frame in
+    let frame = c.args.copy.now in
     let t = c.loop-slot.slot in
     let f : ℕ → List Act = slot_acts s frame in
     let inv = c.loop-slot.invariant in
@@ -53,7 +53,7 @@ loop-slot-preserved g c =
 pub returns-in_err-give_slot-clause-part : goal.returns-in_err-give_slot-clause-part
 returns-in_err-give_slot-clause-part g c =
     let s = g.S.Shape.shape in
-    let frame = c.args.strip.now.frame in
+    let frame = c.args.copy.now in
     let t = c.loop-slot.slot in
     let f : ℕ → List Act = slot_acts s frame in
     let inv = c.loop-slot.invariant in
@@ -71,7 +71,7 @@ returns-clause-played g c =
     let s = g.S.Shape.shape in
     let t = c.loop-slot.slot in
     let whole : t ≡ s.len = omega (arith, g.met.S.Shape.len_is) in
-    plays_same g.C.Rx.tells g.W.Watch.saw _ _ _ _ _ _ _ _ _ (ap (λ n. flat_map (slot_acts s c.args.strip.now.frame) (range_with_len 0 n)) (sym whole)) c.loop-slot.invariant.played
+    plays_same g.C.Rx.tells g.W.Watch.saw _ _ _ _ _ _ _ _ _ (ap (λ n. flat_map (slot_acts s c.args.copy.now) (range_with_len 0 n)) (sym whole)) c.loop-slot.invariant.played
 
 pub returns-in_err-give_slot-clause-cause : goal.returns-in_err-give_slot-clause-cause
 returns-in_err-give_slot-clause-cause g c = cause_since c.from_residual.result _ _ _ (g.met.D.Drain.drained_counts _ _ c.loop-slot.invariant.drained) c.in_err-give_slot.ensures.cause.later c.in_err-give_slot.ensures.cause.failed

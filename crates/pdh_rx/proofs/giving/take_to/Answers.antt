@@ -22,8 +22,8 @@ returns-clause-given g c =
     let at : slice_get c.args.children.now.items c.args.trib ≡ Some c.index_mut.result.now = slice_get_read _ _ c.args.trib _ refl c.requires.known c.index_mut.ensures.value in
     let among = slice_get-map g.C.Rx.meaning c.args.children.now.items c.args.trib ∙ rw at refl in
     on_ok_weaker c.take.result (λ taken. record {
-      each = λ lines each. each_with_bits g.C.Rx.stands _ lines c.args.trib c.args.bits.now c.take.new.self each (taken.stands (lines c.args.trib) (each c.args.trib _ at));
-      gains = λ lines each. gains_of_one _ lines c.args.trib c.args.bits.now (g.C.Rx.meaning c.index_mut.result.now) among c.requires.disjoint (g.met.C.Rx.sound c.index_mut.result.now) _ _ (taken.gains (lines c.args.trib) (each c.args.trib _ at));
+      each = λ lines each. each_with_bits g.C.Rx.stands _ lines c.args.trib c.args.bits.now.bits c.take.new.self each (taken.stands (lines c.args.trib) (each c.args.trib _ at));
+      gains = λ lines each. gains_of_one _ lines c.args.trib c.args.bits.now.bits (g.C.Rx.meaning c.index_mut.result.now) among c.requires.disjoint (g.met.C.Rx.sound c.index_mut.result.now) _ _ (taken.gains (lines c.args.trib) (each c.args.trib _ at));
     }) c.take.ensures.taken
 
 pub returns-clause-part : goal.returns-clause-part
@@ -31,7 +31,7 @@ returns-clause-part g c =
     let at : slice_get c.args.children.now.items c.args.trib ≡ Some c.index_mut.result.now = slice_get_read _ _ c.args.trib _ refl c.requires.known c.index_mut.ensures.value in
     let among = slice_get-map g.C.Rx.meaning c.args.children.now.items c.args.trib ∙ rw at refl in
     on_err_weaker c.take.result (λ p. record {
-      gains = λ lines each. part_of_one _ lines c.args.trib c.args.bits.now (g.C.Rx.meaning c.index_mut.result.now) among c.requires.disjoint (g.met.C.Rx.sound c.index_mut.result.now) _ _ (p.gains (lines c.args.trib) (each c.args.trib _ at));
+      gains = λ lines each. part_of_one _ lines c.args.trib c.args.bits.now.bits (g.C.Rx.meaning c.index_mut.result.now) among c.requires.disjoint (g.met.C.Rx.sound c.index_mut.result.now) _ _ (p.gains (lines c.args.trib) (each c.args.trib _ at));
     }) c.take.ensures.part
 
 pub returns-clause-same : goal.returns-clause-same

@@ -37,11 +37,11 @@ loop-trib-preserved g c =
     let t = c.loop-trib.trib in
     let f : ℕ → List Bool = λ j. stripped g.S.Shape.shape j (frame_back c.args.aligner.now.ready c.args.back) in
     let ms = map g.C.Rx.meaning c.args.children.now.items in
-    let is : c.bits.result.now ≡ f t = c.bits.ensures ∙ c.read.ensures.bits ∙ ap (stripped g.S.Shape.shape t) inv.frame in
+    let is : c.bits.result.now.bits ≡ f t = c.bits.ensures ∙ c.read.ensures.bits ∙ ap (stripped g.S.Shape.shape t) inv.frame in
     record {
       same = ok.same ∙ inv.same;
       frame = c.read.ensures.frame ∙ inv.frame;
-      given = gives_join g.C.Rx.stands ms (first_bits f t) (for_leaf t c.bits.result.now) _ _ _ _ _ _ _ (first_bits_push f t c.bits.result.now is) inv.given (gives_at g.C.Rx.stands ms _ inv.same _ _ _ _ _ ok.given);
+      given = gives_join g.C.Rx.stands ms (first_bits f t) (for_leaf t c.bits.result.now.bits) _ _ _ _ _ _ _ (first_bits_push f t c.bits.result.now.bits is) inv.given (gives_at g.C.Rx.stands ms _ inv.same _ _ _ _ _ ok.given);
       drained = g.met.D.Drain.drained_join _ _ _ inv.drained ok.drained;
     }
 
@@ -52,10 +52,10 @@ returns-in_err-take_to-clause-part g c =
     let t = c.loop-trib.trib in
     let f : ℕ → List Bool = λ j. stripped g.S.Shape.shape j (frame_back c.args.aligner.now.ready c.args.back) in
     let ms = map g.C.Rx.meaning c.args.children.now.items in
-    let is : c.bits.result.now ≡ f t = c.bits.ensures ∙ c.read.ensures.bits ∙ ap (stripped g.S.Shape.shape t) inv.frame in
+    let is : c.bits.result.now.bits ≡ f t = c.bits.ensures ∙ c.read.ensures.bits ∙ ap (stripped g.S.Shape.shape t) inv.frame in
     on_err_from _ c.from_residual.result
-    (gives_part g.C.Rx.stands ms (all_sound g.C.Rx.meaning g.met.C.Rx.sound c.args.children.now.items) (first_bits f t) (for_leaf t c.bits.result.now) _ _ _ _ _ _
-    (first_bits_begin f t c.bits.result.now is) inv.given (part_at g.C.Rx.stands ms _ inv.same _ _ _ _ err.part))
+    (gives_part g.C.Rx.stands ms (all_sound g.C.Rx.meaning g.met.C.Rx.sound c.args.children.now.items) (first_bits f t) (for_leaf t c.bits.result.now.bits) _ _ _ _ _ _
+    (first_bits_begin f t c.bits.result.now.bits is) inv.given (part_at g.C.Rx.stands ms _ inv.same _ _ _ _ err.part))
 
 pub returns-clause-given : goal.returns-clause-given
 returns-clause-given g c =

@@ -1,4 +1,4 @@
-use Rattle.std.proofs.Common.{◌<◌, ◌≤◌, ◌+◌, length, drop, get_or, arith}
+use Rattle.std.proofs.Common.{◌<◌, ◌≤◌, ◌+◌, length, drop, get_or, refl, ◌∙◌, arith}
 use Rattle.std.proofs.lemmas.Result.{err_from_is_err_and}
 use Rattle.pdh_script.specs.Stored.{rows_in}
 use Rattle.pdh_script.proofs.Disturbing.{disturbing_begins, kept_passes, kept_stops, change_stops, change_done, end_ok, end_err, no_step, step_next, no_step_left}
@@ -6,6 +6,7 @@ use Rattle.pdh_script.proofs.passing.disturb.Goals as goal
 
 pub loop-step-init : goal.loop-step-init
 loop-step-init g c = record {
+  capacity = refl;
   kept = g.met.P.Port.kept_same c.args.port.now;
   disturbing = disturbing_begins c.args.bits c.args.steps.now c.args.bytes.now (g.P.Feed.inputs c.args.port.now) (g.P.Drain.outputs c.args.port.now) c.requires.fit c.requires.enough;
 }
@@ -60,6 +61,7 @@ loop-step-preserved g c =
     let before = kept_passes (rows_in steps c.args.bytes.now) c.args.bits c.loop-step.place c.from.result (get_or steps i no_step) (drop (i + 1) steps) c.loop-step.added.now
     (g.P.Feed.inputs c.args.port.now) (g.P.Feed.inputs c.loop-step.port) (g.P.Feed.inputs c.pass.new.port) (g.P.Drain.outputs c.args.port.now) (g.P.Drain.outputs c.loop-step.port) (g.P.Drain.outputs c.pass.new.port) d c.from.ensures c.in_ok-pass.ensures.ok in
     record {
+      capacity = c.in_ok-make_change.ensures.capacity ∙ c.in_ok-pass.ensures.capacity ∙ inv.capacity;
       kept = g.met.P.Port.kept_join c.args.port.now c.pass.new.port c.make_change.new.port passed c.in_ok-make_change.ensures.kept;
       disturbing = change_done (rows_in steps c.args.bytes.now) c.args.bits c.loop-step.place c.end-place.result c.bytes.result (get_or steps i no_step) (drop (i + 1) steps) c.loop-step.added.now
           (g.P.Feed.inputs c.args.port.now) (g.P.Feed.inputs c.loop-step.port) (g.P.Feed.inputs c.pass.new.port) (g.P.Feed.inputs c.make_change.new.port)

@@ -1,4 +1,4 @@
-use Rattle.std.proofs.Common.{◌≤◌, ◌-◌}
+use Rattle.std.proofs.Common.{◌≡◌, ◌≤◌, ◌-◌}
 use Rattle.pdh_script.specs.Applying.{Passes}
 use Rattle.pdh_script.specs.Stored.{becomes}
 use Rattle.pdh_script.proofs.passing.pass.Given as goal
@@ -7,6 +7,7 @@ use Rattle.pdh_script.proofs.passing.pass.Given as goal
 abbrev pub invariant-loop-passed : goal.invariant-loop-passed
 invariant-loop-passed g l = record {
   within : l.passed ≤ l.bits;
+  capacity : l.buffer.capacity ≡ l.fn.buffer.capacity;
   kept : g.P.Port.kept l.fn.port l.port;
   passes : Passes (becomes l.effect) l.passed (g.P.Feed.inputs l.fn.port) (g.P.Feed.inputs l.port) (g.P.Drain.outputs l.fn.port) (g.P.Drain.outputs l.port);
 }

@@ -2,7 +2,7 @@ use Rattle.std.proofs.Common.{map, ap, ◌∙◌, arith}
 use Rattle.std.proofs.lemmas.List.{take_all}
 use Rattle.std.proofs.lemmas.Simd.{map-map}
 use Rattle.pdh_shape.specs.Frame.{slots}
-use Rattle.pdh_slots.specs.Slots.{is_payload}
+use Rattle.pdh_shape.specs.Payload.{is_payload}
 use Rattle.pdh_slots.proofs.list.payload.Goals as goal
 
 pub returns : goal.returns

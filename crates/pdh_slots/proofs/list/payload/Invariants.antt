@@ -1,5 +1,5 @@
 use Rattle.std.proofs.Common.{◌≡◌, map, take}
-use Rattle.pdh_slots.specs.Slots.{is_payload}
+use Rattle.pdh_shape.specs.Payload.{is_payload}
 use Rattle.pdh_slots.proofs.list.payload.Given as goal
 
 -- those of the roles so far

@@ -3,7 +3,7 @@ use Rattle.std.specs.Bool.{beq}
 use Rattle.pdh_shape.specs.Frame.{FrameShape}
 use Rattle.pdh_line.specs.Sending.{odd_before}
 use Rattle.pdh_tx.specs.Node.{odd_within}
-use Rattle.pdh_slots.specs.Slots.{is_payload}
+use Rattle.pdh_shape.specs.Payload.{is_payload}
 use Rattle.pdh_tx.proofs.Parity.{odd_next, odd_before-suc, odd_within-zero}
 use Rattle.pdh_tx.proofs.position.after.Goals as goal
 

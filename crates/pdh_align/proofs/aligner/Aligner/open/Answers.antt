@@ -7,5 +7,8 @@ use Rattle.pdh_align.proofs.aligner.Aligner.open.Goals as goal
 
 pub returns-clause-stands : goal.returns-clause-stands
 returns-clause-stands g c =
-    let empty : [] ≡ c.in_ok-held.held.items = ap (λ b. b.items) (sym c.in_ok-held.ensures) in
-    subst (λ bits. StandsFor g.S.Shape.shape (Searching bits) []) empty (stands_empty g.S.Shape.shape g.met.S.Shape.is_frame)
+    let empty : [] ≡ c.in_ok-held.held.bits = ap (λ b. b.bits) (sym c.in_ok-held.ensures) in
+    let s = g.S.Shape.shape in
+    let search = c.in_ok-search.search in
+    let kept = stands_empty s search g.met.S.Shape.is_frame c.in_ok-search.ensures in
+    subst (λ bits. StandsFor s (record { phase = Searching bits; search = search; ready = [] }) []) empty kept

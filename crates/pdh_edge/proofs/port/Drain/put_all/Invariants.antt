@@ -3,8 +3,8 @@ use Rattle.pdh_edge.specs.Ports.{Puts, for_leaf}
 use Rattle.pdh_edge.proofs.port.Drain.put_all.Given as goal
 
 -- the bits so far are put
-abbrev pub invariant-loop-bit : goal.invariant-loop-bit
-invariant-loop-bit g l = record {
-  puts : Puts (for_leaf l.leaf (take l.bit-index l.bits)) (g.Self.Drain.outputs l.fn.self) (g.Self.Drain.outputs l.self);
+abbrev pub invariant-loop-place : goal.invariant-loop-place
+invariant-loop-place g l = record {
+  puts : Puts (for_leaf l.leaf (take l.place l.bits.bits)) (g.Self.Drain.outputs l.fn.self) (g.Self.Drain.outputs l.self);
   drained : g.Self.Drain.drained l.fn.self l.self;
 }

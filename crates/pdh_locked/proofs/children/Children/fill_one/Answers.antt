@@ -1,25 +1,31 @@
-use Rattle.std.proofs.Common.{◌≡◌, ◌+◌, ℕ, Bool, false, List, length, map, refl, sym, ap, ◌∙◌, subst, arith, take, drop, ◌++◌}
-use Rattle.std.proofs.lemmas.List.{length-set, length-append, length-drop, length-take-le}
+use Rattle.std.proofs.Common.{◌+◌, ◌≤◌, ℕ, Bool, false, List, length, map, slice_set, refl, sym, ap, ◌∙◌, subst, arith}
+use Rattle.std.specs.List.{range_with_len}
+use Rattle.std.proofs.lemmas.List.{length-set}
+use Rattle.std.proofs.lemmas.List.Elements.{All-set}
 use Rattle.std.proofs.lemmas.Option.{slice_get_read}
 use Rattle.std.proofs.lemmas.Result.{on_ok_weaker, on_err_weaker}
 use Rattle.std.proofs.Math.Seq.{map-set_same}
 use Rattle.pdh_shape.specs.Frame.{FrameShape}
 use Rattle.pdh_shape.specs.declared.place.Path.{Path}
 use Rattle.pdh_line.proofs.SendingLaws.{sends_more-locked}
-use Rattle.pdh_slots.specs.Slots.{Writes}
+use Rattle.pdh_bits.specs.BitOut.{BoundedBits}
+use Rattle.pdh_shape.specs.Tributary.{reads_from}
+use Rattle.pdh_runs.specs.Pieces.{FillsColumn}
+use Rattle.pdh_runs.proofs.Counts.{before_most}
 use Rattle.pdh_tx.specs.declared.tx.TxStop.TheVariants.{Failed}
 use Rattle.pdh_tx.specs.Meaning.{plan_of, Plan, Supply, Meaning}
 use Rattle.pdh_tx.specs.Held.{Gains, Halts}
 use Rattle.pdh_tx.specs.Making.{IsClear}
 use Rattle.pdh_tx.specs.Node.{IsDisjoint, below}
-use Rattle.pdh_tx.specs.Passing.{up_to, HoldsBitsOf}
+use Rattle.pdh_tx.specs.Passing.{up_to, carried_in, HoldsBitsOf}
 use Rattle.pdh_tx.specs.Locked.{locked_to}
 use Rattle.pdh_tx.specs.laws.Growing.{given_more}
 use Rattle.pdh_tx.proofs.Moving.{leaf_of, stays_one}
 use Rattle.pdh_tx.proofs.Advancing.{upto_here, upto_most}
-use Rattle.pdh_tx.proofs.PassingAll.{placed_one, passes_one, holds_from}
+use Rattle.pdh_tx.proofs.Passing.{carried_is}
+use Rattle.pdh_tx.proofs.PassingAll.{placed_one, passes_one, holds_from, column_same, column_other}
 use Rattle.pdh_locked.specs.Children.{Stands, placed_in, held_in, filled_in}
-use Rattle.pdh_locked.specs.laws.LockedLaws.{below_grows, reads_most}
+use Rattle.pdh_locked.specs.laws.LockedLaws.{below_grows}
 use Rattle.pdh_locked.proofs.OneSlot.{read_locked}
 use Rattle.pdh_locked.proofs.Filled.{next_one}
 use Rattle.pdh_locked.proofs.children.Children.fill_one.Goals as goal
@@ -27,28 +33,27 @@ use Rattle.pdh_locked.proofs.children.Children.fill_one.Goals as goal
 pub fill-requires-clause-lists : goal.fill-requires-clause-lists
 fill-requires-clause-lists g c k leaf =
     let here = slice_get_read _ _ c.args.trib _ refl (omega (arith, c.requires.trib, c.args.self.now.count)) c.index_mut.ensures.value in
-    let one = next_one g.C.Tx g.S.Shape.shape c.args.self.now.list.items (plan_of c.args.clock.now) c.args.frame c.args.slot _ c.args.trib _ (length c.args.into.now) here refl c.requires.placed in
+    let one = next_one g.C.Tx g.S.Shape.shape c.args.self.now.list.items (plan_of c.args.clock.now) c.args.frame c.args.slot _ c.args.trib _ (c.args.len) here refl c.requires.placed in
     c.requires.fed.lists k (leaf_of _ c.args.trib k _ one.maker leaf)
 
 pub fill-requires-clause-nodes : goal.fill-requires-clause-nodes
 fill-requires-clause-nodes g c =
     let here = slice_get_read _ _ c.args.trib _ refl (omega (arith, c.requires.trib, c.args.self.now.count)) c.index_mut.ensures.value in
-    let one = next_one g.C.Tx g.S.Shape.shape c.args.self.now.list.items (plan_of c.args.clock.now) c.args.frame c.args.slot _ c.args.trib _ (length c.args.into.now) here refl c.requires.placed in
+    let one = next_one g.C.Tx g.S.Shape.shape c.args.self.now.list.items (plan_of c.args.clock.now) c.args.frame c.args.slot _ c.args.trib _ (c.args.len) here refl c.requires.placed in
     c.requires.fed.nodes c.args.trib _ one.maker
 
 pub fill-requires-clause-room : goal.fill-requires-clause-room
 fill-requires-clause-room g c =
     let s : FrameShape = g.S.Shape.shape in
-    let most = reads_most s g.met.S.Shape.has_tributaries c.args.trib (c.args.slot + length c.args.into.now) (omega (arith, c.requires.inside, g.met.S.Shape.len_is)) in
-    let queue = ap length c.deref_mut.ensures.value in
-    omega (arith, most, queue, c.args.self.now.room, g.met.S.Shape.low_is)
+    let most = before_most (λ t. reads_from c.args.trib false (s.role t)) (c.args.slot + c.args.len) in
+    omega (arith, most, c.requires.inside, c.args.self.now.room.queue)
 
 pub fill-requires-clause-clear : goal.fill-requires-clause-clear
 fill-requires-clause-clear g c =
     let plan : Plan = plan_of c.args.clock.now in
     let s : FrameShape = g.S.Shape.shape in
     let here = slice_get_read _ _ c.args.trib _ refl (omega (arith, c.requires.trib, c.args.self.now.count)) c.index_mut.ensures.value in
-    let one = next_one g.C.Tx s c.args.self.now.list.items plan c.args.frame c.args.slot _ c.args.trib _ (length c.args.into.now) here refl c.requires.placed in
+    let one = next_one g.C.Tx s c.args.self.now.list.items plan c.args.frame c.args.slot _ c.args.trib _ (c.args.len) here refl c.requires.placed in
     let f : ℕ = locked_to s c.args.frame c.args.slot c.args.trib in
     let K : ℕ → Type 0 = λ k. IsClear (g.C.Tx.meaning c.index_mut.result.now) plan f k (g.F.Feed.inputs c.args.feed.now) in
     (f, one.was, subst K (sym one.left) (c.requires.clear _ one.maker))
@@ -65,8 +70,8 @@ returns-clause-placed g c =
     let cs = c.args.self.now.list.items in
     let here = slice_get_read _ _ i _ refl (omega (arith, c.requires.trib, c.args.self.now.count)) c.index_mut.ensures.value in
     let f : ℕ → ℕ = locked_to s c.args.frame c.args.slot in
-    let f' : ℕ → ℕ = locked_to s c.args.frame (c.args.slot + length c.args.into.now) in
-    let one = next_one g.C.Tx s cs plan c.args.frame c.args.slot _ i _ (length c.args.into.now) here refl c.requires.placed in
+    let f' : ℕ → ℕ = locked_to s c.args.frame (c.args.slot + c.args.len) in
+    let one = next_one g.C.Tx s cs plan c.args.frame c.args.slot _ i _ (c.args.len) here refl c.requires.placed in
     on_ok_weaker c.fill.result
     (λ now. placed_one (placed_in g.C.Tx) (held_in g.C.Tx) g.C.Tx.meaning no_path plan cs i c.fill.new.child f f' f f' c.requires.placed (subst (Stands g.C.Tx c.fill.new.child plan) one.left (now (f i) one.was)))
     c.fill.ensures.placed
@@ -78,26 +83,37 @@ returns-clause-fills g c =
     let i : ℕ = c.args.trib in
     let n : ℕ = c.args.frame in
     let t : ℕ = c.args.slot in
+    let len : ℕ = c.args.len in
+    let column : List Bool = c.fill.new.column.bits in
+    let after : List (List Bool) = map (λ (column : BoundedBits). column.bits) (slice_set c.args.self.now.scratch.columns.items i c.fill.new.column) in
+    let own = column_same c.args.self.now.scratch.columns.items i c.fill.new.column (omega (arith, c.requires.trib, c.args.self.now.room.count)) in
     let cs = c.args.self.now.list.items in
     let w = c.index_mut.result.now in
     let w' = c.fill.new.child in
-    let bits : List Bool = c.fill.new.into in
     let here = slice_get_read _ _ i _ refl (omega (arith, c.requires.trib, c.args.self.now.count)) c.index_mut.ensures.value in
     let f : ℕ → ℕ = locked_to s n t in
-    let f' : ℕ → ℕ = locked_to s n (t + length c.args.into.now) in
-    let one = next_one g.C.Tx s cs plan n t _ i w (length c.args.into.now) here refl c.requires.placed in
-    let new : Supply → ℕ → ℕ → Type 0 = filled_in g.C.Tx s i t (f i) w w' bits in
+    let f' : ℕ → ℕ = locked_to s n (t + len) in
+    let one = next_one g.C.Tx s cs plan n t _ i w len here refl c.requires.placed in
+    let new : Supply → ℕ → ℕ → Type 0 = filled_in g.C.Tx s i t len (f i) w w' column in
     let X : ℕ → Type 0 = λ v. Gains (g.C.Tx.meaning w) plan (held_in g.C.Tx w) new (f i) v (f i) (g.F.Feed.inputs c.args.feed.now) (g.F.Feed.inputs c.fill.new.feed) in
     on_ok_weaker c.fill.result
-    (λ gains path. passes_one (placed_in g.C.Tx) (held_in g.C.Tx) g.C.Tx.meaning path plan cs i w w' f f' f f' new (λ source. HoldsBitsOf s source n t bits i) _ _ c.args.self.now.disjoint here
+    (λ gains path. passes_one (placed_in g.C.Tx) (held_in g.C.Tx) g.C.Tx.meaning path plan cs i w w' f f' f f' new (λ source. HoldsBitsOf s source n t len after i) _ _ c.args.self.now.disjoint here
     (subst X one.left (gains (f i) one.was))
     (λ supply is both.
-    let Y : ℕ → Type 0 = λ v. Writes s i false t ((g.C.Tx.meaning w).line (below supply)) v bits in (
+    let Y : ℕ → Type 0 = λ v. FillsColumn s i false t len (map ((g.C.Tx.meaning w).line (below supply)) (range_with_len v (carried_in s i false t len))) column in (
       both.0,
-      holds_from s path (map g.C.Tx.meaning cs) plan supply n t i i false (g.C.Tx.meaning w) bits is refl (sym (sends_more-locked s (plan.counts path i) n c.args.self.now.locked)) one.maker
+      holds_from s path (map g.C.Tx.meaning cs) plan supply n t len i (carried_in s i false t len) false (g.C.Tx.meaning w) after column is (sym (sends_more-locked s (plan.counts path i) n c.args.self.now.locked)) one.maker own (carried_is s i false t len)
           (subst Y (sym (read_locked s c.args.self.now.locked (plan.counts path i) n t i)) both.1),
     )))
     c.fill.ensures.gains
+
+pub returns-clause-rows : goal.returns-clause-rows
+returns-clause-rows g c =
+    let own = column_same c.args.self.now.scratch.columns.items c.args.trib c.fill.new.column (omega (arith, c.requires.trib, c.args.self.now.room.count)) in
+    on_ok_weaker c.fill.result (λ long. ap length own ∙ long) c.fill.ensures.rows
+
+pub returns-clause-earlier : goal.returns-clause-earlier
+returns-clause-earlier g c j less = column_other c.args.self.now.scratch.columns.items c.args.trib j c.fill.new.column (omega (arith, less))
 
 pub returns-clause-halts : goal.returns-clause-halts
 returns-clause-halts g c =
@@ -106,13 +122,13 @@ returns-clause-halts g c =
     let i : ℕ = c.args.trib in
     let n : ℕ = c.args.frame in
     let t : ℕ = c.args.slot in
-    let u : ℕ = t + length c.args.into.now in
+    let u : ℕ = t + c.args.len in
     let cs = c.args.self.now.list.items in
     let w = c.index_mut.result.now in
     let here = slice_get_read _ _ i _ refl (omega (arith, c.requires.trib, c.args.self.now.count)) c.index_mut.ensures.value in
     let f : ℕ → ℕ = locked_to s n t in
     let f' : ℕ → ℕ = locked_to s n u in
-    let one = next_one g.C.Tx s cs plan n t u i w (length c.args.into.now) here refl c.requires.placed in
+    let one = next_one g.C.Tx s cs plan n t u i w (c.args.len) here refl c.requires.placed in
     let m : Meaning = g.C.Tx.meaning w in
     let X : ℕ → Type 0 = λ v. Halts m plan (f i) v Failed (g.F.Feed.inputs c.args.feed.now) (g.F.Feed.inputs c.fill.new.feed) in
     let Y : ℕ → Type 0 = λ v. Halts m plan v (f' i) Failed (g.F.Feed.inputs c.args.feed.now) (g.F.Feed.inputs c.fill.new.feed) in
@@ -134,10 +150,13 @@ invariant_of-self-clause-disjoint g c =
 
 pub invariant_of-self-clause-room : goal.invariant_of-self-clause-room
 invariant_of-self-clause-room g c =
-    let queue = c.args.self.now.queue in
-    let new : List Bool = c.fill.new.queue in
-    let same : length new ≡ length queue.items = c.fill.auto.queue ∙ ap length c.deref_mut.ensures.value in
-    let rest : List Bool = drop (length new) queue.items in
-    let all : length (new ++ rest) ≡ length queue.items = omega (arith, same, length-append new rest, length-drop (length new) queue.items) in
-    let kept : length (take queue.len (new ++ rest)) ≡ length queue.items = length-take-le queue.len (new ++ rest) (omega (arith, queue.ok.0, all)) ∙ omega (arith, queue.ok.0) in
-    omega (arith, kept, c.args.self.now.room)
+    let columns = c.args.self.now.scratch.columns.items in
+    let P : BoundedBits → Type 0 = λ column. g.S.Shape.LOW + 1 ≤ column.capacity in
+    let was : P c.index_mut-2.result.now = subst P (sym c.index_mut-2.ensures.value) (c.args.self.now.room.columns c.args.trib _ (omega (arith, c.requires.trib, c.args.self.now.room.count))) in
+    record {
+      queue = omega (arith, c.args.self.now.room.queue, c.fill.ensures.queue_room);
+      count = length-set columns c.args.trib c.fill.new.column ∙ c.args.self.now.room.count;
+      columns = All-set P columns c.args.trib c.fill.new.column (omega (arith, was, c.fill.ensures.column_room)) c.args.self.now.room.columns;
+      overhead = c.args.self.now.room.overhead;
+      payload = c.args.self.now.room.payload;
+    }

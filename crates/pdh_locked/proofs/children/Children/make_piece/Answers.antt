@@ -1,39 +1,65 @@
-use Rattle.std.proofs.Common.{◌≡◌, ◌+◌, ◌≤◌, ℕ, List, Bool, length, sym, ap, ◌∙◌, subst, arith}
+use Rattle.std.proofs.Common.{◌≡◌, ◌+◌, ◌≤◌, ℕ, List, Bool, length, map, refl, sym, ap, ◌∙◌, subst, arith, slice_get}
+use Rattle.std.specs.Prelude.{All}
 use Rattle.std.proofs.lemmas.List.{length-map}
-use Rattle.std.proofs.lemmas.Result.{on_err_weaker}
+use Rattle.pdh_bits.specs.BitOut.{BoundedBits}
+use Rattle.pdh_packed.specs.Gaining.{gained}
 use Rattle.pdh_shape.specs.Frame.{FrameShape}
+use Rattle.pdh_runs.specs.Pieces.{rows, Assembled}
 use Rattle.pdh_tx.specs.declared.tx.TxStop.TheVariants.{Failed}
-use Rattle.pdh_tx.specs.Meaning.{plan_of, Plan}
-use Rattle.pdh_tx.specs.Making.{IsClear}
-use Rattle.pdh_tx.specs.Node.{EachPlaced, Stays}
-use Rattle.pdh_tx.specs.Passing.{HoldsBits}
+use Rattle.pdh_tx.specs.Meaning.{plan_of, Plan, Meaning}
+use Rattle.pdh_tx.specs.Node.{Stays}
+use Rattle.pdh_tx.specs.Passing.{up_to, HoldsBits, HasRows}
 use Rattle.pdh_tx.specs.Locked.{locked_to}
-use Rattle.pdh_tx.proofs.Gaining.{on_ok_three}
+use Rattle.pdh_tx.proofs.Gaining.{on_err_from}
 use Rattle.pdh_tx.proofs.Moving.{inside}
-use Rattle.pdh_locked.specs.Children.{placed_in, KeepsRest, meanings, HaveFilled, FillOn, GiveSlots}
+use Rattle.pdh_tx.proofs.PassingAll.{rows_all}
+use Rattle.pdh_locked.specs.Children.{meanings, columns, HaveMade, HaveFilled, FillOn}
 use Rattle.pdh_locked.proofs.Clearing.{passable, begins}
-use Rattle.pdh_locked.proofs.Filled.{upto_none, filled_gives}
+use Rattle.pdh_locked.proofs.Filled.{still_fed, still_made, still_fills, upto_none, filled_gives}
 use Rattle.pdh_locked.proofs.children.Children.make_piece.Goals as goal
+
+pub fill_all-requires-clause-fed : goal.fill_all-requires-clause-fed
+fill_all-requires-clause-fed g c =
+    still_fed c.args.self.now c.write_overhead.new.self c.args.clock.now (g.F.Feed.inputs c.args.feed.now) (g.F.Feed.inputs c.args.feed.now) (ap (λ l. map g.C.Tx.meaning l.items) c.write_overhead.ensures.list) refl c.requires.fed
 
 pub fill_all-requires-clause-placed : goal.fill_all-requires-clause-placed
 fill_all-requires-clause-placed g c =
     let s : FrameShape = g.S.Shape.shape in
-    let n : ℕ = c.args.frame in
-    let t : ℕ = c.args.slot in
-    let P : (ℕ → ℕ) → Type 0 = λ made. EachPlaced (placed_in g.C.Tx) c.args.self.now.list.items (plan_of c.args.clock.now) made made in
-    subst P (sym (upto_none (locked_to s n t) (locked_to s n (t + length c.write_overhead.new.into)))) c.requires.placed.made
+    let over = c.write_overhead.new.self in
+    let plan : Plan = plan_of c.args.clock.now in
+    let list = ap (λ l. l.items) c.write_overhead.ensures.list in
+    let P : (ℕ → ℕ) → Type 0 = λ made. HaveMade over plan made in
+    subst P (sym (upto_none (locked_to s c.args.frame c.args.slot) (locked_to s c.args.frame (c.args.slot + c.args.len)))) (still_made c.args.self.now over list plan _ c.requires.placed.made)
 
 pub fill_all-requires-clause-clear : goal.fill_all-requires-clause-clear
 fill_all-requires-clause-clear g c j m here =
     let s : FrameShape = g.S.Shape.shape in
-    let n : ℕ = c.args.frame in
-    let t : ℕ = c.args.slot in
     let cs = c.args.self.now in
-    let known = inside (meanings cs) j m here in
-    let K : ℕ → Type 0 = λ k. IsClear m (plan_of c.args.clock.now) (locked_to s n t j) (locked_to s n (t + k) j) (g.F.Feed.inputs c.args.feed.now) in
-    subst K (sym c.write_overhead.auto.into)
-    (passable g.C.Tx s c.args.path (plan_of c.args.clock.now) cs.list.items n t (length c.args.into.now) _ c.requires.clear j m cs.disjoint
-    (omega (arith, known, length-map cs.list.items g.C.Tx.meaning, cs.count, g.met.S.Shape.tribs_is)) here)
+    let same = ap (λ l. map g.C.Tx.meaning l.items) c.write_overhead.ensures.list in
+    let maker = ap (λ ms. slice_get ms j) (sym same) ∙ here in
+    let known = inside (meanings cs) j m maker in
+    passable g.C.Tx s c.args.path (plan_of c.args.clock.now) cs.list.items c.args.frame c.args.slot c.args.len _ c.requires.clear j m cs.disjoint (omega (arith, known, length-map cs.list.items g.C.Tx.meaning, cs.count, g.met.S.Shape.tribs_is)) maker
+
+pub returns-in_err-fill_all-in-Ok-clause-halts : goal.returns-in_err-fill_all-in-Ok-clause-halts
+returns-in_err-fill_all-in-Ok-clause-halts g c =
+    let s : FrameShape = g.S.Shape.shape in
+    let plan : Plan = plan_of c.args.clock.now in
+    let f : ℕ → ℕ = locked_to s c.args.frame c.args.slot in
+    let f' : ℕ → ℕ = locked_to s c.args.frame (c.args.slot + c.args.len) in
+    let same = ap (λ l. map g.C.Tx.meaning l.items) c.write_overhead.ensures.list in
+    let P : List Meaning → (ℕ → ℕ) → Type 0 = λ ms made. Stays ms plan made f' Failed (g.F.Feed.inputs c.args.feed.now) (g.F.Feed.inputs c.fill_all.new.feed) in
+    on_err_from c.from_residual.result (subst (P (meanings c.args.self.now)) (upto_none f f') (subst (λ (ms : List Meaning). P ms (up_to f f' 0)) same c.in_err-fill_all-in-Ok.ensures.halts))
+
+pub assemble-requires-clause-rows : goal.assemble-requires-clause-rows
+assemble-requires-clause-rows g c =
+    let new = c.fill_all.new.self in
+    let P : List BoundedBits → Type 0 = λ columns. All (λ column. length column.bits ≡ rows g.S.Shape.shape c.args.slot c.args.len) columns in
+    subst P (sym c.deref-in-Ok.ensures.value)
+    (rows_all g.S.Shape.shape c.args.slot c.args.len new.scratch.columns.items (subst (λ (k : ℕ). HasRows g.S.Shape.shape c.args.slot c.args.len (columns new) k) (sym new.room.count) c.in_ok-fill_all-in-Ok.ensures.rows))
+
+pub unreachable-requires : goal.unreachable-requires
+unreachable-requires g c =
+    begins g.C.Tx g.S.Shape.shape c.args.path (plan_of c.args.clock.now) c.args.self.now.list.items c.args.frame c.args.slot c.args.len _ c.requires.clear _ c.requires.some c.in-Err.ensures.met
 
 pub returns-clause-made : goal.returns-clause-made
 returns-clause-made g c =
@@ -41,36 +67,19 @@ returns-clause-made g c =
     let plan : Plan = plan_of c.args.clock.now in
     let n : ℕ = c.args.frame in
     let t : ℕ = c.args.slot in
+    let len : ℕ = c.args.len in
     let cs = c.args.self.now in
+    let over = c.write_overhead.new.self in
     let new = c.fill_all.new.self in
-    let over : List Bool = c.write_overhead.new.into in
-    let bits : List Bool = c.fill_all.new.into in
+    let ok = c.in_ok-fill_all-in-Ok.ensures in
+    let bits : List Bool = gained c.args.into.now c.assemble.new.into in
     let inputs = g.F.Feed.inputs in
+    let list = ap (λ l. l.items) c.write_overhead.ensures.list in
     let all : g.S.Shape.TRIBS ≡ s.tribs = sym g.met.S.Shape.tribs_is in
-    let over_long : length over ≡ length c.args.into.now = c.write_overhead.auto.into in
-    let bits_long : length bits ≡ length over = c.fill_all.auto.into in
-    let inside' : t + length over ≤ s.len = omega (arith, c.requires.inside, g.met.S.Shape.len_is, over_long) in
-    let G : ℕ → Type 0 = λ k. GiveSlots cs new c.args.path plan n t (t + k) c.args.say.now c.args.odd bits (inputs c.args.feed.now) (inputs c.fill_all.new.feed) in
-    on_ok_three c.fill_all.result c.fill_all.ensures.placed c.fill_all.ensures.fills c.fill_all.ensures.keeps
-    (λ place fills keeps.
-    subst G over_long
-    (filled_gives g.C.Tx s g.met.S.Shape.has_tributaries cs.locked c.args.path plan cs.list.items new.list.items n t (t + length over) c.args.say.now c.args.odd over bits _ _ (cs.count ∙ all) (new.count ∙ all) (ap (λ k. t + k) bits_long) inside' (sym bits_long)
-    c.in-Ok.ensures.scheduled c.in-Ok.ensures.bounded (λ v within info. c.write_overhead.ensures v (omega (arith, within, over_long)) info)
-    (subst (λ (k : ℕ). KeepsRest s t over bits k) all keeps)
-    (subst (λ (k : ℕ). HaveFilled new plan n t (t + length over) k) all place)
-    (subst (λ (k : ℕ). FillOn cs new plan n t (t + length over) 0 k (inputs c.args.feed.now) (inputs c.fill_all.new.feed) (λ source. HoldsBits s source n t bits k)) all fills c.args.path)))
-
-pub returns-clause-halts : goal.returns-clause-halts
-returns-clause-halts g c =
-    let s : FrameShape = g.S.Shape.shape in
-    let plan : Plan = plan_of c.args.clock.now in
-    let n : ℕ = c.args.frame in
-    let t : ℕ = c.args.slot in
-    let P : (ℕ → ℕ) → ℕ → Type 0 = λ made k. Stays (meanings c.args.self.now) plan made (locked_to s n (t + k)) Failed (g.F.Feed.inputs c.args.feed.now) (g.F.Feed.inputs c.fill_all.new.feed) in
-    on_err_weaker c.fill_all.result
-    (λ stays. subst (P (locked_to s n t)) c.write_overhead.auto.into (subst (λ made. P made (length c.write_overhead.new.into)) (upto_none (locked_to s n t) (locked_to s n (t + length c.write_overhead.new.into))) stays))
-    c.fill_all.ensures.halts
-
-pub unreachable-requires : goal.unreachable-requires
-unreachable-requires g c =
-    begins g.C.Tx g.S.Shape.shape c.args.path (plan_of c.args.clock.now) c.args.self.now.list.items c.args.frame c.args.slot (length c.args.into.now) _ c.requires.clear _ c.requires.some c.in-Err.ensures.met
+    let within : t + len ≤ s.len = omega (arith, c.requires.inside, g.met.S.Shape.len_is) in
+    let A : List Bool → List BoundedBits → Type 0 = λ overhead lists. Assembled s t len overhead (map (λ (column : BoundedBits). column.bits) lists) bits in
+    let assembled : A over.scratch.overhead.bits new.scratch.columns.items = subst (λ (overhead : BoundedBits). A overhead.bits new.scratch.columns.items) ok.overhead (subst (A new.scratch.overhead.bits) c.deref-in-Ok.ensures.value c.assemble.ensures.assembled) in
+    let F : ℕ → Type 0 = λ k. FillOn over new plan n t (t + len) 0 k (inputs c.args.feed.now) (inputs c.fill_all.new.feed) (λ source. HoldsBits s source n t len (columns new) k) in
+    let fills = still_fills cs over list plan new n t (t + len) 0 s.tribs _ _ _ (subst F all ok.fills) c.args.path in
+    filled_gives g.C.Tx s g.met.S.Shape.has_tributaries cs.locked c.args.path plan cs.list.items new.list.items n t (t + len) c.args.say.now c.args.odd len over.scratch.overhead.bits bits (columns new) _ _ (cs.count ∙ all) (new.count ∙ all) c.assemble.ensures.grown.count within
+    c.in-Ok.ensures.scheduled c.in-Ok.ensures.bounded c.write_overhead.ensures.bits assembled (subst (λ (k : ℕ). HaveFilled new plan n t (t + len) k) all ok.placed) fills

@@ -1,11 +1,16 @@
 use Rattle.std.proofs.Common.{◌≡◌, ◌<◌, ◌+◌, ℕ, [], false, length, get_or}
+use Rattle.pdh_runs.specs.Tables.{is_overhead}
+use Rattle.pdh_runs.proofs.Counts.{picked}
 use Rattle.pdh_tx.specs.Node.{overhead_bit}
-use Rattle.pdh_slots.specs.Slots.{is_info, is_other}
-use Rattle.pdh_slots.proofs.Picking.{before}
+use Rattle.pdh_tx.specs.Scratch.{HasRoom}
 use Rattle.pdh_locked.proofs.children.Children.write_overhead.Given as goal
 
--- the slots so far hold their bits
-abbrev pub invariant-loop-other : goal.invariant-loop-other
-invariant-loop-other g l =
-    (v : ℕ) → v < length l.fn.into → is_info (g.S.Shape.shape.role (l.first + v)) ≡ false → before (is_other g.S.Shape.shape) (l.first + v) < l.other-index
-    → get_or l.into v false ≡ overhead_bit g.S.Shape.shape l.say l.odd [] (g.S.Shape.shape.role (l.first + v))
+-- the bits of the slots so far
+abbrev pub invariant-loop-place : goal.invariant-loop-place
+invariant-loop-place g l = record {
+  list : l.self.list ≡ l.fn.self.list;
+  room : HasRoom g.S.Shape.LEN g.S.Shape.TRIBS g.S.Shape.LOW l.self.scratch;
+  count : l.from + length l.self.scratch.overhead.bits ≡ l.place;
+  bits : (i : ℕ) → i < length l.self.scratch.overhead.bits
+      → get_or l.self.scratch.overhead.bits i false ≡ overhead_bit g.S.Shape.shape l.say l.odd [] (g.S.Shape.shape.role (get_or (picked (is_overhead g.S.Shape.shape) g.S.Shape.shape.len) (l.from + i) 0));
+}

@@ -1,22 +1,23 @@
-use Rattle.std.proofs.Common.{◌+◌, ◌-◌, [], ◌++◌, length, take, drop, refl, sym, ap, ◌∙◌, arith}
+use Rattle.std.proofs.Common.{◌+◌, [], ◌++◌, take, drop, refl, sym, ap, ◌∙◌, arith}
+use Rattle.std.proofs.Math.Seq.{take-add}
 use Rattle.pdh_rx.specs.Meaning.{Meaning}
 use Rattle.pdh_rx.specs.laws.NodeLaws.{node_sound}
 use Rattle.pdh_rx.proofs.Gains.{on_err_from, cause_since}
 use Rattle.pdh_rx.proofs.NodeSteps.{takes_waiting}
-use Rattle.pdh_rx.proofs.Shares.{bits_rest, bits_then, bits_all, takes_none, takes_join, takes_part}
+use Rattle.pdh_rx.proofs.Shares.{bits_rest, bits_all, takes_none, takes_join, takes_part}
 use Rattle.pdh_rx.proofs.node.RxNodeRx.take.Goals as goal
 
 pub loop-done-init : goal.loop-done-init
 loop-done-init g c = record {
-  within = c.take-done.ensures.count;
-  taken = takes_waiting g.C.Rx.stands g.C.Rx.meaning g.S.Shape.shape c.args.self.now.path c.args.self.now.children.items c.args.self.now.aligner c.take-done.new.self c.args.self.now.gap c.args.self.now.frames (take c.take-done.result c.args.bits.now) (g.D.Drain.outputs c.args.drain.now)
+  within = omega (arith, c.take-done.ensures.count);
+  taken = takes_waiting g.C.Rx.stands g.C.Rx.meaning g.S.Shape.shape c.args.self.now.path c.args.self.now.children.items c.args.self.now.aligner c.take-done.new.self c.args.self.now.gap c.args.self.now.frames (take c.take-done.result c.args.bits.now.bits) (g.D.Drain.outputs c.args.drain.now)
       c.take-done.ensures.waits;
   same = refl;
   drained = g.met.D.Drain.drained_same _;
 }
 
 pub advance-requires-clause-stands : goal.advance-requires-clause-stands
-advance-requires-clause-stands g c = (c.requires.stands.0 ++ take c.loop-done.done c.args.bits.now, c.loop-done.invariant.taken.stands c.requires.stands.0 c.requires.stands.1)
+advance-requires-clause-stands g c = (c.requires.stands.0 ++ take c.loop-done.done c.args.bits.now.bits, c.loop-done.invariant.taken.stands c.requires.stands.0 c.requires.stands.1)
 
 pub advance-requires-clause-lists : goal.advance-requires-clause-lists
 advance-requires-clause-lists g c k is =
@@ -26,9 +27,11 @@ advance-requires-clause-lists g c k is =
 pub returns-in_err-done-clause-part : goal.returns-in_err-done-clause-part
 returns-in_err-done-clause-part g c =
     let inv = c.loop-done.invariant in
+    let n = c.loop-done.done in
+    let bits = c.args.bits.now.bits in
     let sound = node_sound g.C.Rx.meaning g.met.C.Rx.sound g.S.Shape.shape g.met.S.Shape.is_frame c.args.self.now.path c.args.self.now.children.items in
     on_err_from _ c.from_residual.result
-    (takes_part _ _ (take c.loop-done.done c.args.bits.now) (take (length c.args.bits.now - c.loop-done.done) (drop c.loop-done.done c.args.bits.now)) c.args.bits.now _ _ _ _ _ sound inv.same (bits_rest c.loop-done.done c.args.bits.now) inv.taken c.in_err-done.ensures.part)
+    (takes_part _ _ (take n bits) (drop n bits) bits _ _ _ _ _ sound inv.same (bits_rest n bits) inv.taken c.in_err-done.ensures.part)
 
 pub returns-in_err-done-clause-cause : goal.returns-in_err-done-clause-cause
 returns-in_err-done-clause-cause g c = cause_since c.from_residual.result _ _ _ (g.met.D.Drain.drained_counts _ _ c.loop-done.invariant.drained) c.in_err-done.ensures.cause.later c.in_err-done.ensures.cause.failed
@@ -44,14 +47,14 @@ loop-done-preserved g c =
     let inv = c.loop-done.invariant in
     let n = c.loop-done.done in
     let k = c.in_ok-done.field-0 in
-    let bits = c.args.bits.now in
+    let bits = c.args.bits.now.bits in
     let node = c.advance.new.self in
     let same = c.advance.ensures.same ∙ inv.same in
-    let one = takes_join _ _ (take n bits) (take k (take (length bits - n) (drop n bits))) (take (n + k) bits) _ _ _ _ _ _ inv.same (bits_then n k bits) inv.taken c.in_ok-done.ensures.taken in
-    let rest = takes_waiting g.C.Rx.stands g.C.Rx.meaning g.S.Shape.shape node.path node.children.items node.aligner c.take.new.self node.gap node.frames (take c.take.result (take (length bits - (n + k)) (drop (n + k) bits))) (g.D.Drain.outputs c.advance.new.drain) c.take.ensures.waits in
+    let one = takes_join _ _ (take n bits) (take k (drop n bits)) (take (n + k) bits) _ _ _ _ _ _ inv.same (take-add n k bits) inv.taken c.in_ok-done.ensures.taken in
+    let rest = takes_waiting g.C.Rx.stands g.C.Rx.meaning g.S.Shape.shape node.path node.children.items node.aligner c.take.new.self node.gap node.frames (take c.take.result (drop (n + k) bits)) (g.D.Drain.outputs c.advance.new.drain) c.take.ensures.waits in
     record {
-      within = omega (arith, c.take.ensures.count, c.in_ok-done.ensures.count.1);
-      taken = takes_join _ _ (take (n + k) bits) (take c.take.result (take (length bits - (n + k)) (drop (n + k) bits))) (take (n + k + c.take.result) bits) _ _ _ _ _ _ same (bits_then (n + k) c.take.result bits) one rest;
+      within = omega (arith, c.take.ensures.count);
+      taken = takes_join _ _ (take (n + k) bits) (take c.take.result (drop (n + k) bits)) (take (n + k + c.take.result) bits) _ _ _ _ _ _ same (take-add (n + k) c.take.result bits) one rest;
       same = same;
       drained = g.met.D.Drain.drained_join _ _ _ inv.drained c.in_ok-done.ensures.drained;
     }
@@ -59,4 +62,5 @@ loop-done-preserved g c =
 pub returns-clause-taken : goal.returns-clause-taken
 returns-clause-taken g c =
     let inv = c.loop-done.invariant in
-    takes_join _ _ (take c.loop-done.done c.args.bits.now) [] c.args.bits.now _ _ _ _ _ _ refl (bits_all c.loop-done.done c.args.bits.now (omega arith)) inv.taken (takes_none _ _ _)
+    let bits = c.args.bits.now.bits in
+    takes_join _ _ (take c.loop-done.done bits) [] bits _ _ _ _ _ _ refl (bits_all c.loop-done.done bits (omega (arith, c.len.ensures.count))) inv.taken (takes_none _ _ _)

@@ -2,7 +2,7 @@ use Rattle.std.proofs.Common.{◌≡◌, ◌<◌, ◌+◌, ℕ, Bool, false, not
 use Rattle.std.specs.Prelude.{◌&&◌}
 use Rattle.std.specs.Bool.{beq}
 use Rattle.std.proofs.lemmas.List.FromFn.{get_or-map-range_with_len, length-map-range_with_len}
-use Rattle.pdh_slots.specs.Slots.{is_payload}
+use Rattle.pdh_shape.specs.Payload.{is_payload}
 use Rattle.pdh_slots.proofs.SlotLaws.{odd_step}
 use Rattle.pdh_slots.proofs.tables.SlotTables.is_odd.Goals as goal
 

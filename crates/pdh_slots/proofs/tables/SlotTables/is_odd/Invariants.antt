@@ -1,7 +1,7 @@
 use Rattle.std.proofs.Common.{◌≡◌, ◌+◌, false, cond, get_or}
 use Rattle.std.specs.Prelude.{count_by, ◌&&◌, ◌%◌, ◌==◌}
 use Rattle.std.specs.List.{range_with_len}
-use Rattle.pdh_slots.specs.Slots.{is_payload}
+use Rattle.pdh_shape.specs.Payload.{is_payload}
 use Rattle.pdh_slots.proofs.tables.SlotTables.is_odd.Given as goal
 
 -- the parity so far

@@ -1,7 +1,8 @@
-use Rattle.std.proofs.Common.{◌+◌, length, ap}
+use Rattle.std.proofs.Common.{◌+◌, ap}
+use Rattle.pdh_packed.specs.Gaining.{gained}
 use Rattle.pdh_tx.proofs.LeafPieces.{leaf_makes}
 use Rattle.pdh_tx.proofs.leaf.LeafTx.make_clear.Goals as goal
 
 pub returns-in-Ok-clause-made : goal.returns-in-Ok-clause-made
 returns-in-Ok-clause-made g c x u =
-    leaf_makes c.args.self.now.leaf _ _ _ _ x (x + length c.args.into.now) c.take_bits.new.into _ _ tt (λ supply. tt) (ap (λ n. x + n) c.take_bits.auto.into) c.in-Ok.ensures.ok
+    leaf_makes c.args.self.now.leaf _ _ _ _ x (x + c.args.count) (gained c.args.into.now c.take_bits.new.into) _ _ tt (λ supply. tt) (ap (λ n. x + n) c.in-Ok.ensures.grown.count) c.in-Ok.ensures.ok

@@ -1,9 +1,12 @@
-use Rattle.std.proofs.Common.{◌≡◌, ◌+◌, ◌-◌, ℕ, suc, length, sym, ap, ◌∙◌, arith}
+use Rattle.std.proofs.Common.{◌≡◌, ◌+◌, ◌-◌, ℕ, suc, Bool, not, List, length, sym, ap, ◌∙◌, arith}
+use Rattle.std.specs.Bool.{beq}
+use Rattle.pdh_packed.specs.Gaining.{gained}
+use Rattle.pdh_shape.specs.Payload.{payload_ones}
 use Rattle.pdh_tx.specs.Meaning.{plan_of}
 use Rattle.pdh_tx.specs.Tributary.{placed_in, held_in, meaning_in, share_in}
 use Rattle.pdh_tx.specs.Node.{odd_within}
 use Rattle.pdh_tx.proofs.Gaining.{on_err_from}
-use Rattle.pdh_tx.proofs.Parity.{odd_piece}
+use Rattle.pdh_tx.proofs.Parity.{odd_piece, odd_with}
 use Rattle.pdh_tx.proofs.NodePieces.{node_clear, node_halts, node_piece}
 use Rattle.pdh_tx.proofs.node.Node.piece.Goals as goal
 
@@ -15,26 +18,28 @@ make_piece-requires-clause-placed g c =
 pub make_piece-requires-clause-clear : goal.make_piece-requires-clause-clear
 make_piece-requires-clause-clear g c =
     node_clear (placed_in g.C.Tx) (held_in g.C.Tx) (meaning_in g.C.Tx) share_in g.S.Shape.shape g.met.S.Shape.is_frame c.args.self.now.path (plan_of c.args.clock.now)
-    c.args.self.now.tributaries.list.items c.args.self.now.at c.requires.clear.0 (length c.args.into.now) _ (omega (arith, c.requires.inside, g.met.S.Shape.len_is)) c.requires.clear.1 c.requires.clear.2
+    c.args.self.now.tributaries.list.items c.args.self.now.at c.requires.clear.0 c.args.len _ (omega (arith, c.requires.inside, g.met.S.Shape.len_is)) c.requires.clear.1 c.requires.clear.2
 
-pub returns-in_err-make_piece-clause-halts : goal.returns-in_err-make_piece-clause-halts
-returns-in_err-make_piece-clause-halts g c =
+pub returns-in_err-odd-clause-halts : goal.returns-in_err-odd-clause-halts
+returns-in_err-odd-clause-halts g c =
     let at = c.args.self.now.at in
-    let len : ℕ = length c.args.into.now in
+    let len : ℕ = c.args.len in
     let last : ℕ = at.slot + len - 1 in
     on_err_from c.from_residual.result
     (λ x was. node_halts (placed_in g.C.Tx) (held_in g.C.Tx) (meaning_in g.C.Tx) share_in g.S.Shape.shape g.met.S.Shape.is_frame c.args.self.now.path (plan_of c.args.clock.now) c.args.self.now.tributaries.list.items at x len last _ _ _
-    (omega (arith, c.requires.some)) (omega (arith, c.requires.some, c.requires.inside, g.met.S.Shape.len_is)) was c.in_err-make_piece.ensures.halts)
+    (omega (arith, c.requires.some)) (omega (arith, c.requires.some, c.requires.inside, g.met.S.Shape.len_is)) was c.in_err-odd.ensures.halts)
 
 pub returns-clause-made : goal.returns-clause-made
 returns-clause-made g c x was =
+    let s = g.S.Shape.shape in
     let at = c.args.self.now.at in
-    let bits = c.make_piece.new.into in
-    let len : ℕ = length c.args.into.now in
+    let bits : List Bool = gained c.args.into.now c.make_piece.new.into in
+    let len : ℕ = c.args.len in
     let last : ℕ = at.slot + len - 1 in
-    let long : length bits ≡ len = c.make_piece.auto.into in
+    let ok = c.in_ok-odd.ensures in
+    let long : length bits ≡ len = ok.grown.count in
     let end : suc last ≡ at.slot + len = omega (arith, c.requires.some) in
-    node_piece (placed_in g.C.Tx) (held_in g.C.Tx) (meaning_in g.C.Tx) share_in g.S.Shape.shape g.met.S.Shape.is_frame c.args.self.now.path (plan_of c.args.clock.now) c.args.self.now.tributaries.list.items c.make_piece.new.self.list.items at c.moved-self.result x len last
-    c.args.self.now.say c.args.self.now.next_say c.said-say.result bits c.is_odd-is_odd.result _ _ g.met.S.Shape.has_tributaries c.in_ok-make_piece.ensures.same (c.make_piece.new.self.count ∙ sym g.met.S.Shape.tribs_is) c.said-say.ensures long c.requires.some end
-    (omega (arith, c.requires.some, c.requires.inside, g.met.S.Shape.len_is)) was c.in_ok-make_piece.ensures.made c.moved-self.ensures.follows
-    (λ source line odd. c.is_odd-is_odd.ensures ∙ odd_piece g.S.Shape.shape source at.frame at.slot bits at.is_odd line odd ∙ ap (λ k. odd_within g.S.Shape.shape source at.frame (at.slot + k)) long) c.moved-self.ensures.parity
+    node_piece (placed_in g.C.Tx) (held_in g.C.Tx) (meaning_in g.C.Tx) share_in s g.met.S.Shape.is_frame c.args.self.now.path (plan_of c.args.clock.now) c.args.self.now.tributaries.list.items c.make_piece.new.self.list.items at c.moved-self.result x len last
+    c.args.self.now.say c.args.self.now.next_say c.said-say.result bits (not (beq at.is_odd c.in_ok-odd.odd)) _ _ g.met.S.Shape.has_tributaries ok.same (c.make_piece.new.self.count ∙ sym g.met.S.Shape.tribs_is) c.said-say.ensures long c.requires.some end
+    (omega (arith, c.requires.some, c.requires.inside, g.met.S.Shape.len_is)) was ok.made c.moved-self.ensures.follows
+    (λ source line odd. ap (λ b. not (beq at.is_odd b)) ok.odd ∙ odd_with at.is_odd (payload_ones s at.slot bits) ∙ odd_piece s source at.frame at.slot bits at.is_odd line odd ∙ ap (λ k. odd_within s source at.frame (at.slot + k)) long) c.moved-self.ensures.parity

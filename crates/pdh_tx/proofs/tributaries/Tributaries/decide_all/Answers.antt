@@ -1,5 +1,5 @@
 use Rattle.pdh_tx.specs.Node.{IsDisjoint}
-use Rattle.std.proofs.Common.{◌≡◌, ◌<◌, ◌≤◌, ◌+◌, ◌==◌, ℕ, false, length, sym, ap, ◌∙◌, arith, leb, cond, inl, inr, subst}
+use Rattle.std.proofs.Common.{◌≡◌, ◌<◌, ◌≤◌, ◌+◌, ◌==◌, ℕ, List, slice_index, IsSome, refl, false, length, sym, ap, ◌∙◌, arith, leb, cond, inl, inr, subst}
 use Rattle.std.specs.Option.{option_map_or}
 use Rattle.std.proofs.lemmas.Bool.{cases_lt, cases_eq}
 use Rattle.std.proofs.lemmas.List.{length-set}
@@ -30,11 +30,8 @@ all_stores s level stores has =
     let elastic : level.locked ≡ false = has.locked ∙ ap (λ b. is_locked (cond b (Locked (λ j t. reads_below s j false t)) Elastic)) stores in
     ap (λ b. stores_of (record { len = level.len; tribs = level.tribs; low = level.low; stores = cond b (Locked (λ j t. 0)) Elastic })) elastic ∙ has.tribs
 
-pub count-arriving-requires-clause-in_range : goal.count-arriving-requires-clause-in_range
-count-arriving-requires-clause-in_range g c =
-    let stores : stores_at c.args.clock.now.levels (steps_of c.args.path) ≡ g.S.Shape.TRIBS =
-    ap (λ o. option_map_or level_stores o 0) c.requires.node.at ∙ all_stores g.S.Shape.shape c.requires.node.level c.args.self.now.stores c.requires.node.numbers ∙ g.met.S.Shape.tribs_is in
-    omega (arith, stores)
+pub counts-arriving-requires-clause-node : goal.counts-arriving-requires-clause-node
+counts-arriving-requires-clause-node g c = subst IsSome (sym c.requires.node.at) refl
 
 pub loop-trib-preserved : goal.loop-trib-preserved
 loop-trib-preserved g c =
@@ -43,6 +40,12 @@ loop-trib-preserved g c =
     let i : ℕ = c.loop-trib.trib in
     let inv = c.loop-trib.invariant in
     let counts : ℕ → ℕ = λ j. (plan_of c.args.clock.now).counts c.args.path j c.args.frame in
+    let stores : stores_at c.args.clock.now.levels (steps_of c.args.path) ≡ g.S.Shape.TRIBS =
+    ap (λ o. option_map_or level_stores o 0) c.requires.node.at ∙ all_stores g.S.Shape.shape c.requires.node.level c.args.self.now.stores c.requires.node.numbers ∙ g.met.S.Shape.tribs_is in
+    let each : List ℕ = c.counts-arriving.result.now in
+    let inside : i < length each = omega (arith, stores, c.counts-arriving.ensures.len, c.loop-trib-test.true) in
+    let stored : i < stores_at c.args.clock.now.levels (steps_of c.args.path) = omega (arith, inside, c.counts-arriving.ensures.len) in
+    let value : slice_index each i ≡ counts i = c.counts-arriving.ensures.value i stored in
     record {
       child = map-set_same child_in ws i w' c.index_mut.result.now (c.decide.ensures.child ∙ ap child_in c.index_mut.ensures.value) ∙ inv.child;
       store = map-set_same store_in ws i w' c.index_mut.result.now (c.decide.ensures.store ∙ ap store_in c.index_mut.ensures.value) ∙ inv.store;
@@ -52,12 +55,12 @@ loop-trib-preserved g c =
         | inr p ↦ inv.more j w (before j i h p.0) p.1
       ];
       arriving = λ j w h e. elim (slice_get_set ws i j w' w e) [
-        | inl p ↦ ap (λ v. (share_in v).arriving) (sym p.1) ∙ ap (λ v. v.arriving) c.decide.ensures.share ∙ c.count-arriving.ensures.value ∙ ap counts (sym p.0)
+        | inl p ↦ ap (λ v. (share_in v).arriving) (sym p.1) ∙ ap (λ v. v.arriving) c.decide.ensures.share ∙ value ∙ ap counts (sym p.0)
         | inr p ↦ inv.arriving j w (before j i h p.0) p.1
       ];
       fits = λ j h. elim (cases_eq j i) [
         | inl same ↦
-            let most : counts i ≤ len_at c.args.clock.now.levels (steps_of c.args.path) = omega (arith, c.count-arriving.ensures.value, c.count-arriving.ensures.most) in
+            let most : counts i ≤ len_at c.args.clock.now.levels (steps_of c.args.path) = omega (arith, c.counts-arriving.ensures.value i stored, c.counts-arriving.ensures.most i stored) in
             let len : len_at c.args.clock.now.levels (steps_of c.args.path) ≡ g.S.Shape.LEN = ap (λ o. option_map_or (λ level. level.len) o 0) c.requires.node.at ∙ c.requires.node.numbers.len ∙ g.met.S.Shape.len_is in
             omega (arith, most, len, ap counts same)
         | inr other ↦ inv.fits j (before j i h other)

@@ -10,6 +10,6 @@ invariant-loop-trib g l =
       store : map store_in l.self.list.items ≡ map store_in l.fn.self.list.items;
       long : length l.self.list.items ≡ length l.fn.self.list.items;
       more : (j : ℕ) (w : _) → j < l.trib → slice_get l.self.list.items j ≡ Some w → (share_in w).more ≡ would_carry w;
-      arriving : (j : ℕ) (w : _) → j < l.trib → slice_get l.self.list.items j ≡ Some w → (share_in w).arriving ≡ (plan_of l.clock).counts l.path j l.frame;
-      fits : (j : ℕ) → j < l.trib → (plan_of l.clock).counts l.path j l.frame ≤ g.S.Shape.LEN;
+      arriving : (j : ℕ) (w : _) → j < l.trib → slice_get l.self.list.items j ≡ Some w → (share_in w).arriving ≡ (plan_of l.clock).counts l.fn.path j l.frame;
+      fits : (j : ℕ) → j < l.trib → (plan_of l.clock).counts l.fn.path j l.frame ≤ g.S.Shape.LEN;
     }

@@ -1,63 +1,101 @@
-use Rattle.std.proofs.Common.{◌≡◌, ◌+◌, ℕ, List, length, sym, ap, ◌∙◌, subst, arith}
+use Rattle.std.proofs.Common.{◌≡◌, ◌+◌, ◌≤◌, ℕ, Bool, List, length, map, sym, ap, ◌∙◌, subst, arith}
+use Rattle.std.specs.Prelude.{All}
 use Rattle.std.proofs.lemmas.List.{length-map}
-use Rattle.std.proofs.lemmas.Result.{on_err_weaker}
+use Rattle.pdh_bits.specs.BitOut.{BoundedBits}
+use Rattle.pdh_packed.specs.Gaining.{gained}
 use Rattle.pdh_shape.specs.Frame.{FrameShape}
+use Rattle.pdh_runs.specs.Pieces.{rows, Assembled}
+use Rattle.pdh_tx.specs.declared.tributary.FrameShare.{FrameShare}
 use Rattle.pdh_tx.specs.Meaning.{plan_of, Plan, Meaning}
 use Rattle.pdh_tx.specs.Tributary.{placed_in, held_in, meaning_in, share_in}
 use Rattle.pdh_tx.specs.Node.{IsShare}
-use Rattle.pdh_tx.specs.Passing.{made_through, read_through, HoldsBits, KeepsSlots, Passes}
-use Rattle.pdh_tx.specs.Tributaries.{meanings, HavePassed}
+use Rattle.pdh_tx.specs.Passing.{made_through, read_through, HoldsBits, HasRows, HoldsOverhead, Passes}
+use Rattle.pdh_tx.specs.Tributaries.{meanings, columns, HavePassed}
 use Rattle.pdh_tx.proofs.Feeding.{still_fed}
 use Rattle.pdh_tx.proofs.Lists.{transfer_one}
-use Rattle.pdh_tx.proofs.Gaining.{on_ok_three}
+use Rattle.pdh_tx.proofs.Gaining.{on_err_from}
+use Rattle.pdh_tx.proofs.PassingAll.{rows_all}
 use Rattle.pdh_tx.proofs.PieceSteps.{piece_makes}
-use Rattle.pdh_tx.proofs.Begun.{begun_placed, begun_passable, begun_halts, begin_halts, begin_rose}
+use Rattle.pdh_tx.proofs.Begun.{begun_still, begun_placed, begun_passable, begun_halts, begin_halts, begin_rose}
 use Rattle.pdh_tx.proofs.tributaries.Tributaries.make_piece.Goals as goal
+
+pub pass_all-requires-clause-decided : goal.pass_all-requires-clause-decided
+pass_all-requires-clause-decided g c =
+    transfer_one share_in (λ share j. IsShare g.S.Shape.shape ((plan_of c.args.clock.now).counts c.args.at.path j) c.args.at.frame share) c.begin.new.self.list.items c.write_overhead.new.self.list.items
+    (ap (λ l. map share_in l.items) c.write_overhead.ensures.list) c.in-Ok.ensures.decided
 
 pub pass_all-requires-clause-fed : goal.pass_all-requires-clause-fed
 pass_all-requires-clause-fed g c =
-    still_fed c.args.self.now c.begin.new.self c.args.at.path c.args.clock.now (g.F.Feed.inputs c.args.feed.now) (g.F.Feed.inputs c.begin.new.feed) c.in-Ok.ensures.same (g.met.F.Feed.fed_holds c.args.feed.now c.begin.new.feed c.in-Ok.ensures.fed) c.requires.fed
+    let same = ap (λ l. map (meaning_in g.C.Tx) l.items) c.write_overhead.ensures.list ∙ c.in-Ok.ensures.same in
+    still_fed c.args.self.now c.write_overhead.new.self c.args.at.path c.args.clock.now (g.F.Feed.inputs c.args.feed.now) (g.F.Feed.inputs c.begin.new.feed) same (g.met.F.Feed.fed_holds c.args.feed.now c.begin.new.feed c.in-Ok.ensures.fed) c.requires.fed
 
 pub pass_all-requires-clause-placed : goal.pass_all-requires-clause-placed
 pass_all-requires-clause-placed g c =
-    begun_placed g.met.S.Shape.is_frame g.met.S.Shape.has_tributaries g.met.S.Shape.tribs_is c.args.self.now (plan_of c.args.clock.now) c.args.at (omega (arith, c.requires.inside, g.met.S.Shape.len_is)) _ _ c.begin.new.self c.in-Ok.ensures.same c.in-Ok.ensures.ok
+    let ts = c.args.self.now in
+    let over = c.write_overhead.new.self in
+    let plan : Plan = plan_of c.args.clock.now in
+    let within : c.args.at.slot + c.args.at.len ≤ g.S.Shape.shape.len = omega (arith, c.requires.inside, g.met.S.Shape.len_is) in
+    let same = ap (λ l. map (meaning_in g.C.Tx) l.items) c.write_overhead.ensures.list ∙ c.in-Ok.ensures.same in
+    let begun = begun_still g.met.S.Shape.is_frame g.met.S.Shape.has_tributaries g.met.S.Shape.tribs_is ts plan c.args.at within _ _ c.begin.new.self over (ap (λ l. l.items) c.write_overhead.ensures.list) c.in-Ok.ensures.ok in
+    begun_placed g.met.S.Shape.is_frame g.met.S.Shape.has_tributaries g.met.S.Shape.tribs_is ts plan c.args.at within _ _ over same begun
 
 pub pass_all-requires-clause-clear : goal.pass_all-requires-clause-clear
 pass_all-requires-clause-clear g c =
-    begun_passable g.met.S.Shape.is_frame g.met.S.Shape.has_tributaries g.met.S.Shape.tribs_is c.args.self.now (plan_of c.args.clock.now) c.args.at (omega (arith, c.requires.inside, g.met.S.Shape.len_is)) _ _ c.begin.new.self c.in-Ok.ensures.same c.in-Ok.ensures.ok
-    c.in-Ok.ensures.decided c.requires.clear
-
-pub returns-in-Ok-clause-made : goal.returns-in-Ok-clause-made
-returns-in-Ok-clause-made g c =
-    let s : FrameShape = g.S.Shape.shape in
-    let plan : Plan = plan_of c.args.clock.now in
-    let at = c.args.at in
     let ts = c.args.self.now in
-    let mid = c.begin.new.self in
+    let over = c.write_overhead.new.self in
+    let plan : Plan = plan_of c.args.clock.now in
+    let within : c.args.at.slot + c.args.at.len ≤ g.S.Shape.shape.len = omega (arith, c.requires.inside, g.met.S.Shape.len_is) in
+    let same = ap (λ l. map (meaning_in g.C.Tx) l.items) c.write_overhead.ensures.list ∙ c.in-Ok.ensures.same in
+    let begun = begun_still g.met.S.Shape.is_frame g.met.S.Shape.has_tributaries g.met.S.Shape.tribs_is ts plan c.args.at within _ _ c.begin.new.self over (ap (λ l. l.items) c.write_overhead.ensures.list) c.in-Ok.ensures.ok in
+    let decided = transfer_one share_in (λ share j. IsShare g.S.Shape.shape ((plan_of c.args.clock.now).counts c.args.at.path j) c.args.at.frame share) c.begin.new.self.list.items over.list.items (ap (λ l. map share_in l.items) c.write_overhead.ensures.list) c.in-Ok.ensures.decided in
+    begun_passable g.met.S.Shape.is_frame g.met.S.Shape.has_tributaries g.met.S.Shape.tribs_is ts plan c.args.at within _ _ over same begun decided c.requires.clear
+
+pub returns-in_err-pass_all-in-Ok-clause-halts : goal.returns-in_err-pass_all-in-Ok-clause-halts
+returns-in_err-pass_all-in-Ok-clause-halts g c =
+    let ts = c.args.self.now in
+    let over = c.write_overhead.new.self in
+    let plan : Plan = plan_of c.args.clock.now in
+    let within : c.args.at.slot + c.args.at.len ≤ g.S.Shape.shape.len = omega (arith, c.requires.inside, g.met.S.Shape.len_is) in
+    let same = ap (λ l. map (meaning_in g.C.Tx) l.items) c.write_overhead.ensures.list ∙ c.in-Ok.ensures.same in
+    let begun = begun_still g.met.S.Shape.is_frame g.met.S.Shape.has_tributaries g.met.S.Shape.tribs_is ts plan c.args.at within _ _ c.begin.new.self over (ap (λ l. l.items) c.write_overhead.ensures.list) c.in-Ok.ensures.ok in
+    on_err_from c.from_residual.result (begun_halts g.met.S.Shape.is_frame g.met.S.Shape.has_tributaries g.met.S.Shape.tribs_is ts plan c.args.at within _ _ over same begun _ c.in_err-pass_all-in-Ok.ensures.halts)
+
+pub assemble-requires-clause-rows : goal.assemble-requires-clause-rows
+assemble-requires-clause-rows g c =
     let new = c.pass_all.new.self in
-    let ms : List Meaning = meanings ts in
-    let over = c.write_overhead.new.into in
-    let bits = c.pass_all.new.into in
+    let P : List BoundedBits → Type 0 = λ columns. All (λ column. length column.bits ≡ rows g.S.Shape.shape c.args.at.slot c.args.at.len) columns in
+    subst P (sym c.deref-in-Ok.ensures.value)
+    (rows_all g.S.Shape.shape c.args.at.slot c.args.at.len new.scratch.columns.items (subst (λ (k : ℕ). HasRows g.S.Shape.shape c.args.at.slot c.args.at.len (columns new) k) (sym new.room.count) c.in_ok-pass_all-in-Ok.ensures.rows))
+
+pub returns-in_ok-pass_all-in-Ok-clause-made : goal.returns-in_ok-pass_all-in-Ok-clause-made
+returns-in_ok-pass_all-in-Ok-clause-made g c =
+    let s : FrameShape = g.S.Shape.shape in
+    let at = c.args.at in
+    let new = c.pass_all.new.self in
+    let ok = c.in_ok-pass_all-in-Ok.ensures in
+    let bits : List Bool = gained c.args.into.now c.assemble.new.into in
+    let ms : List Meaning = meanings c.args.self.now in
     let inputs = g.F.Feed.inputs in
+    let ts = c.args.self.now in
+    let over = c.write_overhead.new.self in
+    let plan : Plan = plan_of c.args.clock.now in
+    let within : c.args.at.slot + c.args.at.len ≤ g.S.Shape.shape.len = omega (arith, c.requires.inside, g.met.S.Shape.len_is) in
+    let same = ap (λ l. map (meaning_in g.C.Tx) l.items) c.write_overhead.ensures.list ∙ c.in-Ok.ensures.same in
+    let begun = begun_still g.met.S.Shape.is_frame g.met.S.Shape.has_tributaries g.met.S.Shape.tribs_is ts plan c.args.at within _ _ c.begin.new.self over (ap (λ l. l.items) c.write_overhead.ensures.list) c.in-Ok.ensures.ok in
+    let decided = transfer_one share_in (λ share j. IsShare g.S.Shape.shape ((plan_of c.args.clock.now).counts c.args.at.path j) c.args.at.frame share) c.begin.new.self.list.items over.list.items (ap (λ l. map share_in l.items) c.write_overhead.ensures.list) c.in-Ok.ensures.decided in
     let all : g.S.Shape.TRIBS ≡ s.tribs = sym g.met.S.Shape.tribs_is in
     let ms_long : length ms ≡ s.tribs = length-map ts.list.items (meaning_in g.C.Tx) ∙ ts.count ∙ all in
-    let over_long : length over ≡ at.len = c.write_overhead.auto.into ∙ c.requires.len in
-    let bits_long : length bits ≡ at.len = c.pass_all.auto.into ∙ over_long in
-    let decided_new = transfer_one share_in (λ share j. IsShare s (plan.counts at.path j) at.frame share) mid.list.items new.list.items c.pass_all.ensures.shares c.in-Ok.ensures.decided in
-    let P : List Meaning → ℕ → Type 0 = λ ms k. Passes (held_in g.C.Tx) at.path ms plan mid.list.items new.list.items (made_through s plan at 0) (made_through s plan at k) (read_through s plan at 0) (read_through s plan at k)
-    (inputs c.begin.new.feed) (inputs c.pass_all.new.feed) (λ source. HoldsBits s source at.frame at.slot bits k) in
-    on_ok_three c.pass_all.result c.pass_all.ensures.placed c.pass_all.ensures.passes c.pass_all.ensures.keeps
-    (λ place passes keeps.
-    piece_makes (placed_in g.C.Tx) (held_in g.C.Tx) (meaning_in g.C.Tx) share_in s g.met.S.Shape.has_tributaries at.path plan at.frame at.slot (at.slot + at.len) ms ts.list.items mid.list.items new.list.items c.args.say.now c.args.odd over bits _ _ _ _
-    ms_long (mid.count ∙ all) (new.count ∙ all) (ap (λ k. at.slot + k) bits_long) (omega (arith, c.requires.inside, g.met.S.Shape.len_is)) (over_long ∙ sym bits_long) c.in-Ok.ensures.decided decided_new c.in-Ok.ensures.scheduled c.in-Ok.ensures.bounded
-    (λ v within info. c.write_overhead.ensures v (omega (arith, within, over_long)) info) (subst (λ (k : ℕ). KeepsSlots s at.path plan at.frame at.slot over bits k) all keeps) c.in-Ok.ensures.ok
-    (subst (λ (k : ℕ). HavePassed new plan at k) all place) (subst (P ms) all (subst (λ (ms : List Meaning). P ms g.S.Shape.TRIBS) c.in-Ok.ensures.same passes)))
-
-pub returns-in-Ok-clause-halts : goal.returns-in-Ok-clause-halts
-returns-in-Ok-clause-halts g c =
-    on_err_weaker c.pass_all.result
-    (begun_halts g.met.S.Shape.is_frame g.met.S.Shape.has_tributaries g.met.S.Shape.tribs_is c.args.self.now (plan_of c.args.clock.now) c.args.at (omega (arith, c.requires.inside, g.met.S.Shape.len_is)) _ _ c.begin.new.self c.in-Ok.ensures.same c.in-Ok.ensures.ok _)
-    c.pass_all.ensures.halts
+    let decided_new = transfer_one share_in (λ share j. IsShare s (plan.counts at.path j) at.frame share) over.list.items new.list.items ok.shares decided in
+    let P : List Meaning → ℕ → Type 0 = λ ms k. Passes (held_in g.C.Tx) at.path ms plan over.list.items new.list.items (made_through s plan at 0) (made_through s plan at k) (read_through s plan at 0) (read_through s plan at k)
+    (inputs c.begin.new.feed) (inputs c.pass_all.new.feed) (λ source. HoldsBits s source at.frame at.slot at.len (columns new) k) in
+    let H : List FrameShare → List Bool → Type 0 = λ shares overhead. HoldsOverhead s c.args.say.now c.args.odd shares at.slot at.len overhead in
+    let shares_are : map share_in c.begin.new.self.list.items ≡ map share_in over.list.items = ap (λ l. map share_in l.items) (sym c.write_overhead.ensures.list) in
+    let holds : H (map share_in over.list.items) over.scratch.overhead.bits = subst (λ (shares : List FrameShare). H shares over.scratch.overhead.bits) shares_are c.write_overhead.ensures.bits in
+    let A : List Bool → List BoundedBits → Type 0 = λ overhead lists. Assembled s at.slot at.len overhead (map (λ (column : BoundedBits). column.bits) lists) bits in
+    let assembled : A over.scratch.overhead.bits new.scratch.columns.items = subst (λ (overhead : BoundedBits). A overhead.bits new.scratch.columns.items) ok.overhead (subst (A new.scratch.overhead.bits) c.deref-in-Ok.ensures.value c.assemble.ensures.assembled) in
+    piece_makes (placed_in g.C.Tx) (held_in g.C.Tx) (meaning_in g.C.Tx) share_in s g.met.S.Shape.has_tributaries at.path plan at.frame at.slot (at.slot + at.len) ms ts.list.items over.list.items new.list.items c.args.say.now c.args.odd at.len over.scratch.overhead.bits bits (columns new) _ _ _ _
+    ms_long (over.count ∙ all) (new.count ∙ all) c.assemble.ensures.grown.count within decided decided_new c.in-Ok.ensures.scheduled c.in-Ok.ensures.bounded holds assembled begun
+    (subst (λ (k : ℕ). HavePassed new plan at k) all ok.placed) (subst (P ms) all (subst (λ (ms : List Meaning). P ms g.S.Shape.TRIBS) same ok.passes))
 
 pub returns-in-Err-clause-halts : goal.returns-in-Err-clause-halts
 returns-in-Err-clause-halts g c =

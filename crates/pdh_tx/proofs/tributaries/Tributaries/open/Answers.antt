@@ -14,5 +14,5 @@ invariant_of-result g c =
       count = sym (length-map ws (child_in {C = g.row.C.Denot})) ∙ ap length children ∙ c.requires.count;
       stores = ne_eqb g.S.Shape.shape.copies 0 (λ z. absurd (omega (arith, z, c.requires.stores, g.met.S.Shape.copies_is)));
       disjoint = subst IsDisjoint (sym (meanings g.C.Tx ws ∙ ap (map g.C.Tx.meaning) children)) c.requires.disjoint;
-      room = omega (arith, c.in_ok-queue.ensures, c.LEN.ensures);
+      room = c.in_ok-scratch.ensures;
     }

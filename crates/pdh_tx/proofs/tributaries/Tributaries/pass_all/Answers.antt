@@ -1,29 +1,29 @@
-use Rattle.std.proofs.Common.{◌≡◌, ◌+◌, ℕ, suc, List, refl, sym, ap, ◌∙◌, subst, arith, slice_get}
+use Rattle.std.proofs.Common.{◌≡◌, ◌+◌, ℕ, suc, Bool, List, refl, sym, ap, ◌∙◌, subst, arith, slice_get}
 use Rattle.pdh_shape.specs.Frame.{FrameShape}
-use Rattle.pdh_line.specs.Sending.{Source, sends_more}
-use Rattle.pdh_slots.specs.Slots.{KeepsOthers}
+use Rattle.pdh_line.specs.Sending.{Source}
 use Rattle.pdh_tx.specs.declared.tx.TxStop.TheVariants.{Failed}
 use Rattle.pdh_tx.specs.Meaning.{plan_of, Plan, Meaning}
 use Rattle.pdh_tx.specs.Tributary.{placed_in, held_in, meaning_in, share_in}
 use Rattle.pdh_tx.specs.Node.{source_of, IsShare, Stays, came_at}
-use Rattle.pdh_tx.specs.Passing.{made_through, read_through, HoldsBits, HoldsBitsOf, KeepsSlots, Passes}
-use Rattle.pdh_tx.specs.Tributaries.{meanings, HavePassed, PassOn}
+use Rattle.pdh_tx.specs.Passing.{made_through, read_through, HoldsBits, HoldsBitsOf, HasRows, Passes}
+use Rattle.pdh_tx.specs.Tributaries.{meanings, columns, HavePassed, PassOn}
 use Rattle.pdh_tx.proofs.Feeding.{still_fed}
 use Rattle.pdh_tx.proofs.Lists.{transfer_one}
 use Rattle.pdh_tx.proofs.Gaining.{on_err_from}
-use Rattle.pdh_tx.proofs.PassingAll.{passes_none, passes_join, holds_more, keeps_more, passable_kept, stays_after}
+use Rattle.pdh_tx.proofs.PassingAll.{passes_none, passes_join, holds_more, rows_more, passable_kept, stays_after}
 use Rattle.pdh_tx.proofs.tributaries.Tributaries.pass_all.Goals as goal
 
 pub loop-trib-init : goal.loop-trib-init
 loop-trib-init g c = record {
   placed = c.requires.placed;
   passes = passes_none (placed_in g.C.Tx) (held_in g.C.Tx) (meaning_in g.C.Tx) c.args.at.path (plan_of c.args.clock.now) _ _ _ _ _
-      (λ (source : Source). HoldsBits g.S.Shape.shape source c.args.at.frame c.args.at.slot c.args.into.now 0) (λ source j less. absurd (omega arith));
-  keeps = λ v h none. refl;
+      (λ (source : Source). HoldsBits g.S.Shape.shape source c.args.at.frame c.args.at.slot c.args.at.len (columns c.args.self.now) 0) (λ source j less. absurd (omega arith));
+  rows = λ j less. absurd (omega arith);
   later = omega arith;
   fed = g.met.F.Feed.fed_same _;
   same = refl;
   shares = refl;
+  overhead = refl;
 }
 
 pub pass_one-requires-clause-decided : goal.pass_one-requires-clause-decided
@@ -60,25 +60,24 @@ loop-trib-preserved g c =
     let inv = c.loop-trib.invariant in
     let ok = c.in_ok-pass_one.ensures in
     let e : suc i ≡ i + 1 = omega arith in
-    let mid = c.loop-trib.into in
-    let new = c.pass_one.new.into in
     let after = c.pass_one.new.self in
+    let old : List (List Bool) = columns c.loop-trib.self in
+    let new : List (List Bool) = columns after in
     let inputs = g.F.Feed.inputs in
     let P : List Meaning → Type 0 = λ ms. Passes (held_in g.C.Tx) at.path ms plan c.loop-trib.self.list.items after.list.items (made_through s plan at i) (made_through s plan at (suc i)) (read_through s plan at i) (read_through s plan at (suc i))
-    (inputs c.loop-trib.feed) (inputs c.pass_one.new.feed) (λ source. HoldsBitsOf s source at.frame at.slot new i) in
-    let Q : ℕ → Type 0 = λ k. PassOn c.args.self.now after plan at 0 k (inputs c.args.feed.now) (inputs c.pass_one.new.feed) (λ source. HoldsBits s source at.frame at.slot new k) in
+    (inputs c.loop-trib.feed) (inputs c.pass_one.new.feed) (λ source. HoldsBitsOf s source at.frame at.slot at.len new i) in
+    let Q : ℕ → Type 0 = λ k. PassOn c.args.self.now after plan at 0 k (inputs c.args.feed.now) (inputs c.pass_one.new.feed) (λ source. HoldsBits s source at.frame at.slot at.len new k) in
     record {
       placed = subst (λ (k : ℕ). HavePassed after plan at k) e ok.placed;
       passes = subst Q e (passes_join (placed_in g.C.Tx) (held_in g.C.Tx) (meaning_in g.C.Tx) at.path plan (meanings c.args.self.now) _ _ _ _ _ _ _ _ _ _ _ _
-          (λ source. HoldsBits s source at.frame at.slot mid i) (λ source. HoldsBitsOf s source at.frame at.slot new i) (λ source. HoldsBits s source at.frame at.slot new (suc i))
-          (λ supply is was now.
-          let K : Plan → Type 0 = λ plan. KeepsOthers s i (sends_more s (plan.counts at.path i) at.frame) at.slot mid new in
-          holds_more s (source_of at.path (meanings c.args.self.now) supply) at.frame at.slot i mid new c.pass_one.auto.into (subst K (sym is) ok.keeps) was now) inv.passes (subst P inv.same ok.passes));
-      keeps = subst (λ (k : ℕ). KeepsSlots s at.path plan at.frame at.slot c.args.into.now new k) e (keeps_more s at.path plan at.frame at.slot i c.args.into.now mid new c.loop-trib.auto.into ok.keeps inv.keeps);
+          (λ source. HoldsBits s source at.frame at.slot at.len old i) (λ source. HoldsBitsOf s source at.frame at.slot at.len new i) (λ source. HoldsBits s source at.frame at.slot at.len new (suc i))
+          (λ supply is was now. holds_more s (source_of at.path (meanings c.args.self.now) supply) at.frame at.slot at.len i old new ok.earlier was now) inv.passes (subst P inv.same ok.passes));
+      rows = subst (λ (k : ℕ). HasRows s at.slot at.len new k) e (rows_more s at.slot at.len i old new ok.earlier inv.rows ok.rows);
       later = (let a = inv.later in let b = ok.cause.later in omega arith);
       fed = g.met.F.Feed.fed_join _ _ _ inv.fed ok.fed;
       same = ok.same ∙ inv.same;
       shares = ok.shares ∙ inv.shares;
+      overhead = ok.overhead ∙ inv.overhead;
     }
 
 pub returns-clause-placed : goal.returns-clause-placed
@@ -90,5 +89,10 @@ pub returns-clause-passes : goal.returns-clause-passes
 returns-clause-passes g c =
     let at = c.args.at in
     let end : c.loop-trib.trib ≡ g.S.Shape.TRIBS = omega (arith, c.loop-trib.auto.trib-end, c.loop-trib-test.false, c.TRIBS-trib-end.ensures) in
-    let P : ℕ → Type 0 = λ k. PassOn c.args.self.now c.loop-trib.self (plan_of c.args.clock.now) at 0 k (g.F.Feed.inputs c.args.feed.now) (g.F.Feed.inputs c.loop-trib.feed) (λ source. HoldsBits g.S.Shape.shape source at.frame at.slot c.loop-trib.into k) in
+    let P : ℕ → Type 0 = λ k. PassOn c.args.self.now c.loop-trib.self (plan_of c.args.clock.now) at 0 k (g.F.Feed.inputs c.args.feed.now) (g.F.Feed.inputs c.loop-trib.feed) (λ source. HoldsBits g.S.Shape.shape source at.frame at.slot at.len (columns c.loop-trib.self) k) in
     subst P end c.loop-trib.invariant.passes
+
+pub returns-clause-rows : goal.returns-clause-rows
+returns-clause-rows g c =
+    let end : c.loop-trib.trib ≡ g.S.Shape.TRIBS = omega (arith, c.loop-trib.auto.trib-end, c.loop-trib-test.false, c.TRIBS-trib-end.ensures) in
+    subst (λ (k : ℕ). HasRows g.S.Shape.shape c.args.at.slot c.args.at.len (columns c.loop-trib.self) k) end c.loop-trib.invariant.rows

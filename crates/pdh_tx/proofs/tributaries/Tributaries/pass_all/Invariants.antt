@@ -1,7 +1,7 @@
 use Rattle.std.proofs.Common.{◌≡◌, ◌≤◌}
 use Rattle.pdh_tx.specs.Meaning.{plan_of}
-use Rattle.pdh_tx.specs.Passing.{HoldsBits, KeepsSlots}
-use Rattle.pdh_tx.specs.Tributaries.{meanings, shares, HavePassed, PassOn}
+use Rattle.pdh_tx.specs.Passing.{HoldsBits, HasRows}
+use Rattle.pdh_tx.specs.Tributaries.{meanings, shares, columns, HavePassed, PassOn}
 use Rattle.pdh_tx.proofs.tributaries.Tributaries.pass_all.Given as goal
 
 -- the tributaries so far passed their bits
@@ -9,10 +9,11 @@ abbrev pub invariant-loop-trib : goal.invariant-loop-trib
 invariant-loop-trib g l =
     record {
       placed : HavePassed l.self (plan_of l.clock) l.at l.trib;
-      passes : PassOn l.fn.self l.self (plan_of l.clock) l.at 0 l.trib (g.F.Feed.inputs l.fn.feed) (g.F.Feed.inputs l.feed) (λ source. HoldsBits g.S.Shape.shape source l.at.frame l.at.slot l.into l.trib);
-      keeps : KeepsSlots g.S.Shape.shape l.at.path (plan_of l.clock) l.at.frame l.at.slot l.fn.into l.into l.trib;
+      passes : PassOn l.fn.self l.self (plan_of l.clock) l.at 0 l.trib (g.F.Feed.inputs l.fn.feed) (g.F.Feed.inputs l.feed) (λ source. HoldsBits g.S.Shape.shape source l.at.frame l.at.slot l.at.len (columns l.self) l.trib);
+      rows : HasRows g.S.Shape.shape l.at.slot l.at.len (columns l.self) l.trib;
       later : g.F.Feed.feed_faults l.fn.feed ≤ g.F.Feed.feed_faults l.feed;
       fed : g.F.Feed.fed l.fn.feed l.feed;
       same : meanings l.self ≡ meanings l.fn.self;
       shares : shares l.self ≡ shares l.fn.self;
+      overhead : l.self.scratch.overhead ≡ l.fn.self.scratch.overhead;
     }

@@ -1,10 +1,11 @@
-use Rattle.std.proofs.Common.{◌≡◌, ◌+◌, ℕ, Bool, List, length, map, refl, sym, ap, ◌∙◌, subst, arith, Some, take, drop, ◌++◌}
-use Rattle.std.proofs.lemmas.List.{length-set, length-append, length-drop, length-take-le}
+use Rattle.std.proofs.Common.{◌≡◌, ◌+◌, ◌≤◌, ℕ, Bool, List, length, map, slice_set, refl, sym, ap, ◌∙◌, subst, arith, Some}
+use Rattle.pdh_bits.specs.BitOut.{BoundedBits}
+use Rattle.std.proofs.lemmas.List.{length-set}
+use Rattle.std.proofs.lemmas.List.Elements.{All-set}
 use Rattle.std.proofs.lemmas.Option.{slice_get_read}
 use Rattle.std.proofs.lemmas.Result.{on_ok_weaker, on_err_weaker}
 use Rattle.std.proofs.Math.Seq.{map-set_same}
 use Rattle.pdh_shape.specs.Frame.{FrameShape}
-use Rattle.pdh_slots.specs.Slots.{KeepsOthers}
 use Rattle.pdh_tx.specs.declared.tx.TxStop.TheVariants.{Failed}
 use Rattle.pdh_tx.specs.Meaning.{plan_of, Plan, Supply, Meaning}
 use Rattle.pdh_tx.specs.Held.{Gains, Halts}
@@ -15,33 +16,34 @@ use Rattle.pdh_tx.specs.Passing.{carried_in, passed_in, made_through, HoldsBitsO
 use Rattle.pdh_tx.specs.laws.Growing.{given_more}
 use Rattle.pdh_tx.proofs.Moving.{leaf_of, stays_one}
 use Rattle.pdh_tx.proofs.Advancing.{upto_here, upto_most}
-use Rattle.pdh_tx.proofs.PassingAll.{placed_one, passes_one, holds_from, came_grows}
+use Rattle.pdh_tx.proofs.Passing.{carried_is}
+use Rattle.pdh_tx.proofs.PassingAll.{placed_one, passes_one, holds_from, came_grows, column_same, column_other}
 use Rattle.pdh_tx.proofs.OnePasses.{next_one}
 use Rattle.pdh_tx.proofs.tributaries.Tributaries.pass_one.Goals as goal
 
 pub pass-requires-clause-lists : goal.pass-requires-clause-lists
 pass-requires-clause-lists g c k leaf =
     let here = slice_get_read _ _ c.args.trib _ refl (omega (arith, c.requires.trib, c.args.self.now.count)) c.index_mut-tributary.ensures.value in
-    let one = next_one g.met.S.Shape.is_frame c.args.self.now (plan_of c.args.clock.now) c.args.at c.args.trib _ _ c.arriving-arriving.result here (omega (arith, c.requires.inside, g.met.S.Shape.len_is)) c.requires.len c.requires.decided c.requires.placed c.arriving-arriving.ensures in
+    let one = next_one g.met.S.Shape.is_frame c.args.self.now (plan_of c.args.clock.now) c.args.at c.args.trib _ c.arriving-arriving.result here (omega (arith, c.requires.inside, g.met.S.Shape.len_is)) c.requires.decided c.requires.placed c.arriving-arriving.ensures in
     c.requires.fed.lists k (leaf_of _ c.args.trib k _ one.maker leaf)
 
 pub pass-requires-clause-nodes : goal.pass-requires-clause-nodes
 pass-requires-clause-nodes g c =
     let here = slice_get_read _ _ c.args.trib _ refl (omega (arith, c.requires.trib, c.args.self.now.count)) c.index_mut-tributary.ensures.value in
-    let one = next_one g.met.S.Shape.is_frame c.args.self.now (plan_of c.args.clock.now) c.args.at c.args.trib _ _ c.arriving-arriving.result here (omega (arith, c.requires.inside, g.met.S.Shape.len_is)) c.requires.len c.requires.decided c.requires.placed c.arriving-arriving.ensures in
+    let one = next_one g.met.S.Shape.is_frame c.args.self.now (plan_of c.args.clock.now) c.args.at c.args.trib _ c.arriving-arriving.result here (omega (arith, c.requires.inside, g.met.S.Shape.len_is)) c.requires.decided c.requires.placed c.arriving-arriving.ensures in
     c.requires.fed.nodes c.args.trib _ one.maker
 
 pub pass-requires-clause-room : goal.pass-requires-clause-room
 pass-requires-clause-room g c =
     let here = slice_get_read _ _ c.args.trib _ refl (omega (arith, c.requires.trib, c.args.self.now.count)) c.index_mut-tributary.ensures.value in
-    let one = next_one g.met.S.Shape.is_frame c.args.self.now (plan_of c.args.clock.now) c.args.at c.args.trib _ _ c.arriving-arriving.result here (omega (arith, c.requires.inside, g.met.S.Shape.len_is)) c.requires.len c.requires.decided c.requires.placed c.arriving-arriving.ensures in
-    omega (arith, c.args.self.now.room, one.few, g.met.S.Shape.len_is)
+    let one = next_one g.met.S.Shape.is_frame c.args.self.now (plan_of c.args.clock.now) c.args.at c.args.trib _ c.arriving-arriving.result here (omega (arith, c.requires.inside, g.met.S.Shape.len_is)) c.requires.decided c.requires.placed c.arriving-arriving.ensures in
+    omega (arith, c.args.self.now.room.queue, one.few, g.met.S.Shape.len_is)
 
 pub pass-requires-clause-clear : goal.pass-requires-clause-clear
 pass-requires-clause-clear g c =
     let plan : Plan = plan_of c.args.clock.now in
     let here = slice_get_read _ _ c.args.trib _ refl (omega (arith, c.requires.trib, c.args.self.now.count)) c.index_mut-tributary.ensures.value in
-    let one = next_one g.met.S.Shape.is_frame c.args.self.now plan c.args.at c.args.trib _ _ c.arriving-arriving.result here (omega (arith, c.requires.inside, g.met.S.Shape.len_is)) c.requires.len c.requires.decided c.requires.placed c.arriving-arriving.ensures in
+    let one = next_one g.met.S.Shape.is_frame c.args.self.now plan c.args.at c.args.trib _ c.arriving-arriving.result here (omega (arith, c.requires.inside, g.met.S.Shape.len_is)) c.requires.decided c.requires.placed c.arriving-arriving.ensures in
     let f : ℕ = came_at g.S.Shape.shape c.args.at.path plan c.args.at.frame c.args.at.slot c.args.trib in
     let K : ℕ → Type 0 = λ k. IsClear (meaning_in g.C.Tx c.index_mut-tributary.result.now) plan f k (g.F.Feed.inputs c.args.feed.now) in
     (f, _, one.was, subst K (sym one.came) (c.requires.clear _ one.maker).clear)
@@ -49,13 +51,13 @@ pass-requires-clause-clear g c =
 pub pass-requires-clause-enough : goal.pass-requires-clause-enough
 pass-requires-clause-enough g c =
     let here = slice_get_read _ _ c.args.trib _ refl (omega (arith, c.requires.trib, c.args.self.now.count)) c.index_mut-tributary.ensures.value in
-    let one = next_one g.met.S.Shape.is_frame c.args.self.now (plan_of c.args.clock.now) c.args.at c.args.trib _ (length c.args.into.now) c.arriving-arriving.result here (omega (arith, c.requires.inside, g.met.S.Shape.len_is)) c.requires.len c.requires.decided c.requires.placed c.arriving-arriving.ensures in
+    let one = next_one g.met.S.Shape.is_frame c.args.self.now (plan_of c.args.clock.now) c.args.at c.args.trib _ c.arriving-arriving.result here (omega (arith, c.requires.inside, g.met.S.Shape.len_is)) c.requires.decided c.requires.placed c.arriving-arriving.ensures in
     omega (arith, (c.requires.clear _ one.maker).enough, one.was.count, one.came, one.left)
 
 pub pass-requires-clause-few : goal.pass-requires-clause-few
 pass-requires-clause-few g c held =
     let here = slice_get_read _ _ c.args.trib _ refl (omega (arith, c.requires.trib, c.args.self.now.count)) c.index_mut-tributary.ensures.value in
-    let one = next_one g.met.S.Shape.is_frame c.args.self.now (plan_of c.args.clock.now) c.args.at c.args.trib _ (length c.args.into.now) c.arriving-arriving.result here (omega (arith, c.requires.inside, g.met.S.Shape.len_is)) c.requires.len c.requires.decided c.requires.placed c.arriving-arriving.ensures in
+    let one = next_one g.met.S.Shape.is_frame c.args.self.now (plan_of c.args.clock.now) c.args.at c.args.trib _ c.arriving-arriving.result here (omega (arith, c.requires.inside, g.met.S.Shape.len_is)) c.requires.decided c.requires.placed c.arriving-arriving.ensures in
     let few = (c.requires.clear _ one.maker).few (omega (arith, one.was.count, held)) in
     omega (arith, few, one.was.count, one.came, one.left)
 
@@ -68,13 +70,13 @@ returns-clause-placed g c =
     let w = c.index_mut-tributary.result.now in
     let w' = c.pass.new.self in
     let here = slice_get_read _ _ i _ refl (omega (arith, c.requires.trib, c.args.self.now.count)) c.index_mut-tributary.ensures.value in
-    let one = next_one g.met.S.Shape.is_frame c.args.self.now plan at i w (length c.args.into.now) c.arriving-arriving.result here (omega (arith, c.requires.inside, g.met.S.Shape.len_is)) c.requires.len c.requires.decided c.requires.placed c.arriving-arriving.ensures in
+    let one = next_one g.met.S.Shape.is_frame c.args.self.now plan at i w c.arriving-arriving.result here (omega (arith, c.requires.inside, g.met.S.Shape.len_is)) c.requires.decided c.requires.placed c.arriving-arriving.ensures in
     let u : ℕ = at.slot + at.len in
     let f : ℕ → ℕ = came_at s at.path plan at.frame at.slot in
     let f' : ℕ → ℕ = came_at s at.path plan at.frame u in
     let h : ℕ → ℕ = read_to s at.path plan at.frame at.slot in
     let h' : ℕ → ℕ = read_to s at.path plan at.frame u in
-    let X : ℕ → Type 0 = λ v. placed_in g.C.Tx w' plan v (h i + carried_in s i w.share.more at.slot (length c.args.into.now)) in
+    let X : ℕ → Type 0 = λ v. placed_in g.C.Tx w' plan v (h i + carried_in s i w.share.more at.slot at.len) in
     let Y : ℕ → Type 0 = λ v. placed_in g.C.Tx w' plan (f' i) v in
     on_ok_weaker c.pass.result
     (λ now. placed_one (placed_in g.C.Tx) (held_in g.C.Tx) (meaning_in g.C.Tx) at.path plan c.args.self.now.list.items i w' f f' h h' c.requires.placed (subst Y one.left (subst X one.came (now (f i) (h i) one.was))))
@@ -90,30 +92,36 @@ returns-clause-passes g c =
     let w = c.index_mut-tributary.result.now in
     let w' = c.pass.new.self in
     let here = slice_get_read _ _ i _ refl (omega (arith, c.requires.trib, c.args.self.now.count)) c.index_mut-tributary.ensures.value in
-    let one = next_one g.met.S.Shape.is_frame c.args.self.now plan at i w (length c.pass.new.into) c.arriving-arriving.result here (omega (arith, c.requires.inside, g.met.S.Shape.len_is)) (c.pass.auto.into ∙ c.requires.len) c.requires.decided c.requires.placed c.arriving-arriving.ensures in
+    let one = next_one g.met.S.Shape.is_frame c.args.self.now plan at i w c.arriving-arriving.result here (omega (arith, c.requires.inside, g.met.S.Shape.len_is)) c.requires.decided c.requires.placed c.arriving-arriving.ensures in
     let u : ℕ = at.slot + at.len in
     let f : ℕ → ℕ = came_at s at.path plan at.frame at.slot in
     let f' : ℕ → ℕ = came_at s at.path plan at.frame u in
     let h : ℕ → ℕ = read_to s at.path plan at.frame at.slot in
     let h' : ℕ → ℕ = read_to s at.path plan at.frame u in
-    let new : Supply → ℕ → ℕ → Type 0 = passed_in g.C.Tx s i at.slot w w' c.pass.new.into in
+    let column = c.pass.new.column in
+    let after : List (List Bool) = map (λ (column : BoundedBits). column.bits) (slice_set c.args.self.now.scratch.columns.items i column) in
+    let own = column_same c.args.self.now.scratch.columns.items i column (omega (arith, c.requires.trib, c.args.self.now.room.count)) in
+    let gone : ℕ = carried_in s i w.share.more at.slot at.len in
+    let new : Supply → ℕ → ℕ → Type 0 = passed_in g.C.Tx s i at.slot at.len w w' column.bits in
     let X : ℕ → Type 0 = λ v. Gains (meaning_in g.C.Tx w) plan (held_in g.C.Tx w) new (f i) v (h i) (g.F.Feed.inputs c.args.feed.now) (g.F.Feed.inputs c.pass.new.feed) in
     on_ok_weaker c.pass.result
-    (λ gains. passes_one (placed_in g.C.Tx) (held_in g.C.Tx) (meaning_in g.C.Tx) at.path plan ws i w w' f f' h h' new (λ source. HoldsBitsOf s source at.frame at.slot c.pass.new.into i) _ _ c.args.self.now.disjoint here
+    (λ gains. passes_one (placed_in g.C.Tx) (held_in g.C.Tx) (meaning_in g.C.Tx) at.path plan ws i w w' f f' h h' new (λ source. HoldsBitsOf s source at.frame at.slot at.len after i) _ _ c.args.self.now.disjoint here
     (subst X one.came (gains (f i) (h i) one.was))
     (λ supply is both.
     let Y : ℕ → Type 0 = λ v. held_in g.C.Tx w' (below supply) (f' i) v in
-    let same : meaning_in g.C.Tx w' ≡ meaning_in g.C.Tx w = c.pass.ensures.same in
-    (subst Y one.left both.0, holds_from s at.path (map (meaning_in g.C.Tx) ws) plan supply at.frame at.slot i i w.share.more (meaning_in g.C.Tx w') c.pass.new.into is refl one.share.more (one.maker ∙ ap Some (sym same)) both.1)))
+    let same : meaning_in g.C.Tx w' ≡ meaning_in g.C.Tx w = c.pass.ensures.same in (
+      subst Y one.left both.0,
+      holds_from s at.path (map (meaning_in g.C.Tx) ws) plan supply at.frame at.slot at.len i gone w.share.more (meaning_in g.C.Tx w') after column.bits is one.share.more (one.maker ∙ ap Some (sym same)) own (carried_is s i w.share.more at.slot at.len) both.1,
+    )))
     c.pass.ensures.gains
 
-pub returns-clause-keeps : goal.returns-clause-keeps
-returns-clause-keeps g c =
-    let w = c.index_mut-tributary.result.now in
-    let here = slice_get_read _ _ c.args.trib _ refl (omega (arith, c.requires.trib, c.args.self.now.count)) c.index_mut-tributary.ensures.value in
-    let share = c.requires.decided c.args.trib w here in
-    let Y : Bool → Type 0 = λ b. KeepsOthers g.S.Shape.shape c.args.trib b c.args.at.slot c.args.into.now c.pass.new.into in
-    on_ok_weaker c.pass.result (λ keeps. subst Y share.more keeps) c.pass.ensures.keeps
+pub returns-clause-rows : goal.returns-clause-rows
+returns-clause-rows g c =
+    let own = column_same c.args.self.now.scratch.columns.items c.args.trib c.pass.new.column (omega (arith, c.requires.trib, c.args.self.now.room.count)) in
+    on_ok_weaker c.pass.result (λ long. ap length own ∙ long) c.pass.ensures.rows
+
+pub returns-clause-earlier : goal.returns-clause-earlier
+returns-clause-earlier g c j less = column_other c.args.self.now.scratch.columns.items c.args.trib j c.pass.new.column (omega (arith, less))
 
 pub returns-clause-halts : goal.returns-clause-halts
 returns-clause-halts g c =
@@ -124,7 +132,7 @@ returns-clause-halts g c =
     let ws = c.args.self.now.list.items in
     let w = c.index_mut-tributary.result.now in
     let here = slice_get_read _ _ i _ refl (omega (arith, c.requires.trib, c.args.self.now.count)) c.index_mut-tributary.ensures.value in
-    let one = next_one g.met.S.Shape.is_frame c.args.self.now plan at i w (length c.args.into.now) c.arriving-arriving.result here (omega (arith, c.requires.inside, g.met.S.Shape.len_is)) c.requires.len c.requires.decided c.requires.placed c.arriving-arriving.ensures in
+    let one = next_one g.met.S.Shape.is_frame c.args.self.now plan at i w c.arriving-arriving.result here (omega (arith, c.requires.inside, g.met.S.Shape.len_is)) c.requires.decided c.requires.placed c.arriving-arriving.ensures in
     let u : ℕ = at.slot + at.len in
     let f : ℕ → ℕ = came_at s at.path plan at.frame at.slot in
     let f' : ℕ → ℕ = came_at s at.path plan at.frame u in
@@ -154,10 +162,13 @@ invariant_of-self-clause-disjoint g c =
 
 pub invariant_of-self-clause-room : goal.invariant_of-self-clause-room
 invariant_of-self-clause-room g c =
-    let queue = c.args.self.now.queue in
-    let new : List Bool = c.pass.new.queue in
-    let same : length new ≡ length queue.items = c.pass.auto.queue ∙ ap length c.deref_mut.ensures.value in
-    let rest : List Bool = drop (length new) queue.items in
-    let all : length (new ++ rest) ≡ length queue.items = omega (arith, same, length-append new rest, length-drop (length new) queue.items) in
-    let kept : length (take queue.len (new ++ rest)) ≡ length queue.items = length-take-le queue.len (new ++ rest) (omega (arith, queue.ok.0, all)) ∙ omega (arith, queue.ok.0) in
-    omega (arith, kept, c.args.self.now.room)
+    let columns = c.args.self.now.scratch.columns.items in
+    let P : BoundedBits → Type 0 = λ column. g.S.Shape.LOW + 1 ≤ column.capacity in
+    let was : P c.index_mut.result.now = subst P (sym c.index_mut.ensures.value) (c.args.self.now.room.columns c.args.trib _ (omega (arith, c.requires.trib, c.args.self.now.room.count))) in
+    record {
+      queue = omega (arith, c.args.self.now.room.queue, c.pass.ensures.queue_room);
+      count = length-set columns c.args.trib c.pass.new.column ∙ c.args.self.now.room.count;
+      columns = All-set P columns c.args.trib c.pass.new.column (omega (arith, was, c.pass.ensures.column_room)) c.args.self.now.room.columns;
+      overhead = c.args.self.now.room.overhead;
+      payload = c.args.self.now.room.payload;
+    }

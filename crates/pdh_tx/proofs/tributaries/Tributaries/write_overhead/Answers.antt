@@ -1,71 +1,32 @@
-use Rattle.std.proofs.Common.{◌≡◌, inl, inr, ◌<◌, ◌+◌, ◌-◌, ℕ, suc, Bool, true, false, not, length, map, List, get_or, slice_set, sym, ap, ◌∙◌, subst, arith}
-use Rattle.std.proofs.lemmas.Bool.{cases_lt, cases_eq}
-use Rattle.std.proofs.lemmas.List.{get_or-set_same, get_or-set_other}
-use Rattle.pdh_shape.specs.Frame.{FrameShape}
-use Rattle.pdh_tx.specs.Tributary.{share_in}
+use Rattle.std.proofs.Common.{◌+◌, ℕ, Bool, ap, ◌∙◌, get_or, arith}
+use Rattle.pdh_runs.specs.Tables.{is_overhead}
+use Rattle.pdh_runs.proofs.Counts.{picked}
 use Rattle.pdh_tx.specs.Node.{overhead_bit}
-use Rattle.pdh_slots.specs.Slots.{is_other}
-use Rattle.pdh_slots.proofs.Picking.{before, picked, before_pass, before_grows, before_once}
-use Rattle.pdh_tx.proofs.PieceSteps.{others_long, others_pass, others_before}
+use Rattle.pdh_tx.specs.Tributaries.{shares}
+use Rattle.pdh_tx.proofs.Overhead.{overhead_slot, overhead_grows, overhead_holds}
 use Rattle.pdh_tx.proofs.tributaries.Tributaries.write_overhead.Goals as goal
-use Rattle.pdh_tx.proofs.tributaries.Tributaries.write_overhead.Goals.{then-slot-at-via-then-slot-at, then-slot-at-via-else-slot-at+then-slot-end}
 
-pub loop-other-preserved-then-slot-at : goal.loop-other-preserved-then-slot-at
-loop-other-preserved-then-slot-at g c v within info less =
-    let s : FrameShape = g.S.Shape.shape in
-    let p : ℕ → Bool = is_other s in
-    let first : ℕ = c.args.at.slot in
-    let q : ℕ = c.loop-other.other-index in
-    let items : List ℕ = c.others-others.result.now in
-    let is : items ≡ picked p s.len = c.others-others.ensures in
-    let slot : ℕ = c.from-slot.result in
-    let read : slot ≡ get_or items q 0 = c.from-slot.ensures in
-    elim (cases_lt (before p (first + v)) q) [
-      | inl earlier ↦ c.loop-other.invariant v within info earlier
-      | inr here ↦
-          let place : before p slot ≡ q = ap (before p) read ∙ others_before s items is q c.loop-other-test.true in
-          let same : first + v ≡ slot = before_once p (first + v) slot (ap not info) (ap p read ∙ others_pass s items is q c.loop-other-test.true) (omega arith) in
-          absurd (elim c.then-slot-at.branch [
-            | then-slot-at-via-then-slot-at w ↦ omega (arith, same, w.if-slot-at.true)
-            | then-slot-at-via-else-slot-at+then-slot-end w ↦ omega (arith, same, within, w.if-slot-end.true)
-          ])
-    ]
+pub bounds-overhead_slots-place : goal.bounds-overhead_slots-place
+bounds-overhead_slots-place g c =
+    let most = overhead_grows g.S.Shape.shape (c.args.at.slot + c.args.at.len) g.S.Shape.shape.len (omega (arith, c.requires.inside, g.met.S.Shape.len_is)) in
+    (overhead_slot g.S.Shape.shape c.overhead_slots.result.now c.loop-place.place c.overhead_slots.ensures (omega (arith, most, c.overhead_before-to.ensures, c.loop-place-test.true))).0
 
-pub loop-other-preserved : goal.loop-other-preserved
-loop-other-preserved g c v within info less =
-    let s : FrameShape = g.S.Shape.shape in
-    let p : ℕ → Bool = is_other s in
-    let first : ℕ = c.args.at.slot in
-    let q : ℕ = c.loop-other.other-index in
-    let items : List ℕ = c.others-others.result.now in
-    let is : items ≡ picked p s.len = c.others-others.ensures in
-    let slot : ℕ = c.from-slot.result in
-    let read : slot ≡ get_or items q 0 = c.from-slot.ensures in
-    let place : before p slot ≡ q = ap (before p) read ∙ others_before s items is q c.loop-other-test.true in
-    let passes : p slot ≡ true = ap p read ∙ others_pass s items is q c.loop-other-test.true in
-    let at : ℕ = slot - first in
-    let back : slot ≡ first + at = omega (arith, c.if-slot-at.false) in
-    let inside : at < length c.loop-other.into = omega (arith, c.if-slot-at.false, c.if-slot-end.false, c.requires.len, c.loop-other.auto.into) in
-    let bit : ℕ → Bool = λ x. overhead_bit s c.args.say.now c.args.odd (map share_in c.args.self.now.list.items) (s.role x) in
-    elim (cases_eq v at) [
-      | inl same ↦
-          let P : ℕ → Type 0 = λ k. get_or (slice_set c.loop-other.into at c.overhead.result) k false ≡ bit (first + k) in
-          subst P (sym same) (get_or-set_same c.loop-other.into at c.overhead.result false inside ∙ c.overhead.ensures ∙ ap bit back)
-      | inr other ↦
-          let earlier : before p (first + v) < q = elim (cases_lt (before p (first + v)) q) [
-            | inl h ↦ h
-            | inr here ↦ let same : first + v ≡ slot = before_once p (first + v) slot (ap not info) passes (omega arith) in absurd (other (omega arith))
-          ] in
-          get_or-set_other c.loop-other.into at v c.overhead.result false other ∙ c.loop-other.invariant v within info earlier
-    ]
+pub overhead-bit-requires : goal.overhead-bit-requires
+overhead-bit-requires g c =
+    let most = overhead_grows g.S.Shape.shape (c.args.at.slot + c.args.at.len) g.S.Shape.shape.len (omega (arith, c.requires.inside, g.met.S.Shape.len_is)) in
+    let one = overhead_slot g.S.Shape.shape c.overhead_slots.result.now c.loop-place.place c.overhead_slots.ensures (omega (arith, most, c.overhead_before-to.ensures, c.loop-place-test.true)) in
+    omega (arith, one.1, c.from-slot.ensures, g.met.S.Shape.len_is)
 
-pub returns : goal.returns
-returns g c v within info =
-    let s : FrameShape = g.S.Shape.shape in
-    let p : ℕ → Bool = is_other s in
-    let items : List ℕ = c.others-others.result.now in
-    let is : items ≡ picked p s.len = c.others-others.ensures in
-    let long = others_long s items is in
-    let next = before_pass p (c.args.at.slot + v) (ap not info) in
-    let most = before_grows p (suc (c.args.at.slot + v)) s.len (omega (arith, within, c.requires.inside, g.met.S.Shape.len_is)) in
-    c.loop-other.invariant v within info (omega (arith, long, next, most, c.loop-other-test.false))
+pub returns-clause-count : goal.returns-clause-count
+returns-clause-count g c =
+    let grows = overhead_grows g.S.Shape.shape c.args.at.slot (c.args.at.slot + c.args.at.len) (omega arith) in
+    omega (arith, grows, c.overhead_before-from.ensures, c.overhead_before-to.ensures, c.loop-place.invariant.count, c.loop-place.auto.place-end, c.loop-place-test.false)
+
+pub returns-clause-bits : goal.returns-clause-bits
+returns-clause-bits g c =
+    let s = g.S.Shape.shape in
+    let bit : ℕ → Bool = λ k. overhead_bit s c.args.say.now c.args.odd (shares c.args.self.now) (s.role (get_or (picked (is_overhead s) s.len) k 0)) in
+    let grows = overhead_grows s c.args.at.slot (c.args.at.slot + c.args.at.len) (omega arith) in
+    overhead_holds s c.args.say.now c.args.odd (shares c.args.self.now) c.args.at.slot c.args.at.len c.loop-place.self.scratch.overhead.bits (omega (arith, c.requires.inside, g.met.S.Shape.len_is))
+    (omega (arith, grows, c.overhead_before-from.ensures, c.overhead_before-to.ensures, c.loop-place.invariant.count, c.loop-place.auto.place-end, c.loop-place-test.false))
+    (λ i h. c.loop-place.invariant.bits i h ∙ ap (λ k. bit (k + i)) c.overhead_before-from.ensures)

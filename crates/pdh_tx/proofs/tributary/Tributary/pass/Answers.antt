@@ -1,14 +1,46 @@
-use Rattle.std.proofs.Common.{◌≡◌, ◌+◌, ◌-◌, ◌≤◌, ℕ, suc, false, List, Bool, ◌++◌, length, drop, take, get_or, sym, ap, ◌∙◌, subst, arith}
-use borrow.Rule.Slice.PartMut.{put_mid}
-use Rattle.std.proofs.lemmas.List.{length-append}
-use Rattle.pdh_shape.specs.Tributary.{reads_below, reads_from}
+use Rattle.std.proofs.Common.{◌≡◌, ◌+◌, ◌-◌, ◌≤◌, ℕ, List, Bool, ◌++◌, length, drop, take, sym, ap, ◌∙◌, subst, arith}
+use Rattle.std.proofs.lemmas.List.{length-take}
+use Rattle.pdh_packed.specs.Gaining.{gained}
 use Rattle.pdh_tx.specs.Meaning.{plan_of}
 use Rattle.pdh_tx.specs.Held.{Held, Gains}
-use Rattle.pdh_slots.specs.Slots.{Writes}
-use Rattle.pdh_tx.specs.Passing.{carried_in, HeldAndWritten}
-use Rattle.pdh_slots.proofs.Picking.{before, before_grows, before_pass}
-use Rattle.pdh_tx.proofs.Passing.{pass_gains, queue_front, queue_rest, part_long}
+use Rattle.pdh_tx.specs.Passing.{carried_in, HeldAndFilled}
+use Rattle.pdh_runs.specs.Pieces.{FillsColumn}
+use Rattle.pdh_tx.proofs.Passing.{pass_gains, front_room, front_is, queue_is, queue_long, rest_is, carried_is}
 use Rattle.pdh_tx.proofs.tributary.Tributary.pass.Goals as goal
+
+pub append-requires : goal.append-requires
+append-requires g c =
+    let room : c.clear.new.self.capacity ≡ c.args.queue.now.capacity = ap (λ list. list.capacity) c.clear.ensures in
+    let none : length c.clear.new.self.bits ≡ 0 = ap (λ list. length list.bits) c.clear.ensures in
+    record { room = omega (arith, room, none, c.requires.room, c.take_all.ensures.few) }
+
+pub make_clear-requires-clause-room : goal.make_clear-requires-clause-room
+make_clear-requires-clause-room g c =
+    let room = front_room c.args.queue.now c.clear.new.self c.append.new.self c.append.new.self c.args.self.now.store c.take_all.result c.args.arriving c.clear.ensures c.take_all.ensures.taken c.append.ensures in
+    let front = front_is c.args.queue.now c.clear.new.self c.append.new.self c.append.new.self c.args.self.now.store c.take_all.result c.args.arriving c.clear.ensures c.take_all.ensures.taken c.append.ensures in
+    omega (arith, room, ap length front, ap length c.take_all.ensures.taken, c.take_all.ensures.few, c.requires.room)
+
+pub overflow_cast-len : goal.overflow_cast-len
+overflow_cast-len g c =
+    let long = queue_long c.args.queue.now c.clear.new.self c.append.new.self c.make_clear.new.into c.args.self.now.store c.take_all.result c.args.arriving c.clear.ensures c.take_all.ensures.taken c.append.ensures c.in_ok-make_clear.ensures.grown in
+    let few = c.requires.few (omega (arith, ap length c.take_all.ensures.taken, c.take_all.ensures.few)) in
+    let count = carried_is g.S.Shape.shape c.args.trib c.args.self.now.share.more c.args.first c.args.len in
+    omega (arith, long, few, count, c.carried-gone.ensures, c.len.ensures.count)
+
+pub read-requires-clause-few : goal.read-requires-clause-few
+read-requires-clause-few g c =
+    let long = queue_long c.args.queue.now c.clear.new.self c.append.new.self c.make_clear.new.into c.args.self.now.store c.take_all.result c.args.arriving c.clear.ensures c.take_all.ensures.taken c.append.ensures c.in_ok-make_clear.ensures.grown in
+    let few = c.requires.few (omega (arith, ap length c.take_all.ensures.taken, c.take_all.ensures.few)) in
+    let count = carried_is g.S.Shape.shape c.args.trib c.args.self.now.share.more c.args.first c.args.len in
+    omega (arith, long, few, count, c.carried-gone.ensures, c.len.ensures.count)
+
+pub put_all-requires : goal.put_all-requires
+put_all-requires g c =
+    let long = queue_long c.args.queue.now c.clear.new.self c.append.new.self c.make_clear.new.into c.args.self.now.store c.take_all.result c.args.arriving c.clear.ensures c.take_all.ensures.taken c.append.ensures c.in_ok-make_clear.ensures.grown in
+    let few = c.requires.few (omega (arith, ap length c.take_all.ensures.taken, c.take_all.ensures.few)) in
+    let count = carried_is g.S.Shape.shape c.args.trib c.args.self.now.share.more c.args.first c.args.len in
+    let rest : length c.read.result ≤ c.len.result - c.carried-gone.result = omega (arith, ap length c.read.ensures, length-take (c.len.result - c.carried-gone.result) (drop c.carried-gone.result c.make_clear.new.into.bits)) in
+    record { room = omega (arith, rest, long, few, count, c.carried-gone.ensures, c.len.ensures.count, ap length c.take_all.ensures.empty) }
 
 pub returns-clause-gains : goal.returns-clause-gains
 returns-clause-gains g c made read was =
@@ -16,38 +48,27 @@ returns-clause-gains g c made read was =
     let j : ℕ = c.args.trib in
     let more : Bool = c.args.self.now.share.more in
     let first : ℕ = c.args.first in
+    let len : ℕ = c.args.len in
     let arriving : ℕ = c.args.arriving in
     let store : List Bool = c.args.self.now.store in
-    let held : ℕ = c.fill-held.result in
-    let queue : List Bool = c.take_all.new.into in
-    let bits : List Bool = c.make_clear.new.into in
-    let slots : List Bool = c.spread.new.into in
+    let front = c.append.new.self in
+    let queue = c.make_clear.new.into in
+    let bits : List Bool = gained front queue in
+    let column : List Bool = c.fill_column.new.column.bits in
     let plan = plan_of c.args.clock.now in
-    let p : ℕ → Bool = λ t. reads_from j more (s.role t) in
-    let size : length slots ≡ length c.args.into.now = c.spread.ensures.len in
-    let end : reads_below s j more (first + length slots) ≡ reads_below s j more (first + length c.args.into.now) = ap (λ n. reads_below s j more (first + n)) size in
-    let gone : ℕ = carried_in s j more first (length slots) in
-    let count : reads_below s j more first + gone ≡ reads_below s j more (first + length slots) = omega (arith, before_grows p first (first + length slots) (omega arith)) in
+    let gone : ℕ = carried_in s j more first len in
+    let count = carried_is s j more first len in
     let makes = c.in_ok-make_clear.ensures.made made was.place in
-    let room : held + arriving ≤ length queue = omega (arith, c.requires.room, c.fill-held.ensures.count, c.fill-held.ensures.bounded, c.take_all.auto.into) in
-    let part = part_long queue held arriving room in
-    let long : length bits ≡ arriving = (let m = makes.count in omega (arith, m, part)) in
-    let front = queue_front queue _ bits store held arriving c.take_all.ensures.taken c.fill-held.ensures.count long in
-    let rest = queue_rest queue _ bits store held arriving c.take_all.ensures.taken c.fill-held.ensures.count long gone in
-    let same : gone ≡ c.carried-gone.result = omega (arith, count, end, c.carried-gone.ensures) in
-    let whole : List Bool = put_mid held (held + arriving - held) queue bits in
-    let put : c.put_all.new.self ≡ c.take_all.new.self ++ take (held + arriving - c.carried-gone.result) (drop c.carried-gone.result whole) = c.put_all.ensures in
-    let now : c.put_all.new.self ≡ drop gone (store ++ bits) = put ∙ ap (λ l. l ++ take (held + arriving - c.carried-gone.result) (drop c.carried-gone.result whole)) c.take_all.ensures.empty
-    ∙ ap (λ n. take (held + arriving - n) (drop n whole)) (sym same) ∙ rest in
-    let writes : Writes s j more first (λ i. get_or (take (held + arriving) whole) i false) 0 slots = c.spread.ensures.writes in
-    let P : List Bool → Type 0 = λ l. Writes s j more first (λ i. get_or l i false) 0 slots in
-    let wrote : P (store ++ bits) = subst P front writes in
-    let enough : gone ≤ length (store ++ bits) = omega (arith, c.requires.enough, count, end, long, length-append store bits) in
-    let Q : List Bool → ℕ → Type 0 = λ l to. Gains (g.C.Tx.meaning c.args.self.now.child) plan (Held g.C.Tx.stands_for g.C.Tx.meaning c.args.self.now.child store)
-    (HeldAndWritten g.C.Tx.stands_for g.C.Tx.meaning s j more first c.make_clear.new.self l slots gone) made to read (g.F.Feed.inputs c.args.feed.now) (g.F.Feed.inputs c.make_clear.new.feed) in
-    let gains = pass_gains g.C.Tx.stands_at g.C.Tx.stands_for g.C.Tx.meaning g.C.Tx.says g.C.Tx.is_stopped c.args.self.now.child c.make_clear.new.self plan store bits made read gone _ _ _ s j more first slots
-    c.in_ok-make_clear.ensures.same enough count
-    (λ v i h pv e. let next = before_pass p (first + v) pv in let most = before_grows p (suc (first + v)) (first + length slots) (omega arith) in let n : before p (first + length slots) ≡ before p first + gone = sym count in omega (arith, next, most, n, e))
-    was makes wrote in
-    let to : made + length (take (held + arriving - held) (drop held queue)) ≡ made + arriving = ap (λ n. made + n) part in
-    subst (Q c.put_all.new.self) to (subst (λ l. Q l (made + length (take (held + arriving - held) (drop held queue)))) (sym now) gains)
+    let is : queue.bits ≡ store ++ bits = queue_is c.args.queue.now c.clear.new.self front queue store c.take_all.result arriving c.clear.ensures c.take_all.ensures.taken c.append.ensures c.in_ok-make_clear.ensures.grown in
+    let long = queue_long c.args.queue.now c.clear.new.self front queue store c.take_all.result arriving c.clear.ensures c.take_all.ensures.taken c.append.ensures c.in_ok-make_clear.ensures.grown in
+    let same : c.carried-gone.result ≡ gone = omega (arith, count, c.carried-gone.ensures) in
+    let rest : c.read.result ≡ drop gone (store ++ bits) = c.read.ensures ∙ ap (λ n. take (n - c.carried-gone.result) (drop c.carried-gone.result queue.bits)) c.len.ensures.count ∙ rest_is queue.bits c.carried-gone.result
+    ∙ ap (λ n. drop n queue.bits) same ∙ ap (drop gone) is in
+    let now : c.put_all.new.self ≡ drop gone (store ++ bits) = c.put_all.ensures ∙ ap (λ l. l ++ c.read.result) c.take_all.ensures.empty ∙ rest in
+    let enough : gone ≤ length (store ++ bits) = omega (arith, c.requires.enough, long, ap length is) in
+    let fills : FillsColumn s j more first len (store ++ bits) column = subst (λ (l : List Bool). FillsColumn s j more first len l column) is c.fill_column.ensures.fills in
+    let Q : List Bool → Type 0 = λ l. Gains (g.C.Tx.meaning c.args.self.now.child) plan (Held g.C.Tx.stands_for g.C.Tx.meaning c.args.self.now.child store)
+    (HeldAndFilled g.C.Tx.stands_for g.C.Tx.meaning s j more first len gone c.make_clear.new.self l column) made (made + arriving) read (g.F.Feed.inputs c.args.feed.now) (g.F.Feed.inputs c.make_clear.new.feed) in
+    subst Q (sym now)
+    (pass_gains g.C.Tx.stands_at g.C.Tx.stands_for g.C.Tx.meaning g.C.Tx.says g.C.Tx.is_stopped c.args.self.now.child c.make_clear.new.self plan store bits made read gone _ _ _ s j more first len column
+    c.in_ok-make_clear.ensures.same enough count was makes fills)

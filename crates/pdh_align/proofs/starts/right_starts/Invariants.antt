@@ -1,0 +1,8 @@
+use Rattle.std.proofs.Common.{◌≡◌, ◌+◌, ◌<◌, ℕ, false, length, take, drop, get_or}
+use Rattle.pdh_align.proofs.SignalLaws.{agrees}
+use Rattle.pdh_align.proofs.starts.right_starts.Given as goal
+
+-- those are left at which the slots so far have their bits
+abbrev pub invariant-loop-signal : goal.invariant-loop-signal
+invariant-loop-signal g l =
+    (length l.right ≡ l.count) × ((i : ℕ) → i < l.count → get_or l.right i false ≡ agrees g.S.Shape.shape (take l.signal-index l.slots) (take g.S.Shape.LEN (drop (l.start + i) l.held.bits)))

@@ -1,0 +1,18 @@
+use Rattle.std.proofs.Common.{◌≡◌, ◌++◌, Bool, List, not, map, ap, ◌∙◌, sym}
+use Rattle.std.proofs.lemmas.List.{map-append, with_items_is}
+use Rattle.std.specs.Vec.{with_items}
+use Rattle.pdh_packed.specs.Words.{bits_of_words}
+use Rattle.pdh_packed.proofs.BoundedLaws.{bits_become}
+use Rattle.pdh_packed.proofs.packed.Packed.invert.Goals as goal
+
+pub returns : goal.returns
+returns c =
+    let words = c.self.inside.words.items in
+    let tail = c.self.inside.tail in
+    let set = λ (bits : List Bool). map not bits in
+    let kept : (with_items c.self.inside.words c.invert_words.new.words).items ≡ c.invert_words.new.words =
+    with_items_is c.self.inside.words c.invert_words.new.words (c.invert_words.ensures.lens ∙ c.deref_mut.ensures.len) in
+    let whole : bits_of_words (with_items c.self.inside.words c.invert_words.new.words).items ≡ set (bits_of_words words) =
+    ap bits_of_words kept ∙ c.invert_words.ensures.bits ∙ ap (λ words. set (bits_of_words words)) c.deref_mut.ensures.value in
+    bits_become set c.self.inside.capacity (bits_of_words words ++ tail) _ c.args.self.now c.self.view_is
+    (ap (λ bits. bits ++ c.inverted-self-inside.result) whole ∙ ap (λ bits. set (bits_of_words words) ++ bits) c.inverted-self-inside.ensures ∙ sym (map-append not (bits_of_words words) tail))

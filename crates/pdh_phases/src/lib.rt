@@ -1,0 +1,13 @@
+//! A search for frame alignment that reads each bit once, many at a time: how often in a row the
+//! alignment signal stands at each phase of a frame.
+#![tactic(auto)]
+
+pub mod laws;
+mod phases;
+mod planes;
+mod signal;
+#[cfg(test)]
+mod tests;
+
+pub use phases::Phases;
+pub use signal::signal_number;

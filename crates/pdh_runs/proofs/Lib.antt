@@ -1,0 +1,13 @@
+pub mod RunLaws
+pub mod ColumnLaws
+pub mod Counts
+pub mod TurnLaws
+pub mod TableLaws
+pub mod SlotLaws
+pub mod PieceLaws
+pub mod StretchLaws
+pub mod EmptyTurns
+pub mod AssemblyLaws
+pub mod MadeLaws
+pub mod TakingLaws
+pub mod Worked

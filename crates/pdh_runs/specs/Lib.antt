@@ -1,0 +1,6 @@
+pub mod Runs
+pub mod Columns
+pub mod Pieces
+pub mod Tables
+pub mod Taking
+pub mod Turns

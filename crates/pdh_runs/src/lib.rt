@@ -1,0 +1,18 @@
+//! The runs of a frame: so many overhead slots, then so many payload slots, over the whole frame, and the payload as columns,
+//! one for each tributary.
+#![tactic(auto)]
+
+pub mod laws;
+mod layout;
+mod parts;
+mod receiving;
+mod run;
+mod sending;
+mod tables;
+#[cfg(test)]
+mod tests;
+mod turns;
+
+pub use layout::Layout;
+pub use parts::Parts;
+pub use run::{Run, runs};
