@@ -94,13 +94,13 @@ stops shapes m sees bits inputs inputs_now outputs outputs_now first reads now s
 stops shapes m sees bits inputs inputs_now outputs outputs_now first reads now start writes writes_now ReadFailed same are h h' why = (omega (arith, why.0, h), fewer shapes m sees bits inputs inputs_now outputs outputs_now same are why.1)
 stops shapes m sees bits inputs inputs_now outputs outputs_now first reads now start writes writes_now WriteFailed same are h h' why = (omega (arith, why.0, h'), part shapes m sees bits inputs inputs_now outputs outputs_now same are why.1)
 
--- a receiver leaves the port ready where it stops, unless a call that puts bits failed
-pub left : (m : Meaning) (sees : List Event → Type 0) (bits : ℕ) (inputs inputs_now : Inputs) (outputs outputs_now : Outputs) (reads now writes writes_now : ℕ) (fresh ready : Type 0) (stop : DemuxStop) → IsReceiveStop m sees bits inputs inputs_now outputs outputs_now reads now writes writes_now stop
-    → ready → IsDemuxLeft fresh ready (Err stop)
-left m sees bits inputs inputs_now outputs outputs_now reads now writes writes_now fresh ready Memory why here = absurd why
-left m sees bits inputs inputs_now outputs outputs_now reads now writes writes_now fresh ready Ended why here = here
-left m sees bits inputs inputs_now outputs outputs_now reads now writes writes_now fresh ready ReadFailed why here = here
-left m sees bits inputs inputs_now outputs outputs_now reads now writes writes_now fresh ready WriteFailed why here = tt
+-- a receiver leaves the port ready where it stops
+pub left : (m : Meaning) (sees : List Event → Type 0) (bits : ℕ) (inputs inputs_now : Inputs) (outputs outputs_now : Outputs) (reads now writes writes_now : ℕ) (fresh ready refused : Type 0) (stop : DemuxStop) → IsReceiveStop m sees bits inputs inputs_now outputs outputs_now reads now writes writes_now stop
+    → ready → IsDemuxLeft fresh ready refused (Err stop)
+left m sees bits inputs inputs_now outputs outputs_now reads now writes writes_now fresh ready refused Memory why here = absurd why
+left m sees bits inputs inputs_now outputs outputs_now reads now writes writes_now fresh ready refused Ended why here = here
+left m sees bits inputs inputs_now outputs outputs_now reads now writes writes_now fresh ready refused ReadFailed why here = here
+left m sees bits inputs inputs_now outputs outputs_now reads now writes writes_now fresh ready refused WriteFailed why here = inl here
 
 -- ---- a start that failed
 

@@ -11,7 +11,7 @@ use Rattle.pdh_shape.specs.declared.role.Service.{Service}
 use Rattle.pdh_line.specs.Sending.{front}
 use Rattle.pdh_line.proofs.Ranges.{range_append}
 use Rattle.pdh_tx.specs.declared.tx.TxStop.{TxStop}
-use Rattle.pdh_tx.specs.Meaning.{Plan, Supply, Meaning, Fits, Agrees, Makes, Stops}
+use Rattle.pdh_tx.specs.Meaning.{Plan, Supply, Meaning, Fits, Agrees, Makes, Stops, faults_met}
 use Rattle.pdh_tx.specs.Held.{IsPart, Halts}
 use Rattle.pdh_tx.specs.Making.{Gives, IsClear, MakesAll}
 use Rattle.pdh_chain.specs.Muxing.{as_line, Stood, HasFrames, SayInFrames, IsFree, StopsAt, MakesBits, StopsMaking, Sends, StopsSending, FailsToSend, FailsToTake}
@@ -143,7 +143,7 @@ stops_at m plan a stop x y faults now s = record {
   met = s.met;
 }
 
-stops_at_then : (m : Meaning) (plan : Plan) (a b made : ℕ) (g h : ℕ → List Bool) (stop : TxStop) (x y z : Inputs) (faults later now : ℕ) → Gives m plan a b g x y → IsFree m plan a b x → faults ≤ later → StopsAt m plan b made h stop y z later now
+stops_at_then : (m : Meaning) (plan : Plan) (a b made : ℕ) (g h : ℕ → List Bool) (stop : TxStop) (x y z : Inputs) (faults later now : ℕ) → Gives m plan a b g x y → IsFree m plan a b x → later ≡ faults → StopsAt m plan b made h stop y z later now
     → StopsAt m plan a made (λ k. g k ++ h k) stop x z faults now
 stops_at_then m plan a b made g h stop x y z faults later now p free le s = record {
   takes = takes_then g h x y z p.takes s.takes;
@@ -153,13 +153,13 @@ stops_at_then m plan a b made g h stop x y z faults later now p free le s = reco
   free = free_then m plan a b made g x y p free s.free;
   used_up = s.used_up;
   met = record {
-    rose = λ e. rose_since faults later now le (s.met.rose e);
+    counted = s.met.counted ∙ ap (faults_met stop) le;
     is_first = λ e size fits. s.met.is_first e size (fits_then m plan a b g x y size p fits);
   };
 }
 
 pub stops_making : (m m' : Meaning) (says : ℕ → Service) (placed : ℕ → Type 0) (old mid : Supply → ℕ → Type 0) (plan : Plan) (a b to : ℕ) (bits : List Bool) (stop : TxStop) (x y z : Inputs) (faults later now : ℕ) → MakesBits m says placed old mid plan a b bits x y
-    → m' ≡ m → faults ≤ later → b < to → Stops m' plan b stop y z later now → StopsMaking m plan a to stop x z faults now
+    → m' ≡ m → later ≡ faults → b < to → Stops m' plan b stop y z later now → StopsMaking m plan a to stop x z faults now
 stops_making m m' says placed old mid plan a b to bits stop x y z faults later now p same le lt stops = (let s : Stops m plan b stop y z later now = subst (λ m. Stops m plan b stop y z later now) same stops in record {
   made = b;
   begun = omega (arith, p.count);
@@ -228,7 +228,7 @@ sending_sends m says placed old new plan b to x y o o' e sending = (let p : Send
 
 -- the sender stops in a frame, and leaves the outputs
 pub sending_stops : (m m' : Meaning) (says : ℕ → Service) (placed : ℕ → Type 0) (old mid : Supply → ℕ → Type 0) (plan : Plan) (len frames n : ℕ) (stop : TxStop) (x y z : Inputs) (o o' o'' : Outputs) (faults later now : ℕ) → m' ≡ m → o'' ≡ o' → n < frames
-    → faults ≤ later → Sending m says placed old mid plan (n * len) x y o o' → StopsMaking m' plan (n * len) (n * len + len) stop y z later now → StopsSending m says old plan len frames stop x z o o'' faults now
+    → later ≡ faults → Sending m says placed old mid plan (n * len) x y o o' → StopsMaking m' plan (n * len) (n * len + len) stop y z later now → StopsSending m says old plan len frames stop x z o o'' faults now
 sending_stops m m' says placed old mid plan len frames n stop x y z o o' o'' faults later now same left lt le p stops = (let s : StopsMaking m plan (n * len) (n * len + len) stop y z later now = subst (λ m. StopsMaking m plan (n * len) (n * len + len) stop y z later now) same stops in record {
   whole = n;
   fewer = lt;
@@ -317,6 +317,7 @@ sending_halts m m' says placed old mid plan len frames n stop x y z o o' o'' fau
   others = others_then m p.makes.given h.given p.makes.gives.others h.others;
   no_fewer = λ k leaf. omega (arith, p.makes.gives.exact k leaf, length-append (p.makes.given k) (h.given k));
   no_more = λ k leaf. (let end : m.given plan (n * len + len) k ≡ m.given plan (suc n * len) k = ap (λ t. m.given plan t k) (sym (suc-mul n len)) in omega (arith, p.makes.gives.exact k leaf, length-append (p.makes.given k) (h.given k), h.no_more k leaf, end));
+  free = p.makes.free;
   rose = rose_since faults later now le rose;
   puts = λ supply st. subst (Puts (as_line (front (m.line supply) (n * len))) o) (sym left)
       (sending_puts m says placed old mid plan (n * len) x y o o' p supply (stood_first m says old plan 0 p.makes.given h.given supply st));

@@ -2,6 +2,7 @@ pub mod ChainLaws
 pub mod Lists
 pub mod Frames
 pub mod Muxed
+pub mod MuxLeft
 pub mod Received
 pub mod Demuxed
 pub mod Numbered
@@ -16,3 +17,4 @@ pub mod ShortLists
 pub mod Tolerated
 pub mod Clear
 pub mod Scheduled
+pub mod FarGrows

@@ -6,6 +6,7 @@ use Rattle.std.proofs.lemmas.Bool.{cases_Bool, cases_eq, eq-eqb, ne_eqb}
 use Rattle.std.proofs.lemmas.Nat.{div-mul-add, mod-mul-add, div-add-mod'}
 use Rattle.std.proofs.Math.Nat.{mul-le-mul_right}
 use Rattle.pdh_edge.specs.Files.{Rose}
+use Rattle.pdh_edge.proofs.Runs.{rose_of}
 use Rattle.pdh_edge.specs.Ports.{Inputs, Outputs, Puts, PutsPart, PrefixOf, before}
 use Rattle.pdh_shape.specs.declared.place.Path.{Path}
 use Rattle.pdh_shape.specs.declared.place.Place.{Place}
@@ -38,7 +39,7 @@ use Rattle.pdh_line.specs.Paths.{top}
 use Rattle.pdh_chain.specs.declared.stop.MuxStop.TheVariants.{Memory as MuxMemory, Event as MuxEvent, NoFrame as MuxNoFrame, Ended as MuxEnded, ReadFailed as MuxReadFailed, WriteFailed as MuxWriteFailed}
 use Rattle.pdh_chain.specs.Trees.{sender_of, AreLevelsOf}
 use Rattle.pdh_chain.specs.Muxing.{as_line, Stood, HasFrames, IsFree, Sends, StopsSending, FailsToSend, FailsToTake, IsCallStop}
-use Rattle.pdh_chain.specs.Muxes.{plan_with, bits_of, frames_of_line, BeginWith, PutsFrames, PutsFewer, PutsPrefix, Muxes, StopsFirst, StopsAtEvent, LacksFrames, LacksBelow, IsMuxStop, is_overflow, place_of, stop_at, mux_stop, call_stop}
+use Rattle.pdh_chain.specs.Muxes.{plan_with, bits_of, frames_of_line, BeginWith, IsClear, PutsFrames, PutsFewer, PutsPrefix, Muxes, StopsFirst, StopsAtEvent, LacksFrames, LacksBelow, IsMuxStop, is_overflow, place_of, stop_at, mux_stop, call_stop}
 use Rattle.pdh_chain.proofs.Numbered.{IsAt}
 use Rattle.pdh_chain.proofs.TreeLeaves.{leaf_known, leaf_in, leaf_out}
 use Rattle.pdh_chain.proofs.Senders.{senders, leaf-is, line_is, given_is, nodes_in}
@@ -198,6 +199,10 @@ module _ (shapes : List FrameShape) (counts : Counts) (says : ℕ → Service) (
   quiet : (inputs : Inputs) (to y : ℕ) → IsFree m plan 0 to inputs → y < to → events_in shapes counts [] y ≡ []
   quiet inputs to y free h = tells inputs.left y None (free inputs.left (fits inputs) y (omega arith) h)
 
+  -- nothing stands in the way of the first of bits that are free
+  clear_of : (inputs : Inputs) (to bits : ℕ) → IsFree m plan 0 to inputs → bits ≤ to → IsClear shapes counts scheduled inputs.left bits
+  clear_of inputs to bits free most x h = free inputs.left (fits inputs) x (omega arith) (omega arith)
+
   -- what was put for every supply that the sender stood for
   puts_frames : (stands_for : Supply → ℕ → Type 0) (n : ℕ) (given : ℕ → List Bool) (outputs outputs_now : Outputs) (lists : ℕ → List Bool) → ((supply : Supply) → stands_for supply 0)
       → ((supply : Supply) → Stood m says stands_for plan 0 given supply → Puts (as_line (front (m.line supply) (n * top_len shapes))) outputs outputs_now)
@@ -218,7 +223,7 @@ module _ (shapes : List FrameShape) (counts : Counts) (says : ℕ → Service) (
     };
     given_is = λ k known. omega (arith, sends.gives.takes.counts k, sends.gives.exact k (is_leaf shapes k known), given-none k known, given-is (frames * top_len shapes) k known);
     no_event = ap (λ es. slice_get es 0) (events_below-none shapes counts (frames * top_len shapes) (λ y h. quiet inputs (frames * top_len shapes) y sends.free h));
-    clear = λ x h. sends.free inputs.left (fits inputs) x (omega arith) h;
+    clear = clear_of inputs (frames * top_len shapes) (frames * top_len shapes) sends.free (omega arith);
   }
 
   -- ---- a stop
@@ -238,7 +243,7 @@ module _ (shapes : List FrameShape) (counts : Counts) (says : ℕ → Service) (
     made_inside = omega (arith, mul-le-mul_right (top_len shapes) stops.fewer, stops.within)
 
     -- it stands in the way before all frames are sent, and no leaf gave more than these frames and the next take
-    abbrev fewer_frames : PutsFewer shapes counts says frames inputs inputs_now outputs outputs_now
+    abbrev fewer_frames : PutsFewer shapes counts says scheduled frames inputs inputs_now outputs outputs_now
     fewer_frames = record {
       whole = stops.whole;
       fewer = stops.fewer;
@@ -247,6 +252,7 @@ module _ (shapes : List FrameShape) (counts : Counts) (says : ℕ → Service) (
         no_fewer = λ k known. omega (arith, stops.at.no_fewer k (is_leaf shapes k known), given-none k known, given-is stops.made k known, given_below-grows shapes counts [] (stops.whole * top_len shapes) stops.made k are stops.begun);
         no_more = λ k known. omega (arith, stops.at.no_more k (is_leaf shapes k known), given-none k known, given-is (suc stops.made) k known, given_below-grows shapes counts [] (suc stops.made) (suc stops.whole * top_len shapes) k are stops.within);
       };
+      clear = clear_of inputs stops.made (stops.whole * top_len shapes) stops.at.free stops.begun;
     }
 
     -- it stands first in the way
@@ -255,7 +261,7 @@ module _ (shapes : List FrameShape) (counts : Counts) (says : ℕ → Service) (
       obstacle = record {
         made = stops.made;
         within = made_inside;
-        clear = λ x h. stops.at.free inputs.left (fits inputs) x (omega arith) h;
+        clear = clear_of inputs stops.made stops.made stops.at.free (omega arith);
         met = stops.at.met.is_first none inputs.left (fits inputs);
       };
       put = fewer_frames;
@@ -288,7 +294,7 @@ module _ (shapes : List FrameShape) (counts : Counts) (says : ℕ → Service) (
   pub stops_muxes : (old : Supply → ℕ → Type 0) (frames : ℕ) (stop : TxStop) (inputs inputs_now : Inputs) (outputs outputs_now : Outputs) (faults now writes writes_now : ℕ) → frames ≤ scheduled [] → ((supply : Supply) → old supply 0)
       → StopsSending m says old plan (top_len shapes) frames stop inputs inputs_now outputs outputs_now faults now
       → IsMuxStop shapes counts says scheduled frames inputs inputs_now outputs outputs_now faults now writes writes_now (mux_stop stop)
-  stops_muxes old frames Failed inputs inputs_now outputs outputs_now faults now writes writes_now has fresh stops = (stops.at.met.rose refl, fewer_frames old frames Failed inputs inputs_now outputs outputs_now faults now fresh stops)
+  stops_muxes old frames Failed inputs inputs_now outputs outputs_now faults now writes writes_now has fresh stops = (rose_of _ _ stops.at.met.counted, fewer_frames old frames Failed inputs inputs_now outputs outputs_now faults now fresh stops)
   stops_muxes old frames (Overflow place) inputs inputs_now outputs outputs_now faults now writes writes_now has fresh stops = elim (met old frames (Overflow place) inputs inputs_now outputs outputs_now faults now fresh stops refl) [
     | inl first ↦ at_event old frames (Overflow place) inputs inputs_now outputs outputs_now faults now fresh stops true place first refl refl (over_is first.event.kind place (place_of first.event) first.is)
     | inr none ↦ absurd none
@@ -319,7 +325,7 @@ module _ (shapes : List FrameShape) (counts : Counts) (says : ℕ → Service) (
   -- ---- a call for bits that failed
 
   pub takes_muxes : (old : Supply → ℕ → Type 0) (frames : ℕ) (inputs inputs_now : Inputs) (outputs outputs_now : Outputs) (reads reads_now : ℕ) → ((supply : Supply) → old supply 0)
-      → FailsToTake m says old plan (top_len shapes) frames inputs inputs_now outputs outputs_now reads reads_now → Rose reads reads_now × PutsFewer shapes counts says frames inputs inputs_now outputs outputs_now
+      → FailsToTake m says old plan (top_len shapes) frames inputs inputs_now outputs outputs_now reads reads_now → Rose reads reads_now × PutsFewer shapes counts says scheduled frames inputs inputs_now outputs outputs_now
   takes_muxes old frames inputs inputs_now outputs outputs_now reads reads_now fresh fails = (
     fails.rose,
     record {
@@ -335,13 +341,14 @@ module _ (shapes : List FrameShape) (counts : Counts) (says : ℕ → Service) (
         no_fewer = λ k known. omega (arith, fails.no_fewer k (is_leaf shapes k known), given-none k known, given-is (fails.whole * top_len shapes) k known);
         no_more = λ k known. omega (arith, fails.no_more k (is_leaf shapes k known), given-none k known, given-is (suc fails.whole * top_len shapes) k known);
       };
+      clear = clear_of inputs (fails.whole * top_len shapes) (fails.whole * top_len shapes) fails.free (omega arith);
     },
   )
 
   -- ---- a bit that couldn't be put
 
   pub fails_muxes : (old : Supply → ℕ → Type 0) (frames : ℕ) (inputs inputs_now : Inputs) (outputs outputs_now : Outputs) (writes writes_now : ℕ) → ((supply : Supply) → old supply 0)
-      → FailsToSend m says old plan (top_len shapes) frames inputs inputs_now outputs outputs_now writes writes_now → Rose writes writes_now × PutsPrefix shapes counts says frames inputs inputs_now outputs outputs_now
+      → FailsToSend m says old plan (top_len shapes) frames inputs inputs_now outputs outputs_now writes writes_now → Rose writes writes_now × PutsPrefix shapes counts says scheduled frames inputs inputs_now outputs outputs_now
   fails_muxes old frames inputs inputs_now outputs outputs_now writes writes_now fresh fails = (
     fails.rose,
     record {
@@ -353,6 +360,7 @@ module _ (shapes : List FrameShape) (counts : Counts) (says : ℕ → Service) (
       exact = λ k known. omega (arith, fails.gives.exact k (is_leaf shapes k known), given-none k known, given-is (suc fails.whole * top_len shapes) k known);
       puts = λ lists begin.
           subst (λ line. PutsPart (as_line line) outputs outputs_now) (line-same lists (suc fails.whole)) (fails.puts (supply_with plan says lists) (stood old fails.given lists fresh begin));
+      clear = clear_of inputs (suc fails.whole * top_len shapes) (suc fails.whole * top_len shapes) fails.free (omega arith);
     },
   )
 
@@ -375,7 +383,7 @@ module _ (shapes : List FrameShape) (counts : Counts) (says : ℕ → Service) (
       (subst (λ m. StopsSending m says old plan (top_len shapes) frames stop inputs inputs_now outputs outputs_now faults now) same (subst (λ len. StopsSending m says old plan len frames stop inputs inputs_now outputs outputs_now faults now) (sym whole) stops))
 
   pub failed : (old : Supply → ℕ → Type 0) (frames : ℕ) (inputs inputs_now : Inputs) (outputs outputs_now : Outputs) (writes writes_now : ℕ) → ((supply : Supply) → old supply 0)
-      → FailsToSend m says old (plan_with scheduled counts) len frames inputs inputs_now outputs outputs_now writes writes_now → Rose writes writes_now × PutsPrefix shapes counts says frames inputs inputs_now outputs outputs_now
+      → FailsToSend m says old (plan_with scheduled counts) len frames inputs inputs_now outputs outputs_now writes writes_now → Rose writes writes_now × PutsPrefix shapes counts says scheduled frames inputs inputs_now outputs outputs_now
   failed old frames inputs inputs_now outputs outputs_now writes writes_now fresh fails =
       let plan : Plan = plan_with scheduled counts in
       fails_muxes shapes counts says scheduled are at old frames inputs inputs_now outputs outputs_now writes writes_now fresh
@@ -412,8 +420,8 @@ nothing_before : (told : Option (List Bool)) → told ≡ before [] told
 nothing_before None = refl
 nothing_before (Some list) = refl
 
-pub nothing_put : (shapes : List FrameShape) (counts : Counts) (says : ℕ → Service) (frames : ℕ) (inputs inputs_now : Inputs) (outputs outputs_now : Outputs) → AreFrames shapes → inputs_now ≡ inputs → outputs_now ≡ outputs → PutsPrefix shapes counts says frames inputs inputs_now outputs outputs_now
-nothing_put shapes counts says frames inputs inputs_now outputs outputs_now are same same' = record {
+pub nothing_put : (shapes : List FrameShape) (counts : Counts) (says : ℕ → Service) (scheduled : List ℕ → ℕ) (frames : ℕ) (inputs inputs_now : Inputs) (outputs outputs_now : Outputs) → AreFrames shapes → inputs_now ≡ inputs → outputs_now ≡ outputs → PutsPrefix shapes counts says scheduled frames inputs inputs_now outputs outputs_now
+nothing_put shapes counts says scheduled frames inputs inputs_now outputs outputs_now are same same' = record {
   made = 0;
   upto = omega arith;
   given = λ k. [];
@@ -425,6 +433,7 @@ nothing_put shapes counts says frames inputs inputs_now outputs outputs_now are 
   exact = λ k known. (let none : 0 * top_len shapes ≡ 0 = omega arith in sym (ap (λ x. given_below shapes counts [] x k) none ∙ none_before_first shapes counts [] k are));
   puts = λ lists begin k.
       subst (λ told. PrefixOf (as_line (frames_of_line shapes counts says lists 0) k) (outputs.told k) told) (ap (λ (o : Outputs). o.told k) (sym same')) (prefix_same (as_line (frames_of_line shapes counts says lists 0) k) (outputs.told k));
+  clear = λ x h. absurd (omega arith);
 }
 
 -- ---- counts of faults since an earlier state

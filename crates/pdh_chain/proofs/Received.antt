@@ -2,8 +2,9 @@
 use Rattle.std.specs.Prelude.{⊤}
 use Rattle.std.proofs.Common.{◌≡◌, ℕ, ◌+◌, ◌<◌, ◌≤◌, Bool, List, [], ◌∷◌, ◌++◌, length, refl, sym, ap, subst, ◌∙◌, arith}
 use Rattle.std.proofs.lemmas.List.{append-nil, length-append}
+use Rattle.pdh_edge.specs.Counts.{one_more}
 use Rattle.pdh_edge.specs.Files.{Rose}
-use Rattle.pdh_edge.specs.Ports.{Inputs, Outputs, Takes, only, nothing, before as told_before}
+use Rattle.pdh_edge.specs.Ports.{Inputs, Outputs, Takes, only, nothing, faults_fed, before as told_before}
 use Rattle.pdh_edge.specs.declared.port.FeedStop.{FeedStop}
 use Rattle.pdh_edge.specs.declared.port.FeedStop.TheVariants.{Failed, Ended}
 use Rattle.pdh_watch.specs.declared.event.Event.{Event}
@@ -12,6 +13,7 @@ use Rattle.pdh_events.specs.laws.KeepingLaws.{each_bit_more, each_bit_none}
 use Rattle.pdh_rx.specs.Meaning.{Meaning, Gains, GainsPart, TakesBits, TakesPart}
 use Rattle.pdh_rx.proofs.Gains.{gains_nothing, gains_join, part_after}
 use Rattle.pdh_chain.specs.Demuxing.{Receives, ReceivesFewer, ReceivesPart, IsReceiveStop, SeesPart, feed_stop}
+use Rattle.pdh_chain.specs.Faults.{reads_at_demux_stop, writes_at_demux_stop}
 use Rattle.pdh_chain.specs.Muxing.{as_line}
 use Rattle.pdh_chain.specs.declared.stop.DemuxStop.{DemuxStop}
 use Rattle.pdh_chain.specs.declared.stop.DemuxStop.TheVariants.{Memory, Ended as LineEnded, ReadFailed, WriteFailed}
@@ -72,6 +74,15 @@ feed_stops m stands sees n bits x y z o p p' first reads now writes writes_now E
   omega (arith, takes.counts 0, ended refl),
   fewer m stands sees n bits x y z o p p' less outputs before takes,
 )
+
+-- the counts of faults where the line gives no bit
+pub feed_reads : (why : FeedStop) (a b c : ℕ) → c ≡ faults_fed why b → b ≡ a → c ≡ reads_at_demux_stop (feed_stop why) a
+feed_reads Failed a b c counted same = counted ∙ ap one_more same
+feed_reads Ended a b c counted same = counted ∙ same
+
+pub feed_writes : (why : FeedStop) (a c : ℕ) → c ≡ a → c ≡ writes_at_demux_stop (feed_stop why) a
+feed_writes Failed a c same = same
+feed_writes Ended a c same = same
 
 -- a bit of which not all could be put that the leaves got by it
 pub put_stops : (m now : Meaning) (stands : List Bool → Type 0) (sees sees_next : List Event → Type 0) (n bits : ℕ) (bit : Bool) (x y z z' : Inputs) (o p p' q : Outputs) (reads reads_now first writes writes_now : ℕ) → now ≡ m → z' ≡ z → p' ≡ p → n < bits → Receives m stands sees n x y o p

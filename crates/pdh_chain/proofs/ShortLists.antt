@@ -215,9 +215,9 @@ line_short bits k = one_of (k == 0)
     one_of false = omega arith
 
 -- Where a bit couldn't be put, no list took more bits than the frames of the whole line have.
-pub mux_short : (shapes : List FrameShape) (counts : Counts) (says : ℕ → Service) (frames : ℕ) (inputs inputs_now : Inputs) (outputs outputs_now : Outputs) → PutsPrefix shapes counts says frames inputs inputs_now outputs outputs_now
+pub mux_short : (shapes : List FrameShape) (counts : Counts) (says : ℕ → Service) (scheduled : List ℕ → ℕ) (frames : ℕ) (inputs inputs_now : Inputs) (outputs outputs_now : Outputs) → PutsPrefix shapes counts says scheduled frames inputs inputs_now outputs outputs_now
     → (k : ℕ) → bits_held outputs_now k ≤ bits_held outputs k + frames * top_len shapes
-mux_short shapes counts says frames inputs inputs_now outputs outputs_now put k =
+mux_short shapes counts says scheduled frames inputs inputs_now outputs outputs_now put k =
     let line : List Bool = frames_of_line shapes counts says put.given put.made in
     let part = put.puts put.given (λ k i known less. refl) k in
     omega (arith, prefix_short (as_line line k) (outputs.told k) (outputs_now.told k) part, line_short line k, length-front (chain_line shapes counts (bits_of put.given) says [] 0) (put.made * top_len shapes), mul-le-mul_right (top_len shapes) put.upto)

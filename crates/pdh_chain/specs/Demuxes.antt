@@ -1,5 +1,5 @@
 -- What `demux` takes of its port and puts to it, and what its watch sees.
-use Rattle.std.specs.Prelude.{◌≡◌, ⊤, ℕ, ◌<◌, ◌≤◌, nat_lt, Bool, if◌then◌else◌, List, [], ◌∷◌, length, Ok, Err, Result}
+use Rattle.std.specs.Prelude.{◌≡◌, ℕ, ◌<◌, ◌≤◌, ◌⊎◌, nat_lt, Bool, if◌then◌else◌, List, [], ◌∷◌, length, Ok, Err, Result}
 use Rattle.pdh_edge.specs.Files.{Rose}
 use Rattle.pdh_edge.specs.Ports.{Inputs, Outputs, Takes, Puts, PutsPart}
 use Rattle.pdh_shape.specs.Frame.{FrameShape}
@@ -62,9 +62,9 @@ IsDemuxStop shapes sees bits inputs inputs_now outputs outputs_now reads reads_n
 IsDemuxStop shapes sees bits inputs inputs_now outputs outputs_now reads reads_now writes writes_now WriteFailed =
     Rose writes writes_now × DemuxesPart shapes sees bits inputs inputs_now outputs outputs_now
 
--- the port is fresh still where memory was wanting, and else ready, unless a call that puts bits failed
-abbrev pub IsDemuxLeft : (fresh ready : Type 0) → Result ℕ DemuxStop → Type 0
-IsDemuxLeft fresh ready (Ok frames) = ready
-IsDemuxLeft fresh ready (Err Memory) = fresh
-IsDemuxLeft fresh ready (Err WriteFailed) = ⊤
-IsDemuxLeft fresh ready (Err stop) = ready
+-- the port is fresh still where memory was wanting, and else ready, unless it refused to be started
+abbrev pub IsDemuxLeft : (fresh ready refused : Type 0) → Result ℕ DemuxStop → Type 0
+IsDemuxLeft fresh ready refused (Ok frames) = ready
+IsDemuxLeft fresh ready refused (Err Memory) = fresh
+IsDemuxLeft fresh ready refused (Err WriteFailed) = ready ⊎ refused
+IsDemuxLeft fresh ready refused (Err stop) = ready

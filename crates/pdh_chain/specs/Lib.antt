@@ -7,3 +7,4 @@ pub mod Trees
 pub mod Muxes
 pub mod Demuxing
 pub mod Demuxes
+pub mod Faults

@@ -1,6 +1,6 @@
 -- What `mux` puts to its port and takes of it. `counts` tells how many bits of each tributary of the node at a path arrive in
 -- each of its frames, `scheduled` how many frames the node has, and `says` what the service bits of the top's frames say.
-use Rattle.std.specs.Prelude.{◌≡◌, ⊤, ℕ, suc, ◌+◌, ◌*◌, ◌<◌, ◌≤◌, ◌⊎◌, Bool, true, false, List, [], ◌∷◌, length, Some, None, Option, Ok, Err, Result, slice_get}
+use Rattle.std.specs.Prelude.{◌≡◌, ℕ, suc, ◌+◌, ◌*◌, ◌<◌, ◌≤◌, ◌⊎◌, Bool, true, false, List, [], ◌∷◌, length, Some, None, Option, Ok, Err, Result, slice_get}
 use Rattle.std.specs.List.{slice_index_or}
 use Rattle.pdh_edge.specs.Files.{Rose}
 use Rattle.pdh_edge.specs.Ports.{Inputs, Outputs, Takes, Puts, PutsPart}
@@ -110,17 +110,18 @@ is_overflow Underflow = false
 abbrev pub place_of : Event → Place
 place_of event = record { path = path_of event.path; trib = event.trib + 1; frame = event.frame; slot = event.slot }
 
--- some whole frames were put, fewer than so many
-pub record PutsFewer (shapes : List FrameShape) (counts : Counts) (says : ℕ → Service) (frames : ℕ) (inputs inputs_now : Inputs) (outputs outputs_now : Outputs) : Type 0 where
+-- some whole frames were put, fewer than so many, and nothing stood in their way
+pub record PutsFewer (shapes : List FrameShape) (counts : Counts) (says : ℕ → Service) (scheduled : List ℕ → ℕ) (frames : ℕ) (inputs inputs_now : Inputs) (outputs outputs_now : Outputs) : Type 0 where
   pub whole : ℕ
   pub fewer : whole < frames
   pub line : PutsFrames shapes counts says whole inputs inputs_now outputs outputs_now
   pub gives : GivesFrames shapes counts whole line.given
+  pub clear : IsClear shapes counts scheduled inputs.left (whole * top_len shapes)
 
 -- this stands first in the way of a bit of so many frames, and all whole frames before that bit were put
 pub record StopsFirst (shapes : List FrameShape) (counts : Counts) (says : ℕ → Service) (scheduled : List ℕ → ℕ) (frames : ℕ) (stop : TxStop) (inputs inputs_now : Inputs) (outputs outputs_now : Outputs) : Type 0 where
   pub obstacle : IsFirstObstacle shapes counts scheduled inputs.left frames stop
-  pub put : PutsFewer shapes counts says frames inputs inputs_now outputs outputs_now
+  pub put : PutsFewer shapes counts says scheduled frames inputs inputs_now outputs outputs_now
   pub begun : put.whole * top_len shapes ≤ obstacle.made
   pub within : obstacle.made < suc put.whole * top_len shapes
 
@@ -145,8 +146,8 @@ pub record StopsAtEvent (shapes : List FrameShape) (counts : Counts) (says : ℕ
   pub line : PutsFrames shapes counts says whole inputs inputs_now outputs outputs_now
   pub stops : StopsFirst shapes counts says scheduled frames (stop_at over place) inputs inputs_now outputs outputs_now
 
--- some frames were made, and what was put is a prefix of them
-pub record PutsPrefix (shapes : List FrameShape) (counts : Counts) (says : ℕ → Service) (frames : ℕ) (inputs inputs_now : Inputs) (outputs outputs_now : Outputs) : Type 0 where
+-- some frames were made, in whose way nothing stood, and what was put is a prefix of them
+pub record PutsPrefix (shapes : List FrameShape) (counts : Counts) (says : ℕ → Service) (scheduled : List ℕ → ℕ) (frames : ℕ) (inputs inputs_now : Inputs) (outputs outputs_now : Outputs) : Type 0 where
   pub made : ℕ
   pub upto : made ≤ frames
   pub given : ℕ → List Bool
@@ -154,6 +155,7 @@ pub record PutsPrefix (shapes : List FrameShape) (counts : Counts) (says : ℕ �
   pub others : (k : ℕ) → width shapes ≤ k → given k ≡ []
   pub exact : (k : ℕ) → k < width shapes → length (given k) ≡ given_below shapes counts [] (made * top_len shapes) k
   pub puts : (lists : ℕ → List Bool) → BeginWith (width shapes) given lists → PutsPart (as_line (frames_of_line shapes counts says lists made)) outputs outputs_now
+  pub clear : IsClear shapes counts scheduled inputs.left (made * top_len shapes)
 
 -- this node is the one at a path, which makes so many bits of its line, or one below it, and it begins more frames than are
 -- scheduled
@@ -192,16 +194,16 @@ IsMuxStop shapes counts says scheduled frames inputs inputs_now outputs outputs_
 IsMuxStop shapes counts says scheduled frames inputs inputs_now outputs outputs_now reads reads_now writes writes_now (Ended leaf) =
     StopsAtEnd shapes counts frames leaf inputs inputs_now × StopsFirst shapes counts says scheduled frames (TxEnded leaf) inputs inputs_now outputs outputs_now
 IsMuxStop shapes counts says scheduled frames inputs inputs_now outputs outputs_now reads reads_now writes writes_now ReadFailed =
-    Rose reads reads_now × PutsFewer shapes counts says frames inputs inputs_now outputs outputs_now
+    Rose reads reads_now × PutsFewer shapes counts says scheduled frames inputs inputs_now outputs outputs_now
 IsMuxStop shapes counts says scheduled frames inputs inputs_now outputs outputs_now reads reads_now writes writes_now WriteFailed =
-    Rose writes writes_now × PutsPrefix shapes counts says frames inputs inputs_now outputs outputs_now
+    Rose writes writes_now × PutsPrefix shapes counts says scheduled frames inputs inputs_now outputs outputs_now
 
--- the port is fresh still where memory was wanting, and else ready, unless a call that puts bits failed
-abbrev pub IsLeftReady : (fresh ready : Type 0) → Result (Unit {0}) MuxStop → Type 0
-IsLeftReady fresh ready (Ok done) = ready
-IsLeftReady fresh ready (Err Memory) = fresh
-IsLeftReady fresh ready (Err WriteFailed) = ⊤
-IsLeftReady fresh ready (Err stop) = ready
+-- the port is fresh still where memory was wanting, and else ready, unless it refused to be started
+abbrev pub IsLeftReady : (fresh ready refused : Type 0) → Result (Unit {0}) MuxStop → Type 0
+IsLeftReady fresh ready refused (Ok done) = ready
+IsLeftReady fresh ready refused (Err Memory) = fresh
+IsLeftReady fresh ready refused (Err WriteFailed) = ready ⊎ refused
+IsLeftReady fresh ready refused (Err stop) = ready
 
 -- ---- the sender
 

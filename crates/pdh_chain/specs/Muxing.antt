@@ -152,6 +152,8 @@ pub record FailsToTake (m : Meaning) (says : ℕ → Service) (old : Supply → 
   -- no fewer than these frames take, and no more than one frame more
   pub no_fewer : (k : ℕ) → m.leaves k ≡ true → m.given plan (whole * len) k ≤ m.given plan 0 k + length (given k)
   pub no_more : (k : ℕ) → m.leaves k ≡ true → m.given plan 0 k + length (given k) ≤ m.given plan (suc whole * len) k
+  -- nothing stood in the way of these frames
+  pub free : IsFree m plan 0 (whole * len) inputs
   -- the count of faults rose
   pub rose : Rose faults now
   -- for every supply that the sender stood for, these frames of its line were put

@@ -7,6 +7,7 @@ ghost use Rattle.pdh_chain.specs.Saying.{says_of};
 ghost use Rattle.pdh_chain.specs.Muxes.{Muxes, IsMuxStop, IsLeftReady};
 ghost use Rattle.pdh_chain.specs.Demuxes.{Demuxes, IsDemuxStop, IsDemuxLeft};
 ghost use Rattle.pdh_chain.specs.declared.stop.DemuxStop.TheVariants.{Memory};
+ghost use Rattle.pdh_chain.specs.Faults.{mux_reads, mux_writes, demux_reads, demux_writes};
 
 use crate::chain::Chain;
 use crate::making::mux_with;
@@ -61,7 +62,9 @@ pub fn mux<P: Port>(
     requires leaves { (k : ℕ) → k < leaves_of chain → IsTrue ((P.inputs port.old).holds k) }
     requires line { IsTrue ((P.outputs port.old).holds 0) }
     ensures kept { P.kept port.old port.new }
-    ensures ready { IsLeftReady (P.fresh port.new) (P.ready port.new) result }
+    ensures reads { P.feed_faults port.new ≡ mux_reads result (P.feed_faults port.old) }
+    ensures writes { P.drain_faults port.new ≡ mux_writes result (P.drain_faults port.old) }
+    ensures ready { IsLeftReady (P.fresh port.new) (P.ready port.new) (P.refused port.new) result }
     ensures ok { OnOk result (Muxes (shapes_of chain) (counts clock.now.rows) (says_of feac) (frame_count clock.now.rows) frames
         (P.inputs port.old) (P.inputs port.new) (P.outputs port.old) (P.outputs port.new)) }
     ensures err { IfErr result (IsMuxStop (shapes_of chain) (counts clock.now.rows) (says_of feac) (frame_count clock.now.rows) frames
@@ -100,7 +103,9 @@ pub fn demux<P: Port, W: Watch>(
     requires line { IsTrue ((P.inputs port.old).holds 0) }
     requires leaves { (k : ℕ) → k < leaves_of chain → IsTrue ((P.outputs port.old).holds k) }
     ensures kept { P.kept port.old port.new }
-    ensures ready { IsDemuxLeft (P.fresh port.new) (P.ready port.new) result }
+    ensures reads { P.feed_faults port.new ≡ demux_reads result (P.feed_faults port.old) }
+    ensures writes { P.drain_faults port.new ≡ demux_writes result (P.drain_faults port.old) }
+    ensures ready { IsDemuxLeft (P.fresh port.new) (P.ready port.new) (P.refused port.new) result }
     ensures ok { IfOk result (λ frames. Demuxes (shapes_of chain)
         (λ events. W.saw watch.old events watch.new) bits frames
         (P.inputs port.old) (P.inputs port.new) (P.outputs port.old) (P.outputs port.new)) }

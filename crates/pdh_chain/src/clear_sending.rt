@@ -4,6 +4,7 @@ ghost use Rattle.std.specs.Prelude.{◌≡◌, ◌≤◌, ◌<◌, ℕ, ◌*◌,
 ghost use Rattle.pdh_tx.specs.Meaning.{plan_of, IsNodeOf, HoldsAll};
 ghost use Rattle.pdh_chain.specs.Saying.{says_of};
 ghost use Rattle.pdh_chain.specs.Muxing.{HasFrames, IsFree, Sends, IsCallStop};
+ghost use Rattle.pdh_chain.specs.Faults.{call_reads, call_writes};
 
 use crate::multiplexer::Multiplexer;
 use crate::saying::{channel_of, next_service};
@@ -54,6 +55,8 @@ pub fn send_clear_frames<T: Multiplexer, P: Port>(
         (P.drain_faults port.old) (P.drain_faults port.new)) }
     ensures running { OnOk result (T.is_stopped sender.new ≡ false) }
     ensures kept { P.kept port.old port.new }
+    ensures reads { P.feed_faults port.new ≡ call_reads result (P.feed_faults port.old) }
+    ensures writes { P.drain_faults port.new ≡ call_writes result (P.drain_faults port.old) }
     ensures same { T.meaning sender.new ≡ T.meaning sender.old }
 {
     let mut channel = channel_of(feac);

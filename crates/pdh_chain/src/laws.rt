@@ -26,9 +26,10 @@ pub fn leaf_receives_no_more_than_its_share()
 
 /// Where `mux` couldn't put a bit, no list took more bits than its frames have.
 pub fn mux_puts_no_more_than_its_frames()
-    ensures { (shapes : List FrameShape) (counts : Counts) (says : ℕ → Service) (frames : ℕ)
+    ensures { (shapes : List FrameShape) (counts : Counts) (says : ℕ → Service)
+        (scheduled : List ℕ → ℕ) (frames : ℕ)
         (inputs inputs_now : Inputs) (outputs outputs_now : Outputs)
-        → PutsPrefix shapes counts says frames inputs inputs_now outputs outputs_now
+        → PutsPrefix shapes counts says scheduled frames inputs inputs_now outputs outputs_now
         → (k : ℕ) → bits_held outputs_now k ≤ bits_held outputs k + frames * top_len shapes }
 {}
 

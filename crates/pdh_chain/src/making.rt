@@ -5,6 +5,7 @@ ghost use Rattle.pdh_chain.specs.Trees.{AreLevelsOf};
 ghost use Rattle.pdh_chain.specs.Saying.{says_of};
 ghost use Rattle.pdh_chain.specs.Muxes.{Muxes, IsMuxStop, IsLeftReady, mux_stop};
 ghost use Rattle.pdh_levels.specs.Levels.{AreLevels};
+ghost use Rattle.pdh_chain.specs.Faults.{mux_reads, mux_writes};
 
 use crate::clear_sending::send_clear_frames;
 use crate::clearing::is_unhindered;
@@ -53,7 +54,9 @@ pub fn mux_with<T: ChainTop, P: Port>(
     requires leaves { (k : ℕ) → k < width T.shapes → IsTrue ((P.inputs port.old).holds k) }
     requires line { IsTrue ((P.outputs port.old).holds 0) }
     ensures kept { P.kept port.old port.new }
-    ensures ready { IsLeftReady (P.fresh port.new) (P.ready port.new) result }
+    ensures reads { P.feed_faults port.new ≡ mux_reads result (P.feed_faults port.old) }
+    ensures writes { P.drain_faults port.new ≡ mux_writes result (P.drain_faults port.old) }
+    ensures ready { IsLeftReady (P.fresh port.new) (P.ready port.new) (P.refused port.new) result }
     ensures ok { OnOk result (Muxes T.shapes (counts clock.now.rows) (says_of feac) (frame_count clock.now.rows) frames
         (P.inputs port.old) (P.inputs port.new) (P.outputs port.old) (P.outputs port.new)) }
     ensures err { IfErr result (IsMuxStop T.shapes (counts clock.now.rows) (says_of feac) (frame_count clock.now.rows) frames

@@ -4,6 +4,7 @@ ghost use Rattle.pdh_rx.specs.Meaning.{HoldsAll};
 ghost use Rattle.pdh_chain.specs.Demuxing.{Receives, IsReceiveStop};
 ghost use Rattle.pdh_chain.specs.Demuxes.{Demuxes, IsDemuxStop, IsDemuxLeft};
 ghost use Rattle.pdh_chain.specs.declared.stop.DemuxStop.TheVariants.{Memory};
+ghost use Rattle.pdh_chain.specs.Faults.{demux_reads, demux_writes};
 
 use crate::stop::DemuxStop;
 use crate::trees::ChainRx;
@@ -32,6 +33,8 @@ fn receive<R: Rx, P: Port, W: Watch>(
         (P.feed_faults port.old) (P.feed_faults port.new)
         (P.drain_faults port.old) (P.drain_faults port.new)) }
     ensures kept { P.kept port.old port.new }
+    ensures reads { P.feed_faults port.new ≡ demux_reads result (P.feed_faults port.old) }
+    ensures writes { P.drain_faults port.new ≡ demux_writes result (P.drain_faults port.old) }
     ensures same { R.meaning receiver.new ≡ R.meaning receiver.old }
 {
     for _received in 0..bits {
@@ -75,6 +78,8 @@ fn receive_many<R: Rx, P: Port>(
         (P.feed_faults port.old) (P.feed_faults port.new)
         (P.drain_faults port.old) (P.drain_faults port.new)) }
     ensures kept { P.kept port.old port.new }
+    ensures reads { P.feed_faults port.new ≡ demux_reads result (P.feed_faults port.old) }
+    ensures writes { P.drain_faults port.new ≡ demux_writes result (P.drain_faults port.old) }
     ensures same { R.meaning receiver.new ≡ R.meaning receiver.old }
 {
     let mut received = 0;
@@ -108,6 +113,8 @@ fn receive_all<R: Rx, P: Port, W: Watch>(
         (P.feed_faults port.old) (P.feed_faults port.new)
         (P.drain_faults port.old) (P.drain_faults port.new)) }
     ensures kept { P.kept port.old port.new }
+    ensures reads { P.feed_faults port.new ≡ demux_reads result (P.feed_faults port.old) }
+    ensures writes { P.drain_faults port.new ≡ demux_writes result (P.drain_faults port.old) }
     ensures same { R.meaning receiver.new ≡ R.meaning receiver.old }
 {
     if watch.ignores() {
@@ -131,7 +138,9 @@ pub fn demux_with<S: Shape, C: ChainRx, P: Port, W: Watch>(
     requires line { IsTrue ((P.inputs port.old).holds 0) }
     requires leaves { (k : ℕ) → k < width (S.shape ∷ C.shapes) → IsTrue ((P.outputs port.old).holds k) }
     ensures kept { P.kept port.old port.new }
-    ensures ready { IsDemuxLeft (P.fresh port.new) (P.ready port.new) result }
+    ensures reads { P.feed_faults port.new ≡ demux_reads result (P.feed_faults port.old) }
+    ensures writes { P.drain_faults port.new ≡ demux_writes result (P.drain_faults port.old) }
+    ensures ready { IsDemuxLeft (P.fresh port.new) (P.ready port.new) (P.refused port.new) result }
     ensures ok { IfOk result (λ frames. Demuxes (S.shape ∷ C.shapes)
         (λ events. W.saw watch.old events watch.new) bits frames
         (P.inputs port.old) (P.inputs port.new) (P.outputs port.old) (P.outputs port.new)) }

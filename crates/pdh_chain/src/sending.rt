@@ -4,6 +4,7 @@ ghost use Rattle.pdh_edge.specs.Ports.{Puts, PutsPart, HasCause};
 ghost use Rattle.pdh_tx.specs.Meaning.{plan_of, IsNodeOf, HoldsAll};
 ghost use Rattle.pdh_chain.specs.Saying.{says_of};
 ghost use Rattle.pdh_chain.specs.Muxing.{as_line, HasFrames, SayInFrames, MakesBits, StopsMaking, Sends, StopsSending, FailsToSend, IfSender, IfWriteFailed};
+ghost use Rattle.pdh_chain.specs.Faults.{send_reads, send_writes};
 
 use crate::multiplexer::Multiplexer;
 use crate::saying::{channel_of, next_service};
@@ -45,6 +46,7 @@ fn make_frame<T: Tx, F: Feed>(
         (F.feed_faults feed.old) (F.feed_faults feed.new)) }
     ensures running { OnOk result (T.is_stopped sender.new ≡ false) }
     ensures room { frame.new.capacity ≡ frame.old.capacity }
+    ensures unfailed { OnOk result (F.feed_faults feed.new ≡ F.feed_faults feed.old) }
     ensures fed { F.fed feed.old feed.new }
     ensures same { T.meaning sender.new ≡ T.meaning sender.old }
     ensures same_says { T.says sender.new ≡ T.says sender.old }
@@ -92,6 +94,8 @@ pub fn send_frames<T: Multiplexer, P: Port>(
     ensures running { OnOk result (T.is_stopped sender.new ≡ false) }
     ensures room { frame.new.capacity ≡ frame.old.capacity }
     ensures kept { P.kept port.old port.new }
+    ensures reads { P.feed_faults port.new ≡ send_reads result (P.feed_faults port.old) }
+    ensures writes { P.drain_faults port.new ≡ send_writes result (P.drain_faults port.old) }
     ensures same { T.meaning sender.new ≡ T.meaning sender.old }
 {
     let mut channel = channel_of(feac);

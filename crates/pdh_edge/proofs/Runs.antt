@@ -1,8 +1,11 @@
 -- Bits that are put to one list, one after another.
 use Rattle.std.proofs.Common.{min, ◌^◌, ◌-◌, ◌≡◌, ℕ, ◌+◌, ◌==◌, ◌<◌, ◌≤◌, Bool, true, false, cond, List, [], ◌∷◌, ◌++◌, length, take, drop, get_or, refl, sym, ap, subst, ◌∙◌, arith, append_assoc, Some, None, Option, Result, Ok, Err, OnErr}
 use Rattle.std.proofs.lemmas.List.{append-nil, take-append-drop, take_more}
+use Rattle.pdh_edge.specs.declared.port.FeedStop.{FeedStop}
+use Rattle.pdh_edge.specs.declared.port.FeedStop.TheVariants.{Failed, Ended}
+use Rattle.pdh_edge.specs.Counts.{one_more}
 use Rattle.pdh_edge.specs.Files.{Rose}
-use Rattle.pdh_edge.specs.Ports.{Outputs, Puts, PutsPart, IsPrefix, PrefixOf, HasCause, after, for_leaf}
+use Rattle.pdh_edge.specs.Ports.{Outputs, Puts, PutsPart, IsPrefix, PrefixOf, HasCause, faults_fed, after, for_leaf}
 
 after_none : (t : Option (List Bool)) → t ≡ after [] t
 after_none None = refl
@@ -63,13 +66,14 @@ puts_more_part t xs i d x y z h p q =
     puts_part t (take i xs) (get_or xs i d ∷ []) xs x y z p q
     (drop (i + 1) xs, sym (take-append-drop (i + 1) xs) ∙ ap (λ v. v ++ drop (i + 1) xs) (take_more xs i d h))
 
-on_err_from : {T E : Type 0} (P : Type 0) (r : Result T E) → P → OnErr r P
-on_err_from P (Ok x) p = tt
-on_err_from P (Err e) p = p
-
-rose_after : (a b c most : ℕ) → a ≤ b → min (b + 1) most ≤ c → min (a + 1) most ≤ c
-rose_after a b c most h r = omega arith
-
 -- a failed call is the cause of what it ends
-pub cause_since : {T E : Type 0} (r : Result T E) (a b c : ℕ) → a ≤ b → b ≤ c → Rose b c → HasCause a c r
-cause_since r a b c less later rose = record { later = omega (arith, less, later); failed = on_err_from (Rose a c) r (rose_after a b c (2 ^ 64 - 1) less rose) }
+pub cause_since : {T E : Type 0} (r : Result T E) (e : E) (a b c : ℕ) → r ≡ Err e → b ≡ a → c ≡ one_more b → HasCause a c r
+cause_since r e a b c is same counted = subst (HasCause a c) (sym is) (counted ∙ ap one_more same)
+
+-- what was counted once rose
+pub rose_of : (old now : ℕ) → now ≡ one_more old → Rose old now
+rose_of old now counted = omega (arith, counted)
+
+pub rose_of_feed : (why : FeedStop) (old now : ℕ) → now ≡ faults_fed why old → why ≡ Failed → Rose old now
+rose_of_feed Failed old now counted e = rose_of old now counted
+rose_of_feed Ended old now counted e = cc

@@ -61,6 +61,8 @@ pub record ShelfState : Type 0 where
   pub last_failed : Option FailedCall
   -- the names of calls that are told where they fail
   pub tells_name : List ℕ → Bool
+  -- the names whose files are told once they are started
+  pub tells_started : List ℕ → Bool
 
 -- a call that failed is told if the shelf tells such a name; else it or none is told
 abbrev pub TellsFailed : Bool → FailedCall → Option FailedCall → Type 0
@@ -76,12 +78,14 @@ pub record Looks (old new : ShelfState) : Type 0 where
   pub told : new.told ≡ old.told
   pub readable : KeepsReadable (λ name. Unit {0}) old new
   pub tells_name : new.tells_name ≡ old.tells_name
+  pub tells_started : new.tells_started ≡ old.tells_started
 
 -- at most files with such names were written
 pub record TouchesOnly (may : List ℕ → Type 0) (old new : ShelfState) : Type 0 where
   pub told : (name : List ℕ) → ¬ may name → new.told name ≡ old.told name
   pub readable : KeepsReadable (λ name. ¬ may name) old new
   pub tells_name : new.tells_name ≡ old.tells_name
+  pub tells_started : new.tells_started ≡ old.tells_started
 
 -- at most the file of this name was written
 abbrev pub Touches : List ℕ → ShelfState → ShelfState → Type 0
@@ -118,14 +122,18 @@ pub record HasRange (name : List ℕ) (at : ℕ) (buffer : List ℕ) (old new : 
   pub told : WhereTold (old.told name) (λ held. IsRangeOf held at buffer)
   pub succeeds : Succeeds old new
 
+-- what is told of a file of this name that was made empty
+abbrev pub told_empty : ShelfState → List ℕ → Told
+told_empty shelf name = if shelf.tells_started name then Known (Some []) else Untold
+
 -- the file was made empty
 pub record Starts (name : List ℕ) (old new : ShelfState) : Type 0 where
-  pub told : Holds (new.told name) []
+  pub told : new.told name ≡ told_empty new name
   pub succeeds : Succeeds old new
 
 -- it wasn't, and is as before or empty
 pub record FailsToStart (name : List ℕ) (old new : ShelfState) : Type 0 where
-  pub told : (new.told name ≡ old.told name) ⊎ (new.told name ≡ Known (Some []))
+  pub told : (new.told name ≡ old.told name) ⊎ (new.told name ≡ told_empty new name)
   pub fails : FailsToWrite Start name old new
 
 -- what is told of a file after these bytes were added to it, which can't be where it isn't held

@@ -80,6 +80,7 @@ told_by state = record {
   counts = state.counts;
   last_failed = state.last_failed;
   tells_name = is_short;
+  tells_started = λ name. true;
 }
 
 abbrev pub shelf_state : MemShelf → ShelfState

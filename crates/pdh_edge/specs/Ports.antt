@@ -1,8 +1,8 @@
 -- Lists of bits, one for each leaf, and what calls take of them and put to them.
-use Rattle.std.specs.Prelude.{◌≡◌, ℕ, ◌+◌, ◌≤◌, Bool, ◌==◌, if◌then◌else◌, List, [], ◌∷◌, ◌++◌, length, Option, Some, None, Result, IsErrOf, OnErr}
+use Rattle.std.specs.Prelude.{◌≡◌, ℕ, ◌+◌, ◌≤◌, Bool, ◌==◌, if◌then◌else◌, List, [], ◌∷◌, ◌++◌, length, Option, Some, None, Result, Ok, Err}
 use Rattle.pdh_edge.specs.declared.port.FeedStop.{FeedStop}
-use Rattle.pdh_edge.specs.declared.port.FeedStop.TheVariants.{Failed}
-use Rattle.pdh_edge.specs.Files.{Rose}
+use Rattle.pdh_edge.specs.declared.port.FeedStop.TheVariants.{Failed, Ended}
+use Rattle.pdh_edge.specs.Counts.{one_more}
 
 -- the lists that give bits
 pub record Inputs : Type 0 where
@@ -74,12 +74,23 @@ PutsPart bits old new = (k : ℕ) → PrefixOf (bits k) (old.told k) (new.told k
 
 -- ---- faults
 
--- a count of faults didn't fall, and rose where the call failed
-pub record HasCause {T E : Type 0} (old new : ℕ) (result : Result T E) : Type 0 where
-  pub later : old ≤ new
-  pub failed : OnErr result (Rose old new)
+-- a count of faults after a call: one more where the call failed, and else as it was
+abbrev pub faults_after : {T E : Type 0} → Result T E → ℕ → ℕ
+faults_after (Ok x) faults = faults
+faults_after (Err e) faults = one_more faults
 
--- a count of faults didn't fall, and rose where the answer is Failed
-pub record HasFeedCause {T : Type 0} (old new : ℕ) (result : Result T FeedStop) : Type 0 where
-  pub later : old ≤ new
-  pub failed : IsErrOf result Failed → Rose old new
+-- the same after a call of a feed that ended so
+abbrev pub faults_fed : FeedStop → ℕ → ℕ
+faults_fed Failed faults = one_more faults
+faults_fed Ended faults = faults
+
+abbrev pub feed_faults_after : {T : Type 0} → Result T FeedStop → ℕ → ℕ
+feed_faults_after (Ok x) faults = faults
+feed_faults_after (Err why) faults = faults_fed why faults
+
+-- a failed call was counted once, and nothing else was
+abbrev pub HasCause : {T E : Type 0} → ℕ → ℕ → Result T E → Type 0
+HasCause old new result = new ≡ faults_after result old
+
+abbrev pub HasFeedCause : {T : Type 0} → ℕ → ℕ → Result T FeedStop → Type 0
+HasFeedCause old new result = new ≡ feed_faults_after result old

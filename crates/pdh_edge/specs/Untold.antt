@@ -16,6 +16,7 @@ untold_files read_faults write_faults misses = record {
   counts = record { read_faults = read_faults; write_faults = write_faults; misses = misses };
   last_failed = None;
   tells_name = λ name. false;
+  tells_started = λ name. false;
 }
 
 -- what a folder tells and counts

@@ -225,6 +225,8 @@ impl Port for MemPort {
 
     ghost ready = { λ p. p.ready ≡ true };
 
+    ghost refused = { λ p. ⊥ };
+
     ghost kept = { λ a b. KeepsReady a.faults b.faults a.ready b.ready
         × ((mem_inputs b.inputs.items).holds ≡ (mem_inputs a.inputs.items).holds)
         × ((mem_outputs b.outputs.items).holds ≡ (mem_outputs a.outputs.items).holds)

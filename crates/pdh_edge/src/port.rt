@@ -145,6 +145,9 @@ pub trait Port: Feed + Drain {
     /// `start` has answered Ok.
     ghost ready: { Self → Type 0 };
 
+    /// `start` has failed, and no call came since.
+    ghost refused: { Self → Type 0 };
+
     /// What any calls may change.
     ghost kept: { Self → Self → Type 0 };
 
@@ -153,9 +156,11 @@ pub trait Port: Feed + Drain {
     fn start(&mut self) -> Result<(), Failed>
         requires { fresh self.old }
         ensures ok { OnOk result (ready self.new) }
+        ensures err { OnErr result (refused self.new) }
         ensures inputs { Self.inputs self.new ≡ Self.inputs self.old }
         ensures outputs { Self.outputs self.new ≡ Self.outputs self.old }
         ensures cause { HasCause (Self.drain_faults self.old) (Self.drain_faults self.new) result }
+        ensures reads { Self.feed_faults self.new ≡ Self.feed_faults self.old }
         ensures kept { kept self.old self.new };
 
     ghost kept_same: { (a : Self) → kept a a };

@@ -5,7 +5,7 @@ use Rattle.std.proofs.lemmas.Bool.{cases_Bool, lt-ltb, le-ltb, eq-eqb, ne_eqb}
 use Rattle.std.proofs.lemmas.List.{append-nil, map-append, length_push, length-take-le, append_assoc, take_more, take_all, take-append-drop}
 use Rattle.pdh_edge.proofs.Runs.{puts_begin, puts_then, puts_part}
 use Rattle.pdh_bits.specs.Bits.{bit_value}
-use Rattle.pdh_edge.specs.Ports.{Outputs, Puts, PutsPart, IsPrefix, HasCause, for_leaf}
+use Rattle.pdh_edge.specs.Ports.{Outputs, Puts, PutsPart, IsPrefix, for_leaf}
 use Rattle.pdh_g706.specs.declared.align.E1Align.{E1Align}
 use Rattle.pdh_g706.specs.declared.counts.Counts.{Counts}
 use Rattle.pdh_g706.specs.declared.counts.Group.{Group}
@@ -467,7 +467,3 @@ line_grows line bits i lt =
     let all : line ++ take (i + 1) bits ++ drop (i + 1) bits ≡ line ++ bits = append_assoc line (take (i + 1) bits) (drop (i + 1) bits) ∙ ap (λ (x : List Bool). line ++ x) (take-append-drop (i + 1) bits) in
     subst (λ (x : List Bool). IsPrefix (e1_far x) (e1_far (line ++ bits))) (sym (line_more line bits i lt))
     (subst (λ (x : List Bool). IsPrefix (e1_far (line ++ take (i + 1) bits)) (e1_far x)) all (e1_far_grows (line ++ take (i + 1) bits) (drop (i + 1) bits)))
-
--- a call that succeeds has no cause to fail
-pub no_cause : {F : Type 0} (a b : ℕ) → a ≤ b → HasCause {T = Unit {0}} {E = F} a b (Ok tt)
-no_cause a b le = record { later = le; failed = tt }

@@ -1,13 +1,19 @@
-ghost use Rattle.std.specs.Prelude.{◌≡◌, [], map, IfOk, OnErr};
+ghost use Rattle.std.specs.Prelude.{◌≡◌, ◌<◌, ◌≤◌, Bool, List, [], ◌++◌, map, IsTrue, IfOk, IfErr, OnOk};
+ghost use Rattle.pdh_edge.specs.Ports.{HasFeedCause};
+ghost use Rattle.pdh_edge.specs.declared.port.FeedStop.TheVariants.{Failed};
 ghost use Rattle.pdh_g706.specs.View.{StandsFor};
+ghost use Rattle.pdh_g706.specs.Tracking.{multiframes_in, counted};
 ghost use Rattle.pdh_g706.specs.Events.{e1_events};
-ghost use Rattle.pdh_inspect.specs.Seen.{SeesFramed};
+ghost use Rattle.pdh_watch.specs.Monitors.{SawEach};
+ghost use Rattle.pdh_inspect.specs.Seen.{SeesFramed, SeesAll, SeesFewer, IsLineStop, faults_seen};
 
 use crate::line_port::LinePort;
+use crate::seen::{LineStop, Seen};
+use pdh_edge::{Feed, FeedStop};
 use pdh_g706::E1Align;
 use pdh_packed::Packed;
 use pdh_watch::{Members, Monitor, Watch};
-use std::alloc::{AllocError, Global};
+use std::alloc::Global;
 use std::mem;
 
 /// What was seen of a framed 2048 kbit/s line.
@@ -19,40 +25,123 @@ pub struct FramedSeen {
     pub events: u64,
 }
 
-// Gives a machine that has taken no bit the bits of a line, for a watch that sees its events. What it puts is let go.
-fn push_all<W: Watch>(align: &mut E1Align, bits: &Packed, port: &mut LinePort, watch: &mut W)
-    requires { StandsFor align.old [] }
-    ensures stands { StandsFor align.new bits.now.bits }
-    ensures seen { W.saw watch.old (e1_events bits.now.bits) watch.new }
+// Gives a machine these bits, for a watch that sees their events. What it puts is let go.
+fn push_all<F: Feed, W: Watch>(
+    align: &mut E1Align,
+    bits: &Packed,
+    port: &mut LinePort<F>,
+    watch: &mut W,
+)
+    requires { (line : List Bool) × StandsFor align.old line }
+    ensures stands { (line : List Bool) → StandsFor align.old line → StandsFor align.new (line ++ bits.now.bits) }
+    ensures seen { (first : W) (line : List Bool) → StandsFor align.old line → W.saw first (e1_events line) watch.old
+        → W.saw first (e1_events (line ++ bits.now.bits)) watch.new }
+    ensures feed { port.new.feed ≡ port.old.feed }
 {
     for place in 0..bits.len() {
         match align.push(bits.get(place), port, watch) {
             Ok(()) => (),
-            // No call of the port fails.
+            // No put fails.
             Err(_) => unreachable!(),
         }
     }
 }
 
-/// Shows each event of a framed 2048 kbit/s line to each monitor, in order, and answers how many multiframes are delivered and
-/// how many events there are. Where memory is wanting no monitor has seen any.
-pub fn inspect_framed<M: Monitor>(
-    alloc: Global,
-    line: &[u8],
-    monitors: &mut Vec<M>,
-) -> Result<FramedSeen, AllocError>
-    ensures ok { IfOk result (SeesFramed line.now (map M.state monitors.old.items) (map M.state monitors.new.items)) }
-    ensures err { OnErr result (map M.state monitors.new.items ≡ map M.state monitors.old.items) }
+// Gives a machine that has taken no bit so many bits of the port's list 0; `buffer` holds those that were taken.
+fn push_line<F: Feed, W: Watch>(
+    align: &mut E1Align,
+    bits: u64,
+    buffer: &mut Packed,
+    port: &mut LinePort<F>,
+    watch: &mut W,
+) -> Result<(), FeedStop>
+    requires stands { StandsFor align.old [] }
+    requires room { 0 < buffer.old.capacity }
+    requires line { IsTrue ((F.inputs port.old.feed).holds 0) }
+    requires whole { bits ≤ (F.inputs port.old.feed).left 0 }
+    ensures fed { F.fed port.old.feed port.new.feed }
+    ensures faults { HasFeedCause (F.feed_faults port.old.feed) (F.feed_faults port.new.feed) result }
+    ensures ok { OnOk result (SeesAll (λ given. StandsFor align.new given × W.saw watch.old (e1_events given) watch.new)
+        bits (F.inputs port.old.feed) (F.inputs port.new.feed)) }
+    ensures err { IfErr result (λ why. (why ≡ Failed) × SeesFewer (λ given. W.saw watch.old (e1_events given) watch.new)
+        bits (F.inputs port.old.feed) (F.inputs port.new.feed)) }
 {
-    let bits = Packed::of_bytes(alloc, line)?;
-    let mut align = E1Align::open(alloc)?;
-    let mut port = LinePort::new(Packed::open(alloc, 0)?);
+    let mut pushed = 0;
+    while pushed < bits {
+        buffer.clear();
+        let most = (bits - pushed).min(buffer.capacity() as u64) as usize;
+        let count = port.bits(0, most, buffer)?;
+        push_all(align, buffer, port, watch);
+        pushed += count as u64;
+    }
+    Ok(())
+}
+
+// Shows each event of a framed line to a watch, and answers how many multiframes are delivered.
+fn watch_framed<F: Feed, W: Watch>(
+    alloc: Global,
+    bits: u64,
+    port: &mut LinePort<F>,
+    watch: &mut W,
+) -> Result<u64, LineStop>
+    requires line { IsTrue ((F.inputs port.old.feed).holds 0) }
+    requires whole { bits ≤ (F.inputs port.old.feed).left 0 }
+    ensures fed { F.fed port.old.feed port.new.feed }
+    ensures faults { F.feed_faults port.new.feed ≡ faults_seen result (F.feed_faults port.old.feed) }
+    ensures ok { IfOk result (λ multiframes. SeesAll (λ given. W.saw watch.old (e1_events given) watch.new
+        × (multiframes ≡ counted (multiframes_in given))) bits (F.inputs port.old.feed) (F.inputs port.new.feed)) }
+    ensures err { IfErr result (IsLineStop (λ given. W.saw watch.old (e1_events given) watch.new) (watch.new ≡ watch.old)
+        bits (F.inputs port.old.feed) (F.inputs port.new.feed)) }
+{
+    let Ok(mut align) = E1Align::open(alloc) else {
+        return Err(LineStop::Memory);
+    };
+    let mut buffer = Packed::short(alloc);
+    match push_line(&mut align, bits, &mut buffer, port, watch) {
+        Ok(()) => Ok(align.multiframes()),
+        Err(FeedStop::Failed) => Err(LineStop::Failed),
+        // The line has its bits.
+        Err(FeedStop::Ended) => unreachable!(),
+    }
+}
+
+/// Shows each event of a framed 2048 kbit/s line, which has so many bits in list 0 of the feed, to each monitor, in order, and
+/// answers how many multiframes are delivered and how many events there are. Where memory is wanting no monitor has seen any;
+/// where the feed fails each has seen those of the bits that came before.
+pub fn inspect_framed<F: Feed, M: Monitor>(
+    alloc: Global,
+    bits: u64,
+    feed: F,
+    monitors: &mut Vec<M>,
+) -> Seen<F, FramedSeen>
+    requires line { IsTrue ((F.inputs feed).holds 0) }
+    requires whole { bits ≤ (F.inputs feed).left 0 }
+    ensures fed { F.fed feed result.feed }
+    ensures faults { F.feed_faults result.feed ≡ faults_seen result.result (F.feed_faults feed) }
+    ensures ok { let old = map M.state monitors.old.items in let new = map M.state monitors.new.items in
+        IfOk result.result (λ seen. SeesAll (λ given. SeesFramed given old new seen)
+        bits (F.inputs feed) (F.inputs result.feed)) }
+    ensures err { let old = map M.state monitors.old.items in let new = map M.state monitors.new.items in
+        IfErr result.result (IsLineStop (λ given. SawEach old (e1_events given) new) (new ≡ old)
+        bits (F.inputs feed) (F.inputs result.feed)) }
+{
+    let mut port = LinePort::new(feed);
     let mut members = Members::new(mem::replace(monitors, Vec::new(alloc)));
-    push_all(&mut align, &bits, &mut port, &mut members);
+    let ended = watch_framed(alloc, bits, &mut port, &mut members);
     let events = members.count();
     *monitors = members.into_list();
-    Ok(FramedSeen {
-        multiframes: align.multiframes(),
-        events,
-    })
+    let feed = port.into_feed();
+    match ended {
+        Ok(multiframes) => Seen {
+            feed,
+            result: Ok(FramedSeen {
+                multiframes,
+                events,
+            }),
+        },
+        Err(stop) => Seen {
+            feed,
+            result: Err(stop),
+        },
+    }
 }

@@ -1,11 +1,15 @@
-ghost use Rattle.std.specs.Prelude.{◌≡◌, ◌<◌, ◌^◌, length, map, IfOk, OnErr};
-ghost use Rattle.pdh_inspect.specs.Seen.{SeesLine};
+ghost use Rattle.std.specs.Prelude.{◌≡◌, ◌<◌, ◌≤◌, ◌^◌, map, IsTrue, IfOk, IfErr};
+ghost use Rattle.pdh_watch.specs.Monitors.{SawEach};
+ghost use Rattle.pdh_chain.specs.Chains.{shapes_of};
+ghost use Rattle.pdh_chain.specs.Demuxes.{top_delivered};
+ghost use Rattle.pdh_inspect.specs.Seen.{line_bits_events, SeesLine, SeesAll, IsLineStop, faults_seen};
 
 use crate::line_port::LinePort;
+use crate::seen::{LineStop, Seen};
 use pdh_chain::{Chain, DemuxStop, demux};
-use pdh_packed::Packed;
-use pdh_watch::{Members, Monitor};
-use std::alloc::{AllocError, Global};
+use pdh_edge::{Feed, Port};
+use pdh_watch::{Members, Monitor, Watch};
+use std::alloc::Global;
 use std::mem;
 
 /// What was seen of a chain's line.
@@ -17,31 +21,71 @@ pub struct LineSeen {
     pub events: u64,
 }
 
-/// Shows each event of a chain's line to each monitor, in order, and answers how many frames of the top are delivered and how
-/// many events there are. Where memory is wanting no monitor has seen any.
-pub fn inspect_line<M: Monitor>(
+// Shows each event of a chain's line to a watch, and answers how many frames of the top are delivered.
+fn watch_line<F: Feed, W: Watch>(
     alloc: Global,
     chain: Chain,
-    line: &[u8],
-    monitors: &mut Vec<M>,
-) -> Result<LineSeen, AllocError>
-    requires { length line.now < 2 ^ 59 }
-    ensures ok { IfOk result (SeesLine chain line.now (map M.state monitors.old.items) (map M.state monitors.new.items)) }
-    ensures err { OnErr result (map M.state monitors.new.items ≡ map M.state monitors.old.items) }
+    bits: u64,
+    port: &mut LinePort<F>,
+    watch: &mut W,
+) -> Result<u64, LineStop>
+    requires few { bits < 2 ^ 63 }
+    requires fresh { ⟦<LinePort<F> as Port>⟧.fresh port.old }
+    requires line { IsTrue ((F.inputs port.old.feed).holds 0) }
+    requires whole { bits ≤ (F.inputs port.old.feed).left 0 }
+    ensures fed { F.fed port.old.feed port.new.feed }
+    ensures faults { F.feed_faults port.new.feed ≡ faults_seen result (F.feed_faults port.old.feed) }
+    ensures ok { IfOk result (λ frames. SeesAll (λ given. W.saw watch.old (line_bits_events chain given) watch.new
+        × (frames ≡ top_delivered (shapes_of chain) given)) bits (F.inputs port.old.feed) (F.inputs port.new.feed)) }
+    ensures err { IfErr result (IsLineStop (λ given. W.saw watch.old (line_bits_events chain given) watch.new)
+        (watch.new ≡ watch.old) bits (F.inputs port.old.feed) (F.inputs port.new.feed)) }
 {
-    let bits = Packed::of_bytes(alloc, line)?;
-    let count = bits.len() as u64;
-    let mut port = LinePort::new(bits);
+    match demux(alloc, chain, bits, port, watch) {
+        Ok(frames) => Ok(frames),
+        Err(DemuxStop::Memory) => Err(LineStop::Memory),
+        Err(DemuxStop::ReadFailed) => Err(LineStop::Failed),
+        // The line has its bits, and no put fails.
+        Err(DemuxStop::Ended) => unreachable!(),
+        Err(DemuxStop::WriteFailed) => unreachable!(),
+    }
+}
+
+/// Shows each event of a chain's line, which has so many bits in list 0 of the feed, to each monitor, in order, and answers how
+/// many frames of the top are delivered and how many events there are. Where memory is wanting no monitor has seen any; where
+/// the feed fails each has seen those of the bits that came before.
+pub fn inspect_line<F: Feed, M: Monitor>(
+    alloc: Global,
+    chain: Chain,
+    bits: u64,
+    feed: F,
+    monitors: &mut Vec<M>,
+) -> Seen<F, LineSeen>
+    requires few { bits < 2 ^ 63 }
+    requires line { IsTrue ((F.inputs feed).holds 0) }
+    requires whole { bits ≤ (F.inputs feed).left 0 }
+    ensures fed { F.fed feed result.feed }
+    ensures faults { F.feed_faults result.feed ≡ faults_seen result.result (F.feed_faults feed) }
+    ensures ok { let old = map M.state monitors.old.items in let new = map M.state monitors.new.items in
+        IfOk result.result (λ seen. SeesAll (λ given. SeesLine chain given old new seen)
+        bits (F.inputs feed) (F.inputs result.feed)) }
+    ensures err { let old = map M.state monitors.old.items in let new = map M.state monitors.new.items in
+        IfErr result.result (IsLineStop (λ given. SawEach old (line_bits_events chain given) new) (new ≡ old)
+        bits (F.inputs feed) (F.inputs result.feed)) }
+{
+    let mut port = LinePort::new(feed);
     let mut members = Members::new(mem::replace(monitors, Vec::new(alloc)));
-    let ended = demux(alloc, chain, count, &mut port, &mut members);
+    let ended = watch_line(alloc, chain, bits, &mut port, &mut members);
     let events = members.count();
     *monitors = members.into_list();
+    let feed = port.into_feed();
     match ended {
-        Ok(frames) => Ok(LineSeen { frames, events }),
-        Err(DemuxStop::Memory) => Err(AllocError),
-        // The line has its bits, and no call of the port fails.
-        Err(DemuxStop::Ended) => unreachable!(),
-        Err(DemuxStop::ReadFailed) => unreachable!(),
-        Err(DemuxStop::WriteFailed) => unreachable!(),
+        Ok(frames) => Seen {
+            feed,
+            result: Ok(LineSeen { frames, events }),
+        },
+        Err(stop) => Seen {
+            feed,
+            result: Err(stop),
+        },
     }
 }

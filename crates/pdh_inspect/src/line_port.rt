@@ -1,92 +1,90 @@
-ghost use Rattle.std.specs.Prelude.{◌≡◌, ◌≤◌, true, drop, [], ◌∷◌};
-ghost use Rattle.std.proofs.Common.{refl, ◌∙◌, arith, ap};
-ghost use Rattle.pdh_edge.specs.MemLists.{inputs_of, length_of};
+ghost use Rattle.std.specs.Prelude.{◌≡◌, true};
+ghost use Rattle.std.proofs.Common.{refl, sym, ◌∙◌, arith, ap, subst};
 ghost use Rattle.pdh_inspect.specs.Ports.{all_lists};
 
 use pdh_edge::{Drain, Failed, Feed, FeedStop, Port};
 use pdh_packed::Packed;
 
-/// A port that gives the bits of one line as its list 0, and lets go of every bit that is put, so that no call fails. It takes
-/// no memory.
+/// A port that gives what a feed gives, and lets go of every bit that is put, so that no put fails. It takes no memory.
 #[derive(Drop)]
-pub struct LinePort {
-    bits: Packed,
-    given: usize,
+pub struct LinePort<F: Feed> {
+    feed: F,
     fresh: bool,
     ready: bool,
 }
 
-impl LinePort {
-    /// A fresh port that gives the bits of this line.
-    pub fn new(bits: Packed) -> LinePort
-        ensures inputs { ⟦<LinePort as Feed>⟧.inputs result ≡ inputs_of (bits.bits ∷ []) }
-        ensures outputs { ⟦<LinePort as Drain>⟧.outputs result ≡ all_lists }
-        ensures fresh { ⟦<LinePort as Port>⟧.fresh result }
+impl<F: Feed> LinePort<F> {
+    /// A fresh port that gives what this feed gives.
+    pub fn new(feed: F) -> LinePort<F>
+        ensures inputs { ⟦<LinePort<F> as Feed>⟧.inputs result ≡ F.inputs feed }
+        ensures outputs { ⟦<LinePort<F> as Drain>⟧.outputs result ≡ all_lists }
+        ensures fresh { ⟦<LinePort<F> as Port>⟧.fresh result }
+        ensures feed { result.feed ≡ feed }
     {
         LinePort {
-            bits,
-            given: 0,
+            feed,
             fresh: true,
             ready: false,
         }
     }
+
+    /// The feed.
+    pub fn into_feed(self) -> F
+        ensures { result ≡ self.feed }
+    {
+        let LinePort {
+            feed,
+            fresh: _,
+            ready: _,
+        } = self;
+        feed
+    }
 }
 
-impl Feed for LinePort {
-    ghost inputs = { λ p. inputs_of (drop p.given p.bits.bits ∷ []) };
+impl<F: Feed> Feed for LinePort<F> {
+    ghost inputs = { λ p. F.inputs p.feed };
 
-    ghost feed_faults = { λ p. 0 };
+    ghost feed_faults = { λ p. F.feed_faults p.feed };
 
-    ghost fed = { λ a b. (b.ready ≡ a.ready) × (b.fresh ≡ a.fresh) };
+    ghost fed = { λ a b. F.fed a.feed b.feed × (b.ready ≡ a.ready) × (b.fresh ≡ a.fresh) };
 
-    ghost fed_same = { λ a. (refl, refl) };
+    ghost fed_same = { λ a. (F.fed_same a.feed, refl, refl) };
 
-    ghost fed_join = { λ a b c p q. (q.0 ∙ p.0, q.1 ∙ p.1) };
+    ghost fed_join = { λ a b c p q. (F.fed_join a.feed b.feed c.feed p.0 q.0, q.1 ∙ p.1, q.2 ∙ p.2) };
 
-    ghost fed_holds = { λ a b p. refl };
+    ghost fed_holds = { λ a b p. F.fed_holds a.feed b.feed p.0 };
 
-    ghost fed_counts = { λ a b p. Prim.omega arith };
+    ghost fed_counts = { λ a b p. F.fed_counts a.feed b.feed p.0 };
 
-    ghost left_told = { λ a k bits h. ap length_of h };
+    ghost left_told = { λ a k bits h. F.left_told a.feed k bits h };
 
     fn feed_faults(&self) -> u64 {
-        0
+        self.feed.feed_faults()
     }
 
-    fn bit(&mut self, _leaf: u32) -> Result<bool, FeedStop> {
-        if self.given >= self.bits.len() {
-            return Err(FeedStop::Ended);
-        }
-        let bit = self.bits.get(self.given);
-        self.given += 1;
-        Ok(bit)
+    fn bit(&mut self, leaf: u32) -> Result<bool, FeedStop> {
+        self.feed.bit(leaf)
     }
 
-    fn bits(&mut self, _leaf: u32, most: usize, into: &mut Packed) -> Result<usize, FeedStop> {
-        if self.given < self.bits.len() {
-            let count = most.min(self.bits.len() - self.given);
-            into.append_from(&self.bits, self.given, count);
-            self.given += count;
-            return Ok(count);
-        }
-        Err(FeedStop::Ended)
+    fn bits(&mut self, leaf: u32, most: usize, into: &mut Packed) -> Result<usize, FeedStop> {
+        self.feed.bits(leaf, most, into)
     }
 
-    fn left(&self, _leaf: u32) -> u64 {
-        self.bits.len().saturating_sub(self.given) as u64
+    fn left(&self, leaf: u32) -> u64 {
+        self.feed.left(leaf)
     }
 }
 
-impl Drain for LinePort {
+impl<F: Feed> Drain for LinePort<F> {
     ghost outputs = { λ p. all_lists };
 
     ghost drain_faults = { λ p. 0 };
 
-    ghost drained = { λ a b. (b.bits ≡ a.bits) × (b.given ≡ a.given) × (b.ready ≡ a.ready) };
+    ghost drained = { λ a b. (b.feed ≡ a.feed) × (b.ready ≡ a.ready) };
 
-    ghost drained_same = { λ a. (refl, refl, refl) };
+    ghost drained_same = { λ a. (refl, refl) };
 
-    ghost drained_join = { λ a b c p q. (q.0 ∙ p.0, q.1 ∙ p.1, q.2 ∙ p.2) };
+    ghost drained_join = { λ a b c p q. (q.0 ∙ p.0, q.1 ∙ p.1) };
 
     ghost drained_holds = { λ a b p. refl };
 
@@ -107,35 +105,34 @@ impl Drain for LinePort {
     }
 }
 
-impl Port for LinePort {
+impl<F: Feed> Port for LinePort<F> {
     ghost fresh = { λ p. p.fresh ≡ true };
 
     ghost ready = { λ p. p.ready ≡ true };
 
-    ghost kept = { λ a b. a.ready ≡ true → b.ready ≡ true };
+    ghost refused = { λ p. ⊥ };
 
-    ghost kept_same = { λ a r. r };
+    ghost kept = { λ a b. F.fed a.feed b.feed × (a.ready ≡ true → b.ready ≡ true) };
 
-    ghost kept_join = { λ a b c p q r. q (p r) };
+    ghost kept_same = { λ a. (F.fed_same a.feed, λ r. r) };
 
-    ghost kept_ready = { λ a b p. p };
+    ghost kept_join = { λ a b c p q. (F.fed_join a.feed b.feed c.feed p.0 q.0, λ r. q.1 (p.1 r)) };
 
-    ghost kept_counts = { λ a b p. (Prim.omega arith, Prim.omega arith) };
+    ghost kept_ready = { λ a b p. p.1 };
 
-    ghost kept_holds = { λ a b p. (refl, refl) };
+    ghost kept_counts = { λ a b p. (F.fed_counts a.feed b.feed p.0, Prim.omega arith) };
 
-    ghost fed_is_kept = { λ a b p r. p.0 ∙ r };
+    ghost kept_holds = { λ a b p. (F.fed_holds a.feed b.feed p.0, refl) };
 
-    ghost drained_is_kept = { λ a b p r. p.2 ∙ r };
+    ghost fed_is_kept = { λ a b p. (p.0, λ r. p.1 ∙ r) };
 
-    ghost fed_fresh = { λ a b p r. p.1 ∙ r };
+    ghost drained_is_kept = { λ a b p. (subst (F.fed a.feed) (sym p.0) (F.fed_same a.feed), λ r. p.1 ∙ r) };
+
+    ghost fed_fresh = { λ a b p r. p.2 ∙ r };
 
     ghost fed_keeps_outputs = { λ a b p. (refl, refl) };
 
-    ghost drained_keeps_inputs = { λ a b p. (
-      ap (λ n. inputs_of (drop n b.bits.bits ∷ [])) p.1 ∙ ap (λ v. inputs_of (drop a.given v.bits ∷ [])) p.0,
-      refl,
-    ) };
+    ghost drained_keeps_inputs = { λ a b p. (ap F.inputs p.0, ap F.feed_faults p.0) };
 
     fn start(&mut self) -> Result<(), Failed> {
         self.fresh = false;

@@ -90,12 +90,12 @@ one_list (suc k) h = absurd (let less : suc k < 1 = ltb-true _ _ h in omega arit
 
 -- it has room for what is put
 pub in_room : (chain : Chain) (rows : List Row) (frames room k : ℕ) (inputs inputs_now : Inputs) (outputs outputs_now : Outputs) → outputs ≡ outputs_of ([] ∷ []) → outputs_now.holds ≡ outputs.holds → frames * top_len (shapes_of chain) < room
-    → PutsPrefix (shapes_of chain) (counts rows) (says_of None) frames inputs inputs_now outputs outputs_now → IsTrue (outputs_now.holds k) → (k ≡ 0) × (bits_held outputs_now k < room)
+    → PutsPrefix (shapes_of chain) (counts rows) (says_of None) (frame_count rows) frames inputs inputs_now outputs outputs_now → IsTrue (outputs_now.holds k) → (k ≡ 0) × (bits_held outputs_now k < room)
 in_room chain rows frames room k inputs inputs_now outputs outputs_now opened holds enough put held =
     let is : IsTrue (nat_lt k 1) = subst IsTrue (ap (λ h. h k) holds ∙ ap (λ (o : Outputs). o.holds k) opened) held in
     let first : k ≡ 0 = one_list k is in
     let empty : bits_held outputs 0 ≡ 0 = ap (λ (o : Outputs). bits_held o 0) opened in
-    let most = mux_short (shapes_of chain) (counts rows) (says_of None) frames inputs inputs_now outputs outputs_now put 0 in
+    let most = mux_short (shapes_of chain) (counts rows) (says_of None) (frame_count rows) frames inputs inputs_now outputs outputs_now put 0 in
     (first, subst (λ k. bits_held outputs_now k < room) (sym first) (omega (arith, most, empty, enough)))
 
 -- ---- the leaves' lists

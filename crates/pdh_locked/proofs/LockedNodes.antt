@@ -78,7 +78,7 @@ module _ {C : Type 0} (tx : Ghosts C) (s : FrameShape) (has : HasTributaries s) 
         omega (arith, less, p, q);
     used_up = blocked.stays.used_up;
     met = record {
-      rose = blocked.met.rose;
+      counted = blocked.met.counted;
       is_first = λ h size fit. obstacle_is at.frame at.slot x old.place old.inside size ∙ blocked.met.is_first h size (fit_now at.frame at.slot x old.place old.inside a size fit);
     };
   }

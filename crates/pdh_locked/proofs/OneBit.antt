@@ -9,7 +9,7 @@ use Rattle.pdh_line.specs.Sending.{Source, slot_bit}
 use Rattle.pdh_tx.specs.declared.tx.Tx.{Ghosts}
 use Rattle.pdh_tx.specs.declared.tx.TxStop.{TxStop}
 use Rattle.pdh_tx.specs.declared.tx.TxStop.TheVariants.{NoFrame}
-use Rattle.pdh_tx.specs.Meaning.{Meaning, Plan, is_failed, IsUsedUp}
+use Rattle.pdh_tx.specs.Meaning.{Meaning, Plan, IsUsedUp, faults_met}
 use Rattle.pdh_tx.specs.Held.{first_some}
 use Rattle.pdh_tx.specs.Node.{below, source_of, given_by, obstacle_of, set_at, carried_by, overhead_bit, AllFit, EachPlaced, Blocked}
 use Rattle.pdh_tx.specs.Passing.{HoldsLine}
@@ -83,7 +83,7 @@ module _ {C : Type 0} (tx : Ghosts C) (s : FrameShape) (path : Path) (plan : Pla
         used_up = blocked.stays.used_up;
       };
       met = record {
-        rose = blocked.met.rose;
+        counted = blocked.met.counted;
         is_first = λ h size fit. one_stop s path plan ms size n t began i (read_one (s.role t) i reads) stop known (first_one (obstacle_of (slice_get ms i) plan size (locked_to s n t i)) stop (blocked.met.is_first h size fit));
       };
     }
@@ -121,10 +121,7 @@ module _ {C : Type 0} (tx : Ghosts C) (s : FrameShape) (path : Path) (plan : Pla
       used_up = subst (λ v. IsUsedUp v a) (sym is) tt;
     };
     met = record {
-      rose = λ h. absurd (differ (sym (ap is_failed is) ∙ h));
+      counted = sym (ap (λ v. faults_met v f) is);
       is_first = λ h size fit. begin_stop s path plan ms size n t stop met;
     };
   }
-    where
-      differ : false ≡ true → ⊥
-      differ h = cc

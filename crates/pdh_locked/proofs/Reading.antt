@@ -82,7 +82,7 @@ module _ {C : Type 0} (tx : Ghosts C) (plan : Plan) (old : List C) (i : ℕ) (w 
           used_up = stops.used_up;
         });
     met = record {
-      rose = stops.met.rose;
+      counted = stops.met.counted;
       is_first = λ h size fit.
           ap (λ o. first_some (obstacle_of o plan size (made i) ∷ [])) maker
           ∙ ap (λ o. first_some (o ∷ [])) (stops.met.is_first h size (fit_one (held_in tx) tx.meaning plan ms i (tx.meaning w) made a size dis maker fit));

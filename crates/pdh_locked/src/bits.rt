@@ -22,7 +22,7 @@ impl<S: Shape, C: Tx> Children<S, C> {
         ensures stop { IfErr result (λ stop. (made : ℕ → ℕ) → HaveMade self.old (plan_of clock.now) made
             → StopAtRead self.old (plan_of clock.now) made trib stop
             (F.inputs feed.old) (F.inputs feed.new) (F.feed_faults feed.old) (F.feed_faults feed.new)) }
-        ensures later { F.feed_faults feed.old ≤ F.feed_faults feed.new }
+        ensures unfailed { OnOk result (F.feed_faults feed.new ≡ F.feed_faults feed.old) }
         ensures fed { F.fed feed.old feed.new }
         ensures same { meanings self.new ≡ meanings self.old }
     {
@@ -52,7 +52,7 @@ impl<S: Shape, C: Tx> Children<S, C> {
         ensures err { IfErr result (λ stop. StopInSlot self.old path (plan_of clock.now)
             frame slot stop
             (F.inputs feed.old) (F.inputs feed.new) (F.feed_faults feed.old) (F.feed_faults feed.new)) }
-        ensures later { F.feed_faults feed.old ≤ F.feed_faults feed.new }
+        ensures unfailed { OnOk result (F.feed_faults feed.new ≡ F.feed_faults feed.old) }
         ensures fed { F.fed feed.old feed.new }
         ensures same { meanings self.new ≡ meanings self.old }
     {

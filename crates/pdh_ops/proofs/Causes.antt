@@ -4,16 +4,26 @@ use Rattle.pdh_edge.specs.Counts.{one_more}
 use Rattle.pdh_edge.specs.Files.{ShelfState, Counts, SinkState, Looks, Rose}
 use Rattle.pdh_ops.specs.Answer.{Answer}
 use Rattle.pdh_ops.specs.Schedules.{Files}
-use Rattle.pdh_ops.specs.Commands.{AreTold, comes_to}
+use Rattle.pdh_ops.specs.Commands.{AreTold, IsOutput, comes_to, outputs}
 use Rattle.pdh_watch.specs.Monitors.{State}
 use Rattle.pdh_ops.specs.Lines.{IsTold}
-use Rattle.pdh_ops.specs.Run.{HasCause, ChangesOnly, IsCounted, Runs, Completes}
+use Rattle.pdh_ops.specs.Run.{HasCause, ChangesOnly, IsCounted, Performs, Runs, Completes}
 use Rattle.pdh_words.specs.declared.commands.Command.{Command}
+use Rattle.pdh_ops.specs.declared.answer.Done.{Done}
 use Rattle.pdh_ops.specs.declared.answer.Stop.TheVariants.{Memory, Usage, Read, Write, Missing, LongSchedule, BadRow, UnknownNode, CountOver, ShortNode, Short, Overflow, Underflow, ManyFrames, NoAlignment, NotWhole, LongScript, BadScriptRow, PastEnd}
 use Rattle.pdh_ops.proofs.Touching.{looks_same}
 
 pub looks_others : (P : List ℕ → Type 0) (a b : ShelfState) → Looks a b → ChangesOnly P a b
 looks_others P a b looks name out = looks_same a b name looks
+
+-- a command that writes nothing did its work
+pub did : (command : Command) (a b : ShelfState) (done : Done) → (outputs command).count ≡ 0 → Looks a b → b.counts ≡ a.counts → ((files : Files) → AreTold command a.told files → ◌≡◌ {A = Answer} (Ok done) (comes_to command files)) → Performs command a b (Ok done)
+did command a b done none looks same comes = record {
+  cause = comes;
+  outputs = λ i low. absurd (omega (arith, low, none));
+  others = looks_others (IsOutput command) a b looks;
+  counted = same;
+}
 
 -- a count with one more rose
 one_more_rose : (n m : ℕ) → m ≡ one_more n → Rose n m

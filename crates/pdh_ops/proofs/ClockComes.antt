@@ -65,6 +65,7 @@ check_schedule chain a bytes known = record {
   known = omega arith;
   named = refl;
   held = λ files told i h. known_held bytes (files schedule_name) (known.told (files schedule_name) (check_told chain a files told));
+  early = refl;
 }
 
 begins_held : (chain : Chain) (files : Files) (held : Option (List ℕ)) (bytes : ℕ) → Some bytes ≡ option_map length held → files schedule_name ≡ held →

@@ -1,7 +1,6 @@
 -- What the steps of `disturb` before its output come to.
 use Rattle.std.proofs.Common.{◌≡◌, ℕ, zero, suc, ◌*◌, ◌/◌, ◌<◌, ◌≤◌, nat_lt, List, [], Option, None, Some, Ok, Err, true, false, length, refl, ap, sym, subst, ◌∙◌, arith, lit<}
 use Rattle.std.specs.Prelude.{is_none, unwrap_or}
-use Rattle.std.specs.Result.{result_unwrap_or}
 use Rattle.std.proofs.lemmas.Bool.Decides.{nat_tests}
 use Rattle.pdh_edge.specs.Files.{ShelfState, Looks, Holds}
 use Rattle.pdh_edge.specs.Files.Told.{Known}
@@ -14,21 +13,19 @@ use Rattle.pdh_ops.specs.Names.{line_name, script_name}
 use Rattle.pdh_ops.specs.Answer.{Answer, and_then}
 use Rattle.pdh_ops.specs.Demux.{line_of, frames_of}
 use Rattle.pdh_ops.specs.Mux.{all_held}
-use Rattle.pdh_ops.specs.Disturb.{disturb_inputs, stop_of_script, script_or_stop, script_rows, script_in, bent, bent_bytes}
-use Rattle.pdh_ops.specs.DisturbSteps.{HasSizes, ScriptIs, IsBent, IsOutcome}
+use Rattle.pdh_ops.specs.Disturb.{disturb_inputs, stop_of_script, script_or_stop, script_rows, bent}
+use Rattle.pdh_ops.specs.DisturbSteps.{HasSizes, ScriptIs}
 use Rattle.pdh_ops.specs.Reading.{HasLength, IsSizeStop, IsReadStop}
 use Rattle.pdh_ops.specs.Schedules.{Files, bytes_in}
-use Rattle.pdh_ops.specs.Commands.{AreTold, OfInputs, comes_to, output_bytes, reaches_outputs, AreHeld, IsReadDue}
+use Rattle.pdh_ops.specs.Commands.{AreTold, OfInputs, comes_to, AreHeld, IsReadDue}
 use Rattle.pdh_ops.specs.Run.{Comes}
 use Rattle.pdh_ops.specs.Refusing.{Refuses}
 use Rattle.pdh_ops.specs.declared.disturb.Sizes.{Sizes}
-use Rattle.pdh_ops.specs.declared.disturb.BentLine.{BentLine}
 use Rattle.pdh_ops.specs.declared.file.File.TheVariants.{Line, Script}
-use Rattle.pdh_ops.specs.declared.answer.Done.TheVariants.{Disturbed}
 use Rattle.pdh_ops.specs.declared.answer.Stop.{Stop}
 use Rattle.pdh_ops.specs.declared.answer.Stop.TheVariants.{Missing, LongScript, ManyFrames}
-use Rattle.pdh_ops.proofs.Touching.{has_length_still, looks_then, looks_same}
-use Rattle.pdh_ops.proofs.Refusing.{size_refuses, read_refuses, refuses_since, of_inputs_before}
+use Rattle.pdh_ops.proofs.Touching.{has_length_still, looks_then}
+use Rattle.pdh_ops.proofs.Refusing.{size_refuses, read_refuses, refuses_since}
 use Rattle.pdh_ops.proofs.MuxComes.{is_held, length_is}
 use Rattle.pdh_ops.proofs.OneInput.{held_of}
 use Rattle.pdh_chain.specs.declared.chain.Chain.{Chain}
@@ -37,7 +34,7 @@ use Rattle.pdh_shape.specs.OwnNumbers.{most_frames}
 
 -- ---- the inputs as they are told
 
-line_told : (chain : Chain) (a : ShelfState) (files : Files) → AreTold (Disturb chain) a.told files → a.told line_name ≡ Known (files line_name)
+pub line_told : (chain : Chain) (a : ShelfState) (files : Files) → AreTold (Disturb chain) a.told files → a.told line_name ≡ Known (files line_name)
 line_told chain a files told = told 0 (lit< tt)
 
 script_told : (chain : Chain) (a : ShelfState) (files : Files) → AreTold (Disturb chain) a.told files → a.told script_name ≡ Known (files script_name)
@@ -169,7 +166,7 @@ text_due chain a sizes has short files told =
     )
 
 pub text_unread : (chain : Chain) (a b : ShelfState) (sizes : Sizes) (stop : Stop) → HasSizes chain sizes a → sizes.script ≤ most_script_bytes → IsReadStop Script a b stop → Refuses (Disturb chain) a b stop
-text_unread chain a b sizes stop has short cause = read_refuses (Disturb chain) Script 1 a b stop (lit< tt) refl (text_due chain a sizes has short) cause
+text_unread chain a b sizes stop has short cause = read_refuses (Disturb chain) Script 1 a b stop (lit< tt) refl refl (text_due chain a sizes has short) cause
 
 -- the text that was read is the script's
 text_is : (chain : Chain) (a : ShelfState) (read : List ℕ) (files : Files) → Holds (a.told script_name) read → AreTold (Disturb chain) a.told files → bytes_in files script_name ≡ read
@@ -204,43 +201,14 @@ sizes_since chain sizes a b looks has = record {
 }
 
 -- the script's text has these rows
-script_found : (chain : Chain) (a : ShelfState) (sizes : Sizes) (rows : List Row) (files : Files) → HasSizes chain sizes a → ScriptIs sizes.line a (Ok rows) → AreTold (Disturb chain) a.told files → script_rows sizes.line (bytes_in files script_name) ≡ Ok rows
+pub script_found : (chain : Chain) (a : ShelfState) (sizes : Sizes) (rows : List Row) (files : Files) → HasSizes chain sizes a → ScriptIs sizes.line a (Ok rows) → AreTold (Disturb chain) a.told files → script_rows sizes.line (bytes_in files script_name) ≡ Ok rows
 script_found chain a sizes rows files has are told =
     let held = held_of sizes.script (files script_name) (has.script.told (files script_name) (script_told chain a files told)) in
     ap (λ (h : Option (List ℕ)). script_rows sizes.line (unwrap_or h [])) held.1 ∙ are held.0 (script_told chain a files told ∙ ap Known held.1)
 
 -- and then nothing refuses the inputs
-ready : (chain : Chain) (a : ShelfState) (sizes : Sizes) (rows : List Row) (files : Files) → HasSizes chain sizes a → ScriptIs sizes.line a (Ok rows) → AreTold (Disturb chain) a.told files →
+pub ready : (chain : Chain) (a : ShelfState) (sizes : Sizes) (rows : List Row) (files : Files) → HasSizes chain sizes a → ScriptIs sizes.line a (Ok rows) → AreTold (Disturb chain) a.told files →
     (found : AreFound files sizes.line sizes.script) × (comes_to (Disturb chain) files ≡ bent chain found.line rows)
 ready chain a sizes rows files has are told =
     let decided = script_decides chain a sizes files has told in
     (decided.0, decided.1 ∙ ap (λ r. and_then r (bent chain decided.0.line)) (script_found chain a sizes rows files has are told))
-
-pub line_unread : (chain : Chain) (a s t b : ShelfState) (sizes : Sizes) (rows : List Row) (stop : Stop) → Looks a s → Looks s t → t.counts ≡ a.counts → HasSizes chain sizes s → ScriptIs sizes.line s (Ok rows) → IsReadStop Line t b stop → Refuses (Disturb chain) a b stop
-line_unread chain a s t b sizes rows stop first second same has are cause =
-    refuses_since (Disturb chain) a t b stop (looks_then a s t first second) same
-    (read_refuses (Disturb chain) Line 0 t b stop (lit< tt) refl
-    (λ files told. ap reaches_outputs (ready chain t sizes rows files (sizes_since chain sizes s t second has) (script_still sizes.line s t rows second are) told).1) cause)
-  where
-    script_still : (bytes : ℕ) (s t : ShelfState) (rows : List Row) → Looks s t → ScriptIs bytes s (Ok rows) → ScriptIs bytes t (Ok rows)
-    script_still bytes s t rows looks are text told = are text (sym (looks_same s t script_name looks) ∙ told)
-
--- what comes of the line that was read
-pub outcome : (chain : Chain) (a s t : ShelfState) (sizes : Sizes) (rows : List Row) (line read : List ℕ) (made : BentLine) → Looks a s → Looks s t → HasSizes chain sizes s → ScriptIs sizes.line s (Ok rows) → Holds (t.told line_name) line → read ≡ line → IsBent read rows made →
-    IsOutcome chain a made
-outcome chain a s t sizes rows line read made first second has are holds same is = record {
-  comes = of_inputs_before (Disturb chain) (λ files. ◌≡◌ {A = Answer} (Ok (Disturbed chain made.bits)) (comes_to (Disturb chain) files)) a s first
-      (λ files told.
-      let found = ready chain s sizes rows files has are told in
-      let line_same : found.0.line ≡ line = ap (λ (h : Option (List ℕ)). unwrap_or h []) (sym found.0.line_is ∙ held files told) in
-      ap (λ n. Ok (Disturbed chain n)) is.bits_are ∙ ap (λ l. bent chain l rows) (same ∙ sym line_same) ∙ sym found.1);
-  content = of_inputs_before (Disturb chain) (λ files. made.bytes.items ≡ output_bytes (Disturb chain) files 0) a s first
-      (λ files told.
-      let bytes_same : bytes_in files line_name ≡ line = ap (λ (h : Option (List ℕ)). unwrap_or h []) (held files told) in
-      let long = length_is s line_name sizes.line files has.line (line_told chain s files told) in
-      let rows_same : script_in files ≡ rows = ap (λ n. result_unwrap_or (script_rows n (bytes_in files script_name)) []) long ∙ ap (λ r. result_unwrap_or r []) (script_found chain s sizes rows files has are told) in
-      is.bytes_are ∙ ap (λ l. bent_bytes l rows) (same ∙ sym bytes_same) ∙ ap (bent_bytes (bytes_in files line_name)) (sym rows_same));
-}
-  where
-    held : (files : Files) → AreTold (Disturb chain) s.told files → files line_name ≡ Some line
-    held files told = holds (files line_name) (looks_same s t line_name second ∙ line_told chain s files told)

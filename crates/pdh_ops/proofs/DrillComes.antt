@@ -18,8 +18,7 @@ use Rattle.pdh_ops.specs.Commands.{IsOutput}
 use Rattle.pdh_ops.specs.Run.{Performs, Runs}
 use Rattle.pdh_ops.specs.declared.answer.Done.TheVariants.{Drilled}
 use Rattle.pdh_ops.specs.declared.answer.Stop.TheVariants.{ManyFrames}
-use Rattle.pdh_ops.proofs.Causes.{looks_others}
-use Rattle.pdh_ops.proofs.InspectFiles.{did}
+use Rattle.pdh_ops.proofs.Causes.{did, looks_others}
 use Rattle.pdh_ops.proofs.MuxGivesBack.{stop_status}
 use Rattle.pdh_ops.proofs.Touching.{looks_none}
 use Rattle.pdh_shape.specs.OwnNumbers.{most_frames}

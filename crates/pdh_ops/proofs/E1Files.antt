@@ -80,7 +80,7 @@ payload_cut a b octets looks same known few cut =
 pub payload_unread : (a b c : ShelfState) (octets : ℕ) (stop : Stop) → Looks a b → b.counts ≡ a.counts → HasLength payload_name octets b → octets / 31 ≤ most_frames → octets % 496 ≡ 0 → IsReadStop Payload b c stop → Refuses E1Pack a c stop
 payload_unread a b c octets stop looks same known few whole cause =
     refuses_since E1Pack a b c stop looks same
-    (reading_refuses E1Pack Payload payload_of e1_packed b c octets stop pack_begins known (whole_payload octets few whole) cause)
+    (reading_refuses E1Pack Payload payload_of e1_packed b c octets stop pack_begins refl known (whole_payload octets few whole) cause)
 
 -- ---- what `e1pack` leaves
 
@@ -192,7 +192,7 @@ framed_long a b octets frames looks same known is many =
 pub framed_unread : (a b c : ShelfState) (octets : ℕ) (stop : Stop) → Looks a b → b.counts ≡ a.counts → HasLength e1_name octets b → octets / 32 ≤ most_frames → IsReadStop E1Line b c stop → Refuses E1Unpack a c stop
 framed_unread a b c octets stop looks same known few cause =
     refuses_since E1Unpack a b c stop looks same
-    (reading_refuses E1Unpack E1Line framed_of e1_unpacked b c octets stop unpack_begins known (whole_framed octets few) cause)
+    (reading_refuses E1Unpack E1Line framed_of e1_unpacked b c octets stop unpack_begins refl known (whole_framed octets few) cause)
 
 -- ---- what `e1unpack` leaves
 

@@ -1,6 +1,7 @@
 -- What an alignment machine leaves of a whole line.
-use Rattle.std.proofs.Common.{◌≡◌, ℕ, Bool, List, [], ◌∷◌, ◌++◌, Some, ap, sym, ◌∙◌, arith}
-use Rattle.std.specs.Prelude.{flat_map}
+use Rattle.std.proofs.Common.{◌≡◌, ℕ, Bool, List, [], ◌∷◌, ◌++◌, Some, ap, sym, ◌∙◌, arith, lit<}
+use Rattle.std.specs.Prelude.{IsTrue, flat_map}
+use Rattle.std.proofs.lemmas.Bool.{lt-ltb}
 use Rattle.pdh_bits.specs.Bits.{bits_of, bytes_of}
 use Rattle.pdh_edge.specs.Ports.{Outputs, after}
 use Rattle.pdh_edge.specs.MemLists.{outputs_of}
@@ -43,3 +44,7 @@ is_unpacked line bits got align old new multiframes blocks errored unpacked made
       found_is = found ∙ ap (λ (x : ℕ). record { multiframes = x; blocks = blocks; errored = errored }) m ∙ ap (λ (x : ℕ). record { multiframes = counted (multiframes_in (bits_of line)); blocks = x; errored = errored }) n
           ∙ ap (λ (x : ℕ). record { multiframes = counted (multiframes_in (bits_of line)); blocks = counted (blocks_in (bits_of line)); errored = x }) e;
     }
+
+-- a port with one list holds it
+pub first_holds : {outputs : Outputs} → outputs ≡ outputs_of ([] ∷ []) → IsTrue (outputs.holds 0)
+first_holds is = ap (λ (o : Outputs). o.holds 0) is ∙ lt-ltb 0 1 (lit< tt)

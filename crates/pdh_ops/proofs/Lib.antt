@@ -1,9 +1,16 @@
 pub mod OutputNames
+pub mod PortOpen
+pub mod PortRun
+pub mod PortEnds
+pub mod ShowRun
+pub mod ShowFiles
+pub mod MuxRun
+pub mod DemuxRun
+pub mod DisturbRun
 pub mod Touching
 pub mod LineComes
 pub mod Causes
 pub mod DemuxFiles
-pub mod Received
 pub mod Refusing
 pub mod LineStops
 pub mod ScheduleComes
@@ -26,5 +33,6 @@ pub mod Lines
 pub mod InspectFiles
 pub mod DisturbComes
 pub mod DisturbFiles
-pub mod Bending
 pub mod DrillComes
+pub mod InspectRun
+pub mod InspectWatched

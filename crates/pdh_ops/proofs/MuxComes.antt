@@ -39,7 +39,7 @@ use Rattle.pdh_shape.specs.OwnNumbers.{most_frames}
 schedule_told : (chain : Chain) (feac : Option ℕ) (state : ShelfState) (files : Files) → AreTold (Mux chain feac) state.told files → state.told schedule_name ≡ Known (files schedule_name)
 schedule_told chain feac state files told = told 0 (omega arith)
 
-leaf_told : (chain : Chain) (feac : Option ℕ) (state : ShelfState) (files : Files) (k : ℕ) → k < leaves_of chain → AreTold (Mux chain feac) state.told files → state.told (leaf_name k) ≡ Known (files (leaf_name k))
+pub leaf_told : (chain : Chain) (feac : Option ℕ) (state : ShelfState) (files : Files) (k : ℕ) → k < leaves_of chain → AreTold (Mux chain feac) state.told files → state.told (leaf_name k) ≡ Known (files (leaf_name k))
 leaf_told chain feac state files k low told = told (suc k) (omega arith)
 
 -- what holds of inputs as they were told holds of them as they are told now
@@ -110,6 +110,7 @@ has_schedule chain feac sizes a are = record {
   known = omega arith;
   named = refl;
   held = held_before chain feac a sizes.schedule (leaves_of chain) (slice_index sizes.leaves) (omega arith) are.schedule are.leaf;
+  early = refl;
 }
 
 pub all_are_held : (chain : Chain) (feac : Option ℕ) (sizes : InputSizes) (a : ShelfState) → AreSizes chain sizes a → AllHeld chain a

@@ -1,82 +1,65 @@
--- What the steps of `mux` leave of the files, and what the whole command comes to.
-use Rattle.std.proofs.Common.{◌≡◌, ℕ, ◌<◌, ◌≤◌, nat_lt, List, [], true, false, Option, None, Some, Ok, Err, refl, ap, sym, subst, ◌∙◌, arith}
+-- What `mux` comes to where no step refuses its inputs, and the port that it opens then.
+use Rattle.std.proofs.Common.{◌≡◌, ℕ, zero, suc, ◌+◌, ◌*◌, ◌/◌, ◌<◌, ◌≤◌, nat_lt, List, [], ◌∷◌, ◌++◌, true, false, Option, None, Some, Ok, Err, length, map, take, slice_get, refl, ap, sym, subst, ◌∙◌, arith}
+use Rattle.std.specs.Prelude.{All, slice_index, unwrap_or}
+use Rattle.std.specs.List.{range_with_len}
 use Rattle.std.specs.Option.{option_map_or}
-use Rattle.std.specs.Result.{result_unwrap_or}
-use Rattle.pdh_bits.specs.BitOut.{BoundedBits}
 use Rattle.std.proofs.lemmas.Bool.Decides.{nat_tests}
-use Rattle.pdh_edge.specs.Files.{ShelfState, Told, Looks, Touches, Starts, Appends}
-use Rattle.pdh_bits.specs.Bits.{bytes_of}
+use Rattle.std.proofs.lemmas.List.FromFn.{length-map-range_with_len}
+use Rattle.std.proofs.lemmas.Simd.{map-map}
+use Rattle.pdh_bits.specs.Bits.{bits_of}
+use Rattle.pdh_edge.specs.Files.{ShelfState, Told, Looks}
+use Rattle.pdh_edge.specs.Files.Told.{Known}
 use Rattle.pdh_shape.specs.declared.place.Place.{Place}
 use Rattle.pdh_line.specs.Events.{Event, Kind}
 use Rattle.pdh_line.specs.Events.Kind.{Overflow as StoreOverflow, Underflow as StoreUnderflow}
-use Rattle.pdh_chain.specs.Saying.{says_of}
-use Rattle.pdh_chain.specs.Muxes.{frames_of_line, place_of}
-use Rattle.pdh_clock.specs.Row.{Row}
-use Rattle.pdh_clock.specs.Contents.{counts}
-use Rattle.pdh_ops.specs.Names.{line_name}
-use Rattle.pdh_ops.specs.Answer.{Answer}
-use Rattle.pdh_ops.specs.Writing.{IsStartStop, IsAppendStop}
-use Rattle.pdh_ops.specs.Schedules.{Files, rows_in, frames_in}
-use Rattle.pdh_ops.specs.Mux.{leaf_bits, short_node, bits_held, bits_needed, stop_of_kind, stop_of_event, event_of, muxed, frames_made, line_bytes}
-use Rattle.pdh_ops.specs.Commands.{IsOutput, AreTold, output_bytes, comes_to, reaches_outputs}
-use Rattle.pdh_ops.specs.Run.{Comes, AreWhole, ChangesOnly, Performs, GoesOn}
-use Rattle.pdh_ops.specs.MuxSteps.{AreBits, AreSizes, HasRows, AreEnough, AreLeaves, IsEnd, IsMade}
-use Rattle.pdh_words.specs.declared.commands.Command.TheVariants.{Mux}
-use Rattle.pdh_ops.specs.declared.file.File.TheVariants.{Line}
-use Rattle.pdh_ops.specs.declared.mux.InputSizes.{InputSizes}
-use Rattle.pdh_ops.specs.declared.mux.Made.{Made}
-use Rattle.pdh_ops.specs.declared.answer.Done.TheVariants.{Muxed}
-use Rattle.pdh_ops.specs.declared.answer.Stop.{Stop}
-use Rattle.pdh_ops.proofs.Touching.{looks_then}
-use Rattle.pdh_ops.proofs.OneOutput.{HasOutput, Writes, touches_again, others, start_refused, append_refused, whole, writing_done}
-use Rattle.pdh_ops.proofs.MuxComes.{all_are_held, sizes_since, of_inputs_since, comes_muxed, no_short_leaf, long_enough}
+use Rattle.pdh_chain.specs.Chains.{leaves_of, levels_of}
+use Rattle.pdh_chain.specs.Muxes.{place_of}
 use Rattle.pdh_chain.specs.declared.chain.Chain.{Chain}
-use Rattle.pdh_chain.specs.Chains.{shapes_of, leaves_of}
+use Rattle.pdh_chain.proofs.ChainLaws.{few_leaves}
+use Rattle.pdh_clock.specs.Row.{Row}
+use Rattle.pdh_clock.specs.Contents.{IsRowOf}
+use Rattle.pdh_blocks.specs.Lists.{inputs_of}
+use Rattle.pdh_blocks.specs.Held.{AllDiffer}
+use Rattle.pdh_blocks.specs.Opened.{HasBytesFor}
+use Rattle.pdh_words.specs.declared.commands.Command.TheVariants.{Mux}
+use Rattle.pdh_ops.specs.Names.{leaf_name, line_name, schedule_name, name_of}
+use Rattle.pdh_ops.specs.Schedules.{Files, bytes_in, rows_of, frames_in}
+use Rattle.pdh_ops.specs.Mux.{short_node, bits_held, bits_needed, stop_of_kind, stop_of_event, event_of, muxed}
+use Rattle.pdh_ops.specs.Commands.{AreTold, OfInputs, comes_to, reaches_outputs, IsReadDue}
+use Rattle.pdh_ops.specs.Run.{GoesOn, is_read_in_run}
+use Rattle.pdh_ops.specs.PortFiles.{HasBits, AreFiles, AreRead, opened_for, input_name}
+use Rattle.pdh_ops.specs.MuxSteps.{AreSizes, AllHeld, HasRows, AreEnough, IsPlanned, AreLeafInputs, CanSend, IsMuxPort, run_answer, entering}
+use Rattle.pdh_ops.specs.declared.file.File.{File}
+use Rattle.pdh_ops.specs.declared.file.File.TheVariants.{Line, Leaf as LeafFile}
+use Rattle.pdh_ops.specs.declared.mux.InputSizes.{InputSizes}
+use Rattle.pdh_ops.specs.declared.mux.Plan.{Plan}
+use Rattle.pdh_ops.specs.declared.port.Input.{Input}
+use Rattle.pdh_ops.specs.declared.answer.Done.TheVariants.{Muxed}
+use Rattle.pdh_ops.proofs.MuxComes.{comes_muxed, no_short_leaf, leaf_told}
+use Rattle.pdh_ops.proofs.OutputNames.{numbered, numbered_at, numbered_differ, last_differs, same_leaf, leaf_is_not_line}
+use Rattle.pdh_ops.proofs.PortOpen.{open_for, long_has, told_read, left_read, holds_read}
 use Rattle.pdh_shape.specs.OwnNumbers.{most_frames}
-
--- what the steps before the outputs have found
-pub record IsReady (chain : Chain) (a b : ShelfState) (sizes : InputSizes) (rows : List Row) (frames : ℕ) (leaves : List BoundedBits) : Type 0 where
-  pub looks : Looks a b
-  pub same : b.counts ≡ a.counts
-  pub sizes_are : AreSizes chain sizes b
-  pub rows_are : HasRows chain b rows
-  pub enough : AreEnough chain rows sizes frames
-  pub leaves_are : AreLeaves chain sizes b leaves
-
-pub is_ready : (chain : Chain) (feac : Option ℕ) (a s t b : ShelfState) (sizes : InputSizes) (rows : List Row) (frames : ℕ) (leaves : List BoundedBits) → b.counts ≡ a.counts → Looks a s → AreSizes chain sizes s → Looks s t → HasRows chain t rows → AreEnough chain rows sizes frames →
-    Looks t b → AreLeaves chain sizes b leaves → IsReady chain a b sizes rows frames leaves
-is_ready chain feac a s t b sizes rows frames leaves same first sizes_are second rows_are enough third leaves_are = record {
-  looks = looks_then a t b (looks_then a s t first second) third;
-  same = same;
-  sizes_are = sizes_since chain sizes t b third (sizes_since chain sizes s t second sizes_are);
-  rows_are = of_inputs_since chain feac _ t b third rows_are;
-  enough = enough;
-  leaves_are = leaves_are;
-}
 
 told_now : (chain : Chain) (feac : Option ℕ) (a b : ShelfState) (files : Files) → Looks a b → AreTold (Mux chain feac) a.told files → AreTold (Mux chain feac) b.told files
 told_now chain feac a b files looks told = subst (λ (t : List ℕ → Told). AreTold (Mux chain feac) t files) (sym looks.told) told
 
 -- ---- the answer
 
-abbrev run_answer : (chain : Chain) → List Row → Answer
-run_answer chain rows = option_map_or (λ event. Err (stop_of_event event)) (event_of chain rows) (Ok (Muxed chain (frames_in rows)))
-
 runs_to : (chain : Chain) (files : Files) (rows : List Row) → frames_in rows ≤ most_frames → short_node chain rows ≡ None → ((i : ℕ) → i < leaves_of chain → nat_lt (bits_held files i) (bits_needed chain rows i) ≡ false) → muxed chain files rows ≡ run_answer chain rows
 runs_to chain files rows few scheduled long =
     let test : nat_lt most_frames (frames_in rows) ≡ false = grind (arith, nat_tests) in
     rw (test, scheduled, no_short_leaf chain files rows long) refl
 
-enough_comes : (chain : Chain) (feac : Option ℕ) (a : ShelfState) (sizes : InputSizes) (rows : List Row) (frames : ℕ) (files : Files) → AreSizes chain sizes a → HasRows chain a rows → AreEnough chain rows sizes frames → AreTold (Mux chain feac) a.told files →
-    comes_to (Mux chain feac) files ≡ run_answer chain rows
-enough_comes chain feac a sizes rows frames files sizes_are rows_are enough told =
-    comes_muxed chain feac a rows files (all_are_held chain feac sizes a sizes_are) rows_are told
-    ∙ runs_to chain files rows (let e = enough.frames_are in omega (arith, enough.few)) enough.scheduled (λ i h. long_enough chain feac sizes a rows files i h sizes_are told (enough.long i h))
+-- a file that has so many bits is long enough
+has_long : (bits : ℕ) (held : Option (List ℕ)) → HasBytesFor bits held → nat_lt (8 * length (unwrap_or held [])) bits ≡ false
+has_long bits None has = absurd has
+has_long bits (Some bytes) has = let few : (bits + 7) / 8 ≤ length bytes = has in grind (arith, nat_tests)
 
-ready_comes : (chain : Chain) (feac : Option ℕ) (a b : ShelfState) (sizes : InputSizes) (rows : List Row) (frames : ℕ) (leaves : List BoundedBits) (files : Files) → IsReady chain a b sizes rows frames leaves → AreTold (Mux chain feac) a.told files →
-    comes_to (Mux chain feac) files ≡ run_answer chain rows
-ready_comes chain feac a b sizes rows frames leaves files ready told =
-    enough_comes chain feac b sizes rows frames files ready.sizes_are ready.rows_are ready.enough (told_now chain feac a b files ready.looks told)
+pub planned_comes : (chain : Chain) (feac : Option ℕ) (plan : Plan) (b : ShelfState) (files : Files) → IsPlanned chain plan b → AreTold (Mux chain feac) b.told files → comes_to (Mux chain feac) files ≡ run_answer chain plan.clock.rows
+planned_comes chain feac plan b files is told =
+    comes_muxed chain feac b plan.clock.rows files is.held is.rows_are told
+    ∙ runs_to chain files plan.clock.rows (let e = is.scheduled.frames_are in omega (arith, is.scheduled.few)) is.scheduled.enough
+    (λ i low. has_long (bits_needed chain plan.clock.rows i) (files (leaf_name i)) ((is.leaves_have i low).told (files (leaf_name i)) (leaf_told chain feac b files i low told)))
 
 kind_reaches : (kind : Kind) (place : Place) → reaches_outputs (Err (stop_of_kind kind place)) ≡ true
 kind_reaches StoreOverflow place = refl
@@ -86,81 +69,92 @@ reaches : (chain : Chain) (event : Option Event) (n : ℕ) → reaches_outputs (
 reaches chain None n = refl
 reaches chain (Some event) n = kind_reaches event.kind (place_of event)
 
--- what the steps before the leaves have found comes to no refusal
-pub enough_goes_on : (chain : Chain) (feac : Option ℕ) (a : ShelfState) (sizes : InputSizes) (rows : List Row) (frames : ℕ) → AreSizes chain sizes a → HasRows chain a rows → AreEnough chain rows sizes frames → GoesOn (Mux chain feac) a
-enough_goes_on chain feac a sizes rows frames sizes_are rows_are enough files told =
-    ap reaches_outputs (enough_comes chain feac a sizes rows frames files sizes_are rows_are enough told) ∙ reaches chain (event_of chain rows) (frames_in rows)
+-- ---- the plan
 
-ready_goes_on : (chain : Chain) (feac : Option ℕ) (a b : ShelfState) (sizes : InputSizes) (rows : List Row) (frames : ℕ) (leaves : List BoundedBits) → IsReady chain a b sizes rows frames leaves → GoesOn (Mux chain feac) a
-ready_goes_on chain feac a b sizes rows frames leaves ready files told = ap reaches_outputs (ready_comes chain feac a b sizes rows frames leaves files ready told) ∙ reaches chain (event_of chain rows) (frames_in rows)
-
--- ---- the line
-
--- the bits of the leaves' files are those of the leaves that were read
-leaves_same : (chain : Chain) (feac : Option ℕ) (sizes : InputSizes) (b : ShelfState) (leaves : List BoundedBits) (files : Files) → AreLeaves chain sizes b leaves → AreTold (Mux chain feac) b.told files → AreBits chain leaves (leaf_bits files)
-leaves_same chain feac sizes b leaves files are told k d low = sym (are.bits k d low files told)
-
--- the bytes that were made are those of the command's output
-ready_line : (chain : Chain) (feac : Option ℕ) (a b : ShelfState) (sizes : InputSizes) (rows : List Row) (frames : ℕ) (leaves : List BoundedBits) (made : Made) (files : Files) → IsReady chain a b sizes rows frames leaves → IsMade chain feac rows leaves made →
-    AreTold (Mux chain feac) a.told files → made.bytes.items ≡ output_bytes (Mux chain feac) files 0
-unfolding line_bytes
-ready_line chain feac a b sizes rows frames leaves made files ready is told =
-    let now = told_now chain feac a b files ready.looks told in
-    let same_rows : rows ≡ rows_in chain files = sym (ap (λ r. result_unwrap_or r []) (ready.rows_are files now)) in
-    is.bytes (leaf_bits files) (leaves_same chain feac sizes b leaves files ready.leaves_are now)
-    ∙ ap (λ (rows : List Row). bytes_of (frames_of_line (shapes_of chain) (counts rows) (says_of feac) (leaf_bits files) (frames_made chain rows))) same_rows
-
--- ---- the files
-
-mux_output : (chain : Chain) (feac : Option ℕ) → HasOutput (Mux chain feac) Line
-mux_output chain feac = record { count = refl; name = refl }
-
--- what it is to write, and that no step before refuses
-ready_writes : (chain : Chain) (feac : Option ℕ) (a b : ShelfState) (sizes : InputSizes) (rows : List Row) (frames : ℕ) (leaves : List BoundedBits) (made : Made) (bytes : List ℕ) → IsReady chain a b sizes rows frames leaves → IsMade chain feac rows leaves made →
-    bytes ≡ made.bytes.items → Writes (Mux chain feac) a b bytes
-ready_writes chain feac a b sizes rows frames leaves made bytes ready is same = record {
-  looks = ready.looks;
-  same = ready.same;
-  goes_on = ready_goes_on chain feac a b sizes rows frames leaves ready;
-  content = λ files told. same ∙ ready_line chain feac a b sizes rows frames leaves made files ready is told;
+pub is_planned : (chain : Chain) (plan : Plan) (sizes : InputSizes) (b : ShelfState) → plan.clock.levels ≡ levels_of chain → All (IsRowOf (levels_of chain)) plan.clock.rows → AllHeld chain b → HasRows chain b plan.clock.rows → AreSizes chain sizes b → AreEnough chain plan.clock.rows sizes plan.frames → IsPlanned chain plan b
+is_planned chain plan sizes b levels sound held rows sizes_are enough = record {
+  scheduled = record { levels_are = levels; sound = sound; frames_are = enough.frames_are; few = enough.few; enough = enough.scheduled };
+  held = held;
+  rows_are = rows;
+  leaves_have = λ k low. long_has (leaf_name k) (slice_index sizes.leaves k) (bits_needed chain plan.clock.rows k) b (sizes_are.leaf k low) (enough.long k low);
 }
 
-pub mux_start_refused : (chain : Chain) (feac : Option ℕ) (a b c : ShelfState) (sizes : InputSizes) (rows : List Row) (frames : ℕ) (leaves : List BoundedBits) (stop : Stop) → IsReady chain a b sizes rows frames leaves → Touches line_name b c →
-    IsStartStop Line b c stop → Performs (Mux chain feac) a c (Err stop)
-mux_start_refused chain feac a b c sizes rows frames leaves stop ready touches cause =
-    start_refused (Mux chain feac) Line a b c stop (mux_output chain feac) ready.looks ready.same (ready_goes_on chain feac a b sizes rows frames leaves ready) touches cause
+-- ---- the port
 
-pub mux_append_refused : (chain : Chain) (feac : Option ℕ) (a b c d : ShelfState) (sizes : InputSizes) (rows : List Row) (frames : ℕ) (leaves : List BoundedBits) (made : Made) (bytes : List ℕ) (stop : Stop) → IsReady chain a b sizes rows frames leaves →
-    IsMade chain feac rows leaves made → bytes ≡ made.bytes.items → Touches line_name b c → Starts line_name b c → Touches line_name c d → IsAppendStop Line bytes c d stop → Performs (Mux chain feac) a d (Err stop)
-mux_append_refused chain feac a b c d sizes rows frames leaves made bytes stop ready is same starts started appends cause =
-    append_refused (Mux chain feac) Line a b c d bytes stop (mux_output chain feac) (ready_writes chain feac a b sizes rows frames leaves made bytes ready is same) starts started appends cause
+abbrev leaf_input : (chain : Chain) (rows : List Row) → ℕ → Input
+leaf_input chain rows k = record { file = LeafFile k; bits = bits_needed chain rows k }
 
-pub mux_done : (chain : Chain) (feac : Option ℕ) (a b c d : ShelfState) (sizes : InputSizes) (rows : List Row) (frames : ℕ) (leaves : List BoundedBits) (made : Made) (bytes : List ℕ) → IsReady chain a b sizes rows frames leaves → IsMade chain feac rows leaves made →
-    bytes ≡ made.bytes.items → Touches line_name b c → Starts line_name b c → Touches line_name c d → Appends line_name bytes c d → made.end ≡ None → Performs (Mux chain feac) a d (Ok (Muxed chain frames))
-mux_done chain feac a b c d sizes rows frames leaves made bytes ready is same starts started touches appends ends =
-    writing_done (Mux chain feac) Line a b c d bytes (Muxed chain frames) (mux_output chain feac) (ready_writes chain feac a b sizes rows frames leaves made bytes ready is same) starts started touches appends
-    (λ files told. sym (ready_comes chain feac a b sizes rows frames leaves files ready told ∙ no_event (event_of chain rows) made.end is.end ends))
-  where
-    no_event : (event : Option Event) (end : Option Stop) → IsEnd event end → end ≡ None → ◌≡◌ {A = Answer} (option_map_or (λ event. Err (stop_of_event event)) event (Ok (Muxed chain (frames_in rows)))) (Ok (Muxed chain frames))
-    no_event None end e f = ap (λ n. Ok (Muxed chain n)) (sym ready.enough.frames_are)
-    no_event (Some event) end e f = absurd (let wrong : Some (stop_of_event event) ≡ None = sym e ∙ f in cc)
+module _ (chain : Chain) (rows : List Row) (reads : List Input) (are : AreLeafInputs chain rows reads) where
+  -- leaf k's input
+  pub leaf_at : (k : ℕ) → k < leaves_of chain → slice_get reads k ≡ Some (record { file = LeafFile k; bits = bits_needed chain rows k })
+  leaf_at k low = ap (λ all. slice_get all k) are ∙ numbered_at (λ k. record { file = LeafFile k; bits = bits_needed chain rows k }) 0 (leaves_of chain) k k low (omega arith)
 
--- an event of a store ends the command behind its output
-event_performs : (chain : Chain) (feac : Option ℕ) (a d : ShelfState) (kind : Kind) (place : Place) → Comes (Mux chain feac) a (Err (stop_of_kind kind place)) → AreWhole (Mux chain feac) a d → ChangesOnly (IsOutput (Mux chain feac)) a d → d.counts ≡ a.counts → Performs (Mux chain feac) a d (Err (stop_of_kind kind place))
-event_performs chain feac a d StoreOverflow place comes are changes counted = record { cause = comes; outputs = are; others = changes; counted = counted }
-event_performs chain feac a d StoreUnderflow place comes are changes counted = record { cause = comes; outputs = are; others = changes; counted = counted }
+  leaf_of : (k : ℕ) (input : Input) → slice_get reads k ≡ Some input → (k < leaves_of chain) × (input ≡ record { file = LeafFile k; bits = bits_needed chain rows k })
+  leaf_of k input here =
+      let found = numbered (λ k. record { file = LeafFile k; bits = bits_needed chain rows k }) 0 (leaves_of chain) k input (ap (λ all. slice_get all k) (sym are) ∙ here) in
+      let same : 0 + k ≡ k = omega arith in
+      (found.0, found.1 ∙ ap (λ k. record { file = LeafFile k; bits = bits_needed chain rows k }) same)
 
-pub event_ends : (chain : Chain) (feac : Option ℕ) (a b c d : ShelfState) (sizes : InputSizes) (rows : List Row) (frames : ℕ) (leaves : List BoundedBits) (made : Made) (bytes : List ℕ) (stop : Stop) → IsReady chain a b sizes rows frames leaves → IsMade chain feac rows leaves made →
-    bytes ≡ made.bytes.items → Touches line_name b c → Starts line_name b c → Touches line_name c d → Appends line_name bytes c d → made.end ≡ Some stop → Performs (Mux chain feac) a d (Err stop)
-event_ends chain feac a b c d sizes rows frames leaves made bytes stop ready is same starts started touches appends ends = go (event_of chain rows) refl
-  where
-    go : (event : Option Event) → event_of chain rows ≡ event → Performs (Mux chain feac) a d (Err stop)
-    go None e = absurd (let none : made.end ≡ None = subst (λ event. IsEnd event made.end) e is.end in let wrong : Some stop ≡ None = sym ends ∙ none in cc)
-    go (Some event) e =
-        let some : made.end ≡ Some (stop_of_event event) = subst (λ event. IsEnd event made.end) e is.end in
-        let both : Some stop ≡ Some (stop_of_event event) = sym ends ∙ some in
-        let is_stop : stop ≡ stop_of_event event = cc in
-        let writes = ready_writes chain feac a b sizes rows frames leaves made bytes ready is same in
-        subst (λ stop. Performs (Mux chain feac) a d (Err stop)) (sym is_stop) (event_performs chain feac a d event.kind (place_of event)
-        (λ files told. sym (ready_comes chain feac a b sizes rows frames leaves files ready told ∙ ap (λ (o : Option Event). option_map_or (λ event. Err (stop_of_event event)) o (Ok (Muxed chain (frames_in rows)))) e))
-        (whole (Mux chain feac) Line a b c d bytes (mux_output chain feac) writes started appends) (others (Mux chain feac) Line a b d (mux_output chain feac) ready.looks (touches_again line_name b c d starts touches)) (appends.succeeds.counts ∙ started.succeeds.counts ∙ ready.same))
+  count : length reads ≡ leaves_of chain
+  count = ap length are ∙ length-map-range_with_len (λ k. record { file = LeafFile k; bits = bits_needed chain rows k }) 0 (leaves_of chain)
+
+  names_are : map input_name reads ≡ map leaf_name (range_with_len 0 (leaves_of chain))
+  names_are = ap (map input_name) are ∙ map-map input_name (λ k. record { file = LeafFile k; bits = bits_needed chain rows k }) (range_with_len 0 (leaves_of chain))
+
+  -- the files are there, and their names differ
+  pub mux_files : (plan : Plan) (b : ShelfState) (writes : List File) → plan.clock.rows ≡ rows → writes ≡ Line ∷ [] → IsPlanned chain plan b → AreFiles b reads writes
+  mux_files plan b writes rows_are writes_are is = record {
+    has = λ k input here.
+        let at = leaf_of k input here in
+        subst (λ (input : Input). HasBits (input_name input) input.bits b) (sym at.1) (subst (λ rows. HasBits (leaf_name k) (bits_needed chain rows k) b) rows_are (is.leaves_have k at.0));
+    differ = subst (λ all. AllDiffer (all ++ map name_of writes)) (sym names_are) (subst (λ (writes : List File). AllDiffer (map leaf_name (range_with_len 0 (leaves_of chain)) ++ map name_of writes)) (sym writes_are)
+        (last_differs (map leaf_name (range_with_len 0 (leaves_of chain))) line_name
+        (numbered_differ leaf_name (leaves_of chain) (λ x y lx ly e. same_leaf x y (omega (arith, few_leaves chain)) (omega (arith, few_leaves chain)) e))
+        (λ k here. let at = numbered leaf_name 0 (leaves_of chain) k line_name here in leaf_is_not_line (0 + k) (sym at.1))));
+    few = omega (arith, count, ap length writes_are, few_leaves chain);
+  }
+
+  -- they are read in the run, and due there
+  pub mux_reads : (feac : Option ℕ) (a : ShelfState) → GoesOn (Mux chain feac) a → AreRead (Mux chain feac) a reads
+  mux_reads feac a goes_on = record {
+    input = λ k input here. let at = leaf_of k input here in (suc k, omega (arith, at.0), ap input_name at.1);
+    in_run = λ k input here. subst (λ (input : Input). is_read_in_run (Mux chain feac) input.file ≡ true) (sym (leaf_of k input here).1) refl;
+    due = λ k input here. subst (λ (input : Input). OfInputs (Mux chain feac) a (IsReadDue (Mux chain feac) input.file)) (sym (leaf_of k input here).1) goes_on;
+  }
+
+  -- the port is open for `mux`
+  pub mux_port : (feac : Option ℕ) (plan : Plan) (a b : ShelfState) (writes : List File) → plan.clock.rows ≡ rows → writes ≡ Line ∷ [] → Looks a b → b.counts ≡ a.counts → IsPlanned chain plan b → IsMuxPort chain feac rows a (opened_for b reads writes)
+  mux_port feac plan a b writes rows_are writes_are looks same is = record {
+    open_for = open_for (Mux chain feac) a b reads writes looks same goes_on (ap length writes_are) named;
+    rows_are = λ files told. subst (λ rows. rows_of chain (bytes_in files schedule_name) ≡ Ok rows) rows_are (is.rows_are files (told_now chain feac a b files looks told));
+    comes = comes;
+    gives = λ files told k low. told_leaf files k low (leaf_told chain feac b files k low (told_now chain feac a b files looks told));
+  }
+    where
+      comes : OfInputs (Mux chain feac) a (λ files. comes_to (Mux chain feac) files ≡ run_answer chain rows)
+      comes files told = planned_comes chain feac plan b files is (told_now chain feac a b files looks told) ∙ ap (run_answer chain) rows_are
+
+      goes_on : GoesOn (Mux chain feac) a
+      goes_on files told = ap reaches_outputs (comes files told) ∙ reaches chain (event_of chain rows) (frames_in rows)
+
+      named : (k : ℕ) → k < 1 → slice_get (map name_of writes) k ≡ Some line_name
+      named zero low = ap (λ (all : List File). slice_get (map name_of all) 0) writes_are
+      named (suc k) low = absurd (omega arith)
+
+      told_leaf : (files : Files) (k : ℕ) → k < leaves_of chain → b.told (leaf_name k) ≡ Known (files (leaf_name k)) → (inputs_of (opened_for b reads writes)).told k ≡ Some (entering chain rows files k)
+      told_leaf files k low known = go (files (leaf_name k)) refl
+        where
+          go : (held : Option (List ℕ)) → files (leaf_name k) ≡ held → (inputs_of (opened_for b reads writes)).told k ≡ Some (entering chain rows files k)
+          go None e = absurd ((is.leaves_have k low).told None (known ∙ ap Known e))
+          go (Some bytes) e =
+              told_read b reads writes k (leaf_input chain rows k) bytes (leaf_at k low) (known ∙ ap Known e)
+              ∙ ap (λ (held : Option (List ℕ)). Some (take (bits_needed chain rows k) (bits_of (unwrap_or held [])))) (sym e)
+
+  -- it can send the line
+  pub mux_can_send : (plan : Plan) (b : ShelfState) (writes : List File) → plan.clock.rows ≡ rows → IsPlanned chain plan b → CanSend chain rows plan.frames (inputs_of (opened_for b reads writes))
+  mux_can_send plan b writes rows_are is = record {
+    frames_are = is.scheduled.frames_are ∙ ap frames_in rows_are;
+    scheduled = ap (short_node chain) (sym rows_are) ∙ is.scheduled.enough;
+    holds = λ k low. holds_read b reads writes k (leaves_of chain) count low;
+    long = λ k low. omega (arith, left_read b reads writes k (leaf_input chain rows k) (leaf_at k low));
+  }

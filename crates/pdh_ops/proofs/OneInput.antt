@@ -1,5 +1,5 @@
 -- A command that begins with one file, of which the length alone decides whether it is refused.
-use Rattle.std.proofs.Common.{◌≡◌, ℕ, ◌<◌, List, Option, None, Some, Result, Ok, Err, true, length, refl, ap, sym, subst, ◌∙◌, arith}
+use Rattle.std.proofs.Common.{◌≡◌, ℕ, ◌<◌, List, Option, None, Some, Result, Ok, Err, true, false, length, refl, ap, sym, subst, ◌∙◌, arith}
 use Rattle.std.specs.Prelude.{IfErr}
 use Rattle.std.specs.Option.{option_map}
 use Rattle.pdh_edge.specs.Files.{ShelfState, Holds}
@@ -10,7 +10,7 @@ use Rattle.pdh_ops.specs.Answer.{Answer, and_then}
 use Rattle.pdh_ops.specs.Reading.{HasLength, IsSizeStop, IsReadStop}
 use Rattle.pdh_ops.specs.Schedules.{Files}
 use Rattle.pdh_ops.specs.Commands.{AreTold, OfInputs, inputs, comes_to, reaches_outputs, IsReadDue}
-use Rattle.pdh_ops.specs.Run.{Comes, GoesOn}
+use Rattle.pdh_ops.specs.Run.{Comes, GoesOn, is_read_in_run}
 use Rattle.pdh_ops.specs.Refusing.{Refuses}
 use Rattle.pdh_ops.specs.declared.file.File.{File}
 use Rattle.pdh_ops.specs.declared.answer.Stop.{Stop}
@@ -37,7 +37,7 @@ RefusesAll judge bytes stop = (content : List ℕ) → length content ≡ bytes 
 abbrev pub ServesAll : Judge → ℕ → Type 0
 ServesAll judge bytes = (content : List ℕ) → length content ≡ bytes → judge (Some content) ≡ Ok content
 
-file_told : (command : Command) (file : File) (judge : Judge) (next : List ℕ → Answer) (a : ShelfState) (files : Files) → BeginsWith command file judge next → AreTold command a.told files → a.told (name_of file) ≡ Known (files (name_of file))
+pub file_told : (command : Command) (file : File) (judge : Judge) (next : List ℕ → Answer) (a : ShelfState) (files : Files) → BeginsWith command file judge next → AreTold command a.told files → a.told (name_of file) ≡ Known (files (name_of file))
 file_told command file judge next a files begins told = subst (λ name. a.told name ≡ Known (files name)) (sym begins.first) (told 0 begins.some)
 
 -- the file wasn't there, or its size wasn't told
@@ -60,14 +60,14 @@ length_refuses command file judge next a bytes stop begins known all files told 
     sym (begins.comes files ∙ ap (λ h. and_then (judge h) next) held.1 ∙ ap (λ r. and_then r next) (all held.0 held.2))
 
 -- or they aren't, and the command goes on
-comes_on : (command : Command) (file : File) (judge : Judge) (next : List ℕ → Answer) (files : Files) (content : List ℕ) → BeginsWith command file judge next → files (name_of file) ≡ Some content → judge (Some content) ≡ Ok content → comes_to command files ≡ next content
+pub comes_on : (command : Command) (file : File) (judge : Judge) (next : List ℕ → Answer) (files : Files) (content : List ℕ) → BeginsWith command file judge next → files (name_of file) ≡ Some content → judge (Some content) ≡ Ok content → comes_to command files ≡ next content
 comes_on command file judge next files content begins held served =
     begins.comes files ∙ ap (λ h. and_then (judge h) next) held ∙ ap (λ r. and_then r next) served
 
--- then its bytes are read in their turn
-pub reading_refuses : (command : Command) (file : File) (judge : Judge) (next : List ℕ → Answer) (a b : ShelfState) (bytes : ℕ) (stop : Stop) → BeginsWith command file judge next → HasLength (name_of file) bytes a → ServesAll judge bytes → IsReadStop file a b stop → Refuses command a b stop
-reading_refuses command file judge next a b bytes stop begins known all cause =
-    read_refuses command file 0 a b stop begins.some begins.first
+-- then its bytes, where they are read before the run, are read in their turn
+pub reading_refuses : (command : Command) (file : File) (judge : Judge) (next : List ℕ → Answer) (a b : ShelfState) (bytes : ℕ) (stop : Stop) → BeginsWith command file judge next → is_read_in_run command file ≡ false → HasLength (name_of file) bytes a → ServesAll judge bytes → IsReadStop file a b stop → Refuses command a b stop
+reading_refuses command file judge next a b bytes stop begins early known all cause =
+    read_refuses command file 0 a b stop begins.some begins.first early
     (λ files told.
     let held = held_of bytes (files (name_of file)) (known.told (files (name_of file)) (file_told command file judge next a files begins told)) in
     begins.due files (ap reaches_outputs (comes_on command file judge next files held.0 begins held.1 (all held.0 held.2)) ∙ begins.reaches held.0)) cause

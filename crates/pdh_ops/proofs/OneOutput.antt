@@ -1,8 +1,8 @@
 -- How a command with one output leaves the files.
-use Rattle.std.proofs.Common.{◌≡◌, ◌⊎◌, ℕ, zero, suc, ◌<◌, List, [], Some, Ok, Err, refl, ap, sym, subst, ◌∙◌, inl, inr, arith, lit<}
+use Rattle.std.proofs.Common.{◌≡◌, ◌⊎◌, ℕ, zero, suc, ◌<◌, List, [], ◌++◌, take, None, Some, Ok, Err, refl, ap, sym, subst, ◌∙◌, inl, inr, arith, lit<}
 use Rattle.pdh_edge.specs.declared.shelf.Call.TheVariants.{Start as StartCall, Append as AppendCall}
-use Rattle.pdh_edge.specs.Files.{ShelfState, Told, Looks, Touches, Holds, HoldsPrefix, Starts, Appends, FailsToWrite, with_write_fault}
-use Rattle.pdh_edge.specs.Files.Told.{Known}
+use Rattle.pdh_edge.specs.Files.{ShelfState, Told, Looks, Touches, Holds, HoldsPrefix, Starts, Appends, FailsToWrite, Grows, GrowsInPart, with_write_fault, told_empty}
+use Rattle.pdh_edge.specs.Files.Told.{Untold, Known}
 use Rattle.pdh_words.specs.declared.commands.Command.{Command}
 use Rattle.pdh_ops.specs.Names.{name_of}
 use Rattle.pdh_ops.specs.Writing.{IsStartStop, IsAppendStop}
@@ -12,8 +12,34 @@ use Rattle.pdh_ops.specs.Run.{Comes, AreWhole, ChangesOnly, Performs, GoesOn}
 use Rattle.pdh_ops.specs.declared.file.File.{File}
 use Rattle.pdh_ops.specs.declared.answer.Done.{Done}
 use Rattle.pdh_ops.specs.declared.answer.Stop.{Stop}
-use Rattle.pdh_ops.proofs.Touching.{write_fails_since, touches_then}
-use Rattle.pdh_ops.proofs.DemuxFiles.{grows_holds, grows_part_holds}
+use Rattle.pdh_ops.proofs.Touching.{write_fails_since, touches_then, started_holds}
+
+-- ---- one file
+
+-- what a file holds after an append, by what it held
+grows_holds : (old new : Told) (bytes held : List ℕ) → Grows old bytes new → Holds old held → Holds new (held ++ bytes)
+grows_holds Untold new bytes held grows holds now told = absurd (cc)
+grows_holds (Known None) new bytes held grows holds now told = absurd grows
+grows_holds (Known (Some was)) new bytes held grows holds now told =
+    let same : Some was ≡ Some held = holds (Some was) refl in
+    let bytes_same : was ≡ held = cc in
+    let now_is : now ≡ Some (was ++ bytes) = cc in
+    now_is ∙ ap (λ x. Some (x ++ bytes)) bytes_same
+
+-- and after one that failed
+grows_part_holds : (old new : Told) (bytes : List ℕ) → GrowsInPart old bytes new → Holds old [] → HoldsPrefix new bytes
+grows_part_holds Untold new bytes grows holds = (0, λ now told. absurd (cc))
+grows_part_holds (Known None) new bytes grows holds = absurd (let e : None ≡ Some [] = holds None refl in cc)
+grows_part_holds (Known (Some was)) new bytes grows holds =
+    let same : Some was ≡ Some [] = holds (Some was) refl in
+    let empty : was ≡ [] = cc in (
+      grows.0,
+      λ now told.
+          let now_is : now ≡ Some (was ++ take grows.0 bytes) = cc in
+          now_is ∙ ap (λ x. Some (x ++ take grows.0 bytes)) empty,
+    )
+
+-- ---- one output
 
 -- the file is the one output
 pub record HasOutput (command : Command) (file : File) : Type 0 where
@@ -48,7 +74,7 @@ start_refused command file a b c stop output looks same goes_on touches cause = 
     how = inl (record {
       fails = subst (λ name. FailsToWrite StartCall name a c) (sym output.name) (write_fails_since StartCall (name_of file) a b c same cause.1.fails);
       before = λ i lt. absurd (omega arith);
-      here = subst (λ name. (c.told name ≡ a.told name) ⊎ (c.told name ≡ Known (Some []))) (sym output.name)
+      here = subst (λ name. (c.told name ≡ a.told name) ⊎ (c.told name ≡ told_empty c name)) (sym output.name)
           (elim cause.1.told [ inl still ↦ inl (still ∙ ap (λ (t : List ℕ → Told). t (name_of file)) looks.told) | inr empty ↦ inr empty ]);
       later = λ i lt low. absurd (let one = output.count in omega arith);
     });
@@ -69,10 +95,10 @@ append_refused command file a b c d bytes stop output writes starts started appe
         named = sym output.name;
         how = inr (record {
           fails = subst (λ name. FailsToWrite AppendCall name a d) (sym output.name) (write_fails_since AppendCall (name_of file) a c d same cause.1.fails);
-          before = λ i lt. absurd (omega arith);
-          here = λ files told.
-              subst (λ name. HoldsPrefix (d.told name) (output_bytes command files 0)) (sym output.name) (subst (HoldsPrefix (d.told (name_of file))) (writes.content files told) (grows_part_holds _ _ bytes cause.1.told started.told));
-          later = λ i lt low. absurd (let one = output.count in omega arith);
+          begun = λ i low files told.
+              let first : i ≡ 0 = first_output i (subst (λ n. i < n) output.count low) in
+              subst (λ i. HoldsPrefix (d.told ((outputs command).name i)) (output_bytes command files i)) (sym first)
+              (subst (λ name. HoldsPrefix (d.told name) (output_bytes command files 0)) (sym output.name) (subst (HoldsPrefix (d.told (name_of file))) (writes.content files told) (grows_part_holds _ _ bytes cause.1.told (started_holds (name_of file) b c started))));
         });
       };
       others = others command file a b d output writes.looks (touches_again (name_of file) b c d starts appends);
@@ -84,7 +110,7 @@ pub whole : (command : Command) (file : File) (a b c d : ShelfState) (bytes : Li
 whole command file a b c d bytes output writes started appends i low files told =
     let first : i ≡ 0 = first_output i (subst (λ n. i < n) output.count low) in
     subst (λ i. Holds (d.told ((outputs command).name i)) (output_bytes command files i)) (sym first)
-    (subst (λ name. Holds (d.told name) (output_bytes command files 0)) (sym output.name) (subst (Holds (d.told (name_of file))) (writes.content files told) (grows_holds _ _ bytes [] appends.told started.told)))
+    (subst (λ name. Holds (d.told name) (output_bytes command files 0)) (sym output.name) (subst (Holds (d.told (name_of file))) (writes.content files told) (grows_holds _ _ bytes [] appends.told (started_holds (name_of file) b c started))))
 
 pub writing_done : (command : Command) (file : File) (a b c d : ShelfState) (bytes : List ℕ) (done : Done) → HasOutput command file → Writes command a b bytes → Touches (name_of file) b c → Starts (name_of file) b c →
     Touches (name_of file) c d → Appends (name_of file) bytes c d → Comes command a (Ok done) → Performs command a d (Ok done)

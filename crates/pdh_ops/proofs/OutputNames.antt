@@ -1,18 +1,118 @@
 -- The names of files differ.
-use Rattle.std.proofs.Common.{◌≡◌, ◌≢◌, ℕ, ◌+◌, ◌/◌, ◌%◌, ◌<◌, get_or, refl, ap, arith}
-use Rattle.pdh_ops.specs.Names.{output_name, numbered_name}
+use Rattle.std.proofs.Common.{◌≡◌, ◌≢◌, ◌⊎◌, ℕ, zero, suc, ◌+◌, ◌/◌, ◌%◌, ◌<◌, List, [], ◌∷◌, ◌++◌, map, Some, slice_get, get_or, refl, ap, sym, ◌∙◌, inl, inr, arith}
+use Rattle.std.specs.List.{range_with_len}
+use Rattle.std.proofs.lemmas.Option.{none-some, same_Some}
+use Rattle.pdh_blocks.specs.Held.{AllDiffer}
+use Rattle.pdh_ops.specs.Names.{leaf_name, output_name, numbered_name, line_name, bent_name}
 
-tens : (a : ℕ) → get_or (output_name a) 1 0 ≡ 48 + (a + 1) / 10 % 10
-unfolding numbered_name
-tens a = refl
+-- ---- numbers in names
 
-units : (a : ℕ) → get_or (output_name a) 2 0 ≡ 48 + (a + 1) % 10
+leaf_tens : (a : ℕ) → get_or (leaf_name a) 1 0 ≡ 48 + (a + 1) / 10 % 10
 unfolding numbered_name
-units a = refl
+leaf_tens a = refl
+
+leaf_units : (a : ℕ) → get_or (leaf_name a) 2 0 ≡ 48 + (a + 1) % 10
+unfolding numbered_name
+leaf_units a = refl
+
+output_tens : (a : ℕ) → get_or (output_name a) 1 0 ≡ 48 + (a + 1) / 10 % 10
+unfolding numbered_name
+output_tens a = refl
+
+output_units : (a : ℕ) → get_or (output_name a) 2 0 ≡ 48 + (a + 1) % 10
+unfolding numbered_name
+output_units a = refl
 
 -- two digits tell the numbers below 100 apart
-pub output_name-differs : (a b : ℕ) → a < 99 → b < 99 → a ≢ b → output_name a ≢ output_name b
-output_name-differs a b la lb ne e =
-    let high : 48 + (a + 1) / 10 % 10 ≡ 48 + (b + 1) / 10 % 10 = omega (arith, tens a, tens b, ap (λ name. get_or name 1 0) e) in
-    let low : 48 + (a + 1) % 10 ≡ 48 + (b + 1) % 10 = omega (arith, units a, units b, ap (λ name. get_or name 2 0) e) in
-    ne (omega arith)
+same_number : (a b : ℕ) → a < 99 → b < 99 → 48 + (a + 1) / 10 % 10 ≡ 48 + (b + 1) / 10 % 10 → 48 + (a + 1) % 10 ≡ 48 + (b + 1) % 10 → a ≡ b
+same_number a b la lb high low = omega arith
+
+pub same_leaf : (a b : ℕ) → a < 99 → b < 99 → leaf_name a ≡ leaf_name b → a ≡ b
+same_leaf a b la lb e =
+    same_number a b la lb (sym (leaf_tens a) ∙ ap (λ name. get_or name 1 0) e ∙ leaf_tens b) (sym (leaf_units a) ∙ ap (λ name. get_or name 2 0) e ∙ leaf_units b)
+
+pub same_output : (a b : ℕ) → a < 99 → b < 99 → output_name a ≡ output_name b → a ≡ b
+same_output a b la lb e =
+    same_number a b la lb (sym (output_tens a) ∙ ap (λ name. get_or name 1 0) e ∙ output_tens b) (sym (output_units a) ∙ ap (λ name. get_or name 2 0) e ∙ output_units b)
+
+-- ---- letters
+
+leaf_letter : (a : ℕ) → get_or (leaf_name a) 0 0 ≡ 116
+unfolding numbered_name
+leaf_letter a = refl
+
+output_letter : (a : ℕ) → get_or (output_name a) 0 0 ≡ 111
+unfolding numbered_name
+output_letter a = refl
+
+line_letter : get_or line_name 0 0 ≡ 108
+unfolding line_name
+line_letter = refl
+
+bent_letter : get_or bent_name 0 0 ≡ 98
+unfolding bent_name
+bent_letter = refl
+
+pub leaf_is_not_line : (a : ℕ) → leaf_name a ≢ line_name
+leaf_is_not_line a e = omega (arith, leaf_letter a, line_letter, ap (λ name. get_or name 0 0) e)
+
+pub output_is_not_line : (a : ℕ) → output_name a ≢ line_name
+output_is_not_line a e = omega (arith, output_letter a, line_letter, ap (λ name. get_or name 0 0) e)
+
+pub output_is_not_bent : (a : ℕ) → output_name a ≢ bent_name
+output_is_not_bent a e = omega (arith, output_letter a, bent_letter, ap (λ name. get_or name 0 0) e)
+
+pub bent_is_not_line : bent_name ≢ line_name
+bent_is_not_line e = omega (arith, bent_letter, line_letter, ap (λ name. get_or name 0 0) e)
+
+-- ---- lists of names
+
+-- the elements of a list of numbered things
+pub numbered : {X : Type 0} (f : ℕ → X) (a n i : ℕ) (x : X) → slice_get (map f (range_with_len a n)) i ≡ Some x → (i < n) × (x ≡ f (a + i))
+numbered f a zero i x here = absurd (none-some x here)
+numbered f a (suc n) zero x here = let same : a ≡ a + 0 = omega arith in (omega arith, sym (same_Some _ _ here) ∙ ap f same)
+numbered f a (suc n) (suc i) x here =
+    let rest = numbered f (a + 1) n i x here in
+    let same : a + 1 + i ≡ a + suc i = omega arith in
+    (omega (arith, rest.0), rest.1 ∙ ap f same)
+
+pub numbered_at : {X : Type 0} (f : ℕ → X) (a n i j : ℕ) → i < n → a + i ≡ j → slice_get (map f (range_with_len a n)) i ≡ Some (f j)
+numbered_at f a zero i j low same = absurd (omega arith)
+numbered_at f a (suc n) zero j low same = let is : a ≡ j = omega arith in ap (λ k. Some (f k)) is
+numbered_at f a (suc n) (suc i) j low same = numbered_at f (a + 1) n i j (omega arith) (omega arith)
+
+pub none_differ : AllDiffer []
+none_differ i j name here there = absurd (none-some name here)
+
+-- one name before others
+pub one_more_differs : (first : List ℕ) (names : List (List ℕ)) → AllDiffer names → ((k : ℕ) → slice_get names k ≡ Some first → ⊥) → AllDiffer (first ∷ names)
+one_more_differs first names differ new zero zero name here there = refl
+one_more_differs first names differ new zero (suc j) name here there = absurd (new j (there ∙ sym here))
+one_more_differs first names differ new (suc i) zero name here there = absurd (new i (here ∙ sym there))
+one_more_differs first names differ new (suc i) (suc j) name here there = ap suc (differ i j name here there)
+
+-- numbered names
+pub numbered_differ : (f : ℕ → List ℕ) (n : ℕ) → ((a b : ℕ) → a < n → b < n → f a ≡ f b → a ≡ b) → AllDiffer (map f (range_with_len 0 n))
+numbered_differ f n apart i j name here there =
+    let a = numbered f 0 n i name here in
+    let b = numbered f 0 n j name there in
+    let same : i ≡ 0 + i = omega arith in
+    let same' : 0 + j ≡ j = omega arith in
+    apart i j a.0 b.0 (ap f same ∙ sym a.1 ∙ b.1 ∙ ap f same')
+
+in_last : (names : List (List ℕ)) (last : List ℕ) (k : ℕ) (name : List ℕ) → slice_get (names ++ last ∷ []) k ≡ Some name → (slice_get names k ≡ Some name) ⊎ (name ≡ last)
+in_last [] last zero name here = inr (sym (same_Some _ _ here))
+in_last [] last (suc k) name here = absurd (none-some name here)
+in_last (first ∷ names) last zero name here = inl here
+in_last (first ∷ names) last (suc k) name here = in_last names last k name here
+
+-- one name behind others
+pub last_differs : (names : List (List ℕ)) (last : List ℕ) → AllDiffer names → ((k : ℕ) → slice_get names k ≡ Some last → ⊥) → AllDiffer (names ++ last ∷ [])
+last_differs [] last differ new = one_more_differs last [] none_differ (λ k here. none-some last here)
+last_differs (first ∷ names) last differ new =
+    one_more_differs first (names ++ last ∷ [])
+    (last_differs names last (λ i j name here there. let both : suc i ≡ suc j = differ (suc i) (suc j) name here there in omega arith) (λ k here. new (suc k) here))
+    (λ k here. elim (in_last names last k first here) [
+      | inl among ↦ (let wrong : zero ≡ suc k = differ zero (suc k) first refl among in omega arith)
+      | inr is_last ↦ new zero (ap Some is_last)
+    ])

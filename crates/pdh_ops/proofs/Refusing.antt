@@ -1,5 +1,5 @@
 -- A step that refuses ends its command.
-use Rattle.std.proofs.Common.{◌≡◌, ◌⊎◌, ℕ, ◌<◌, List, None, Err, ap, sym, subst, refl, inl, inr}
+use Rattle.std.proofs.Common.{◌≡◌, ◌⊎◌, ℕ, ◌<◌, false, List, None, Err, ap, sym, subst, refl, inl, inr}
 use Rattle.pdh_edge.specs.declared.shelf.Call.TheVariants.{Size as SizeCall, Read as ReadCall}
 use Rattle.pdh_edge.specs.Files.{ShelfState, Told, Looks, WhereTold, FailsToRead}
 use Rattle.pdh_words.specs.declared.commands.Command.{Command}
@@ -8,7 +8,7 @@ use Rattle.pdh_ops.specs.Answer.{Answer}
 use Rattle.pdh_ops.specs.Reading.{IsSizeStop, IsReadStop}
 use Rattle.pdh_ops.specs.Schedules.{Files}
 use Rattle.pdh_ops.specs.Commands.{AreTold, OfInputs, inputs, comes_to, IsOutput, AreHeld, IsReadDue}
-use Rattle.pdh_ops.specs.Run.{Comes, FailsInTurn, with_stop, Performs}
+use Rattle.pdh_ops.specs.Run.{Comes, FailsInTurn, FailsEarly, is_read_in_run, with_stop, Performs}
 use Rattle.pdh_ops.specs.Refusing.{Refuses}
 use Rattle.pdh_ops.specs.declared.file.File.{File}
 use Rattle.pdh_ops.specs.declared.answer.Stop.{Stop}
@@ -34,13 +34,19 @@ fails_in_turn_since command file a b c looks same fails = record {
   ];
 }
 
+fails_early_since : (command : Command) (file : File) (a b c : ShelfState) → b.counts ≡ a.counts → FailsEarly command file b c → FailsEarly command file a c
+fails_early_since command file a b c same early = elim early [
+  | inl size ↦ inl (read_fails_since SizeCall (name_of file) a b c same size)
+  | inr unread ↦ inr unread
+]
+
 -- ---- a step that refuses
 
 -- a refusal, since an earlier state
 pub refuses_since : (command : Command) (a b c : ShelfState) (stop : Stop) → Looks a b → b.counts ≡ a.counts → Refuses command b c stop → Refuses command a c stop
 refuses_since command a b c Memory looks same cause = tt
 refuses_since command a b c Usage looks same cause = absurd cause
-refuses_since command a b c (Read file) looks same cause = fails_in_turn_since command file a b c looks same cause
+refuses_since command a b c (Read file) looks same cause = (fails_in_turn_since command file a b c looks same cause.0, fails_early_since command file a b c same cause.1)
 refuses_since command a b c (Write file) looks same cause = absurd cause
 refuses_since command a b c (Missing file) looks same cause = comes_before command a b _ looks cause
 refuses_since command a b c LongSchedule looks same cause = comes_before command a b _ looks cause
@@ -62,7 +68,7 @@ refuses_since command a b c (PastEnd l) looks same cause = comes_before command 
 pub refuses_performs : (command : Command) (a b : ShelfState) (stop : Stop) → Looks a b → Refuses command a b stop → b.counts ≡ with_stop stop a.counts → Performs command a b (Err stop)
 refuses_performs command a b Memory looks cause counted = record { cause = tt; outputs = looks.told; others = looks_others (IsOutput command) a b looks; counted = counted }
 refuses_performs command a b Usage looks cause counted = absurd cause
-refuses_performs command a b (Read file) looks cause counted = record { cause = cause; outputs = looks.told; others = looks_others (IsOutput command) a b looks; counted = counted }
+refuses_performs command a b (Read file) looks cause counted = record { cause = cause.0; outputs = inl (cause.1, looks.told); others = looks_others (IsOutput command) a b looks; counted = counted }
 refuses_performs command a b (Write file) looks cause counted = absurd cause
 refuses_performs command a b (Missing file) looks cause counted = record { cause = cause; outputs = looks.told; others = looks_others (IsOutput command) a b looks; counted = counted }
 refuses_performs command a b LongSchedule looks cause counted = record { cause = cause; outputs = looks.told; others = looks_others (IsOutput command) a b looks; counted = counted }
@@ -130,12 +136,12 @@ pub size_refuses : (command : Command) (file : File) (k : ℕ) (a b : ShelfState
     → (WhereTold (a.told (name_of file)) (λ held. held ≡ None) → Comes command a (Err (Missing file))) → IsSizeStop file a b stop → Refuses command a b stop
 size_refuses command file k a b stop known named held missing cause = elim (size_stop file a b stop cause) [
   | inl none ↦ subst (Refuses command a b) (sym none.0) (missing none.1)
-  | inr fails ↦ subst (Refuses command a b) (sym fails.0) (record { at = k; known = known; named = named; how = inl (fails.1, held) })
+  | inr fails ↦ subst (Refuses command a b) (sym fails.0) (record { at = k; known = known; named = named; how = inl (fails.1, held) }, inl fails.1)
 ]
 
--- the bytes of input k weren't read, in their turn
-pub read_refuses : (command : Command) (file : File) (k : ℕ) (a b : ShelfState) (stop : Stop) → k < (inputs command).count → name_of file ≡ (inputs command).name k → OfInputs command a (IsReadDue command file) → IsReadStop file a b stop → Refuses command a b stop
-read_refuses command file k a b stop known named due cause = elim (read_stop file a b stop cause) [
+-- the bytes of input k, which are read before the run, weren't read, in their turn
+pub read_refuses : (command : Command) (file : File) (k : ℕ) (a b : ShelfState) (stop : Stop) → k < (inputs command).count → name_of file ≡ (inputs command).name k → is_read_in_run command file ≡ false → OfInputs command a (IsReadDue command file) → IsReadStop file a b stop → Refuses command a b stop
+read_refuses command file k a b stop known named early due cause = elim (read_stop file a b stop cause) [
   | inl none ↦ subst (Refuses command a b) (sym none) tt
-  | inr fails ↦ subst (Refuses command a b) (sym fails.0) (record { at = k; known = known; named = named; how = inr (fails.1, due) })
+  | inr fails ↦ subst (Refuses command a b) (sym fails.0) (record { at = k; known = known; named = named; how = inr (fails.1, due) }, inr early)
 ]

@@ -1,5 +1,5 @@
 -- What the step that reads a schedule finds, and the commands that begin with it.
-use Rattle.std.proofs.Common.{◌≡◌, ℕ, ◌<◌, ◌≤◌, nat_lt, List, [], Option, None, Some, Ok, Err, true, length, refl, ap, sym, ◌∙◌, subst, inl, inr, arith}
+use Rattle.std.proofs.Common.{◌≡◌, ℕ, ◌<◌, ◌≤◌, nat_lt, List, [], Option, None, Some, Ok, Err, true, false, length, refl, ap, sym, ◌∙◌, subst, inl, inr, arith}
 use Rattle.std.specs.Option.{option_map}
 use Rattle.std.specs.Prelude.{unwrap_or, Result}
 use Rattle.std.proofs.lemmas.Bool.Decides.{nat_tests}
@@ -16,7 +16,7 @@ use Rattle.pdh_ops.specs.Answer.{Answer, and_then}
 use Rattle.pdh_ops.specs.Reading.{HasLength, IsReadStop}
 use Rattle.pdh_ops.specs.Schedules.{Files, rows_of, rows_or_stop, stop_of_fault}
 use Rattle.pdh_ops.specs.Commands.{AreTold, OfInputs, inputs, comes_to, AreHeld}
-use Rattle.pdh_ops.specs.Run.{Comes, FailsInTurn}
+use Rattle.pdh_ops.specs.Run.{Comes, FailsInTurn, FailsEarly, is_read_in_run}
 use Rattle.pdh_ops.proofs.Refusing.{read_stop}
 use Rattle.pdh_ops.specs.Refusing.{Refuses}
 use Rattle.pdh_ops.specs.ScheduleSteps.{RowsAre, IsScheduleStop}
@@ -81,6 +81,7 @@ pub record HasSchedule (command : Command) (k : ℕ) (a : ShelfState) : Type 0 w
   pub known : k < (inputs command).count
   pub named : (inputs command).name k ≡ schedule_name
   pub held : OfInputs command a (AreHeld command (inputs command).count)
+  pub early : is_read_in_run command Schedule ≡ false
 
 -- a call for its text failed in its turn
 text_fails : (command : Command) (k : ℕ) (a b : ShelfState) → HasSchedule command k a → FailsToRead ReadCall schedule_name a b → WhereTold (a.told schedule_name) (λ held. length (unwrap_or held []) ≤ most_bytes) → FailsInTurn command Schedule a b
@@ -104,7 +105,8 @@ comes chain command next a stop begins are files told =
 
 pub schedule_refuses : (chain : Chain) (command : Command) (next : Files → List Row → Answer) (k : ℕ) (a b : ShelfState) (stop : Stop) → Begins chain command next a → HasSchedule command k a → IsScheduleStop chain a b stop → Refuses command a b stop
 schedule_refuses chain command next k a b Memory begins has cause = tt
-schedule_refuses chain command next k a b (Read file) begins has cause = subst (λ f. FailsInTurn command f a b) (sym cause.0) (text_fails command k a b has cause.1 cause.2)
+schedule_refuses chain command next k a b (Read file) begins has cause =
+    subst (λ f. FailsInTurn command f a b × FailsEarly command f a b) (sym cause.0) (text_fails command k a b has cause.1 cause.2, inr has.early)
 schedule_refuses chain command next k a b LongSchedule begins has cause = comes chain command next a LongSchedule begins cause
 schedule_refuses chain command next k a b (BadRow l) begins has cause = comes chain command next a (BadRow l) begins cause
 schedule_refuses chain command next k a b (UnknownNode l) begins has cause = comes chain command next a (UnknownNode l) begins cause

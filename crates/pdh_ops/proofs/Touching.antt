@@ -1,8 +1,9 @@
 -- Calls that follow each other.
-use Rattle.std.proofs.Common.{◌≡◌, ℕ, List, Some, true, refl, ap, sym, subst, ◌∙◌, inl, inr}
+use Rattle.std.proofs.Common.{◌≡◌, ℕ, Bool, true, false, cond, List, [], Some, refl, ap, sym, subst, ◌∙◌, inl, inr}
 use Rattle.pdh_edge.specs.declared.shelf.Call.{Call}
 use Rattle.pdh_edge.specs.declared.shelf.Call.TheVariants.{Start as StartCall}
-use Rattle.pdh_edge.specs.Files.{ShelfState, Counts, Told, Looks, HasSize, TouchesOnly, Touches, FailsToRead, FailsToWrite, with_read_fault, with_write_fault}
+use Rattle.pdh_edge.specs.Files.{ShelfState, Counts, Told, Holds, Starts, Looks, HasSize, TouchesOnly, Touches, FailsToRead, FailsToWrite, with_read_fault, with_write_fault}
+use Rattle.pdh_edge.specs.Files.Told.{Untold, Known}
 use Rattle.pdh_words.specs.declared.commands.Command.{Command}
 use Rattle.pdh_ops.specs.Commands.{outputs}
 use Rattle.pdh_ops.specs.Run.{with_stop, StopsAtStart}
@@ -14,6 +15,7 @@ touches_none P a = record {
   told = λ name out. refl;
   readable = λ name at len out was. was;
   tells_name = refl;
+  tells_started = refl;
 }
 
 pub touches_then : (P : List ℕ → Type 0) (name : List ℕ) (a b c : ShelfState) → P name → TouchesOnly P a b → Touches name b c → TouchesOnly P a c
@@ -21,6 +23,7 @@ touches_then P name a b c may first then_ = record {
   told = λ other out. then_.told other (λ e. out (subst P (sym e) may)) ∙ first.told other out;
   readable = λ other at len out was. then_.readable other at len (λ e. out (subst P (sym e) may)) (first.readable other at len out was);
   tells_name = then_.tells_name ∙ first.tells_name;
+  tells_started = then_.tells_started ∙ first.tells_started;
 }
 
 -- a failure to write, since an earlier state with the same counts
@@ -66,7 +69,16 @@ looks_then a b c first then_ = record {
   told = then_.told ∙ first.told;
   readable = λ name at len any was. then_.readable name at len any (first.readable name at len any was);
   tells_name = then_.tells_name ∙ first.tells_name;
+  tells_started = then_.tells_started ∙ first.tells_started;
 }
 
 pub looks_none : (a : ShelfState) → Looks a a
-looks_none a = record { told = refl; readable = λ name at len any was. was; tells_name = refl }
+looks_none a = record { told = refl; readable = λ name at len any was. was; tells_name = refl; tells_started = refl }
+
+-- a file that was made empty holds nothing, where it is told
+told_empty_holds : (tells : Bool) (told : Told) → told ≡ cond tells (Known (Some [])) Untold → Holds told []
+told_empty_holds true told is held known = let same : Known held ≡ Known (Some []) = sym known ∙ is in cc
+told_empty_holds false told is held known = absurd (let no : Known held ≡ Untold = sym known ∙ is in cc)
+
+pub started_holds : (name : List ℕ) (a b : ShelfState) → Starts name a b → Holds (b.told name) []
+started_holds name a b starts = told_empty_holds (b.tells_started name) (b.told name) starts.told

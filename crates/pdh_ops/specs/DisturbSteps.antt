@@ -1,19 +1,22 @@
 -- The steps of `disturb`: what each finds or makes.
-use Rattle.std.specs.Prelude.{◌≡◌, ℕ, ◌/◌, ◌≤◌, List, length, Some, Result, Ok}
+use Rattle.std.specs.Prelude.{◌≡◌, ℕ, ◌*◌, ◌/◌, ◌≤◌, List, Some, Result, Ok}
+use Rattle.pdh_bits.specs.Bits.{bits_of}
 use Rattle.pdh_edge.specs.Files.{ShelfState}
 use Rattle.pdh_edge.specs.Files.Told.{Known}
+use Rattle.pdh_blocks.specs.State.{PortState}
+use Rattle.pdh_blocks.specs.Lists.{inputs_of}
 use Rattle.pdh_chain.specs.declared.chain.Chain.{Chain}
 use Rattle.pdh_chain.specs.Chains.{frame_bytes_of}
-use Rattle.pdh_script.specs.Scripts.{Row}
+use Rattle.pdh_script.specs.Scripts.{Row, FitIn}
 use Rattle.pdh_words.specs.declared.commands.Command.TheVariants.{Disturb}
 use Rattle.pdh_ops.specs.Names.{line_name, script_name}
 use Rattle.pdh_ops.specs.Reading.{HasLength}
-use Rattle.pdh_ops.specs.Disturb.{script_rows, bent_bits, bent_bytes}
-use Rattle.pdh_ops.specs.Commands.{OfInputs, output_bytes}
-use Rattle.pdh_ops.specs.Run.{Comes}
+use Rattle.pdh_ops.specs.Schedules.{bytes_in}
+use Rattle.pdh_ops.specs.Disturb.{script_rows, script_in, bent}
+use Rattle.pdh_ops.specs.Commands.{OfInputs, comes_to}
+use Rattle.pdh_ops.specs.PortFiles.{IsOpenFor}
 use Rattle.pdh_ops.specs.declared.disturb.Sizes.{Sizes}
-use Rattle.pdh_ops.specs.declared.disturb.BentLine.{BentLine}
-use Rattle.pdh_ops.specs.declared.answer.Done.TheVariants.{Disturbed}
+use Rattle.pdh_ops.specs.declared.disturb.Plan.{Plan}
 use Rattle.pdh_ops.specs.declared.answer.Stop.{Stop}
 use Rattle.pdh_shape.specs.OwnNumbers.{most_frames}
 
@@ -27,12 +30,17 @@ pub record HasSizes (chain : Chain) (sizes : Sizes) (state : ShelfState) : Type 
 abbrev pub ScriptIs : ℕ → ShelfState → Result (List Row) Stop → Type 0
 ScriptIs bytes state rows = (text : List ℕ) → state.told script_name ≡ Known (Some text) → script_rows bytes text ≡ rows
 
--- what comes of a line: the whole bytes, and how many bits there are
-pub record IsBent (line : List ℕ) (rows : List Row) (made : BentLine) : Type 0 where
-  pub bytes_are : made.bytes.items ≡ bent_bytes line rows
-  pub bits_are : made.bits ≡ length (bent_bits line rows)
+-- What a line is disturbed by, where no step refuses the inputs: the rows of the script, which fit the bits of the line.
+pub record IsBendPlan (chain : Chain) (plan : Plan) (state : ShelfState) : Type 0 where
+  pub sizes : Sizes
+  pub has : HasSizes chain sizes state
+  pub bits_are : plan.bits ≡ 8 * sizes.line
+  pub script_is : ScriptIs sizes.line state (Ok plan.script)
+  pub fit : FitIn plan.bits plan.script
 
--- no step before the output refuses the inputs, and these are the output's bytes and the number that is told
-pub record IsOutcome (chain : Chain) (state : ShelfState) (made : BentLine) : Type 0 where
-  pub comes : Comes (Disturb chain) state (Ok (Disturbed chain made.bits))
-  pub content : OfInputs (Disturb chain) state (λ files. made.bytes.items ≡ output_bytes (Disturb chain) files 0)
+-- a port is open for `disturb` with these rows: its list 0 gives all bits of the line, of which this becomes
+pub record IsBendPort (chain : Chain) (rows : List Row) (old : ShelfState) (port : PortState) : Type 0 where
+  pub open_for : IsOpenFor (Disturb chain) old port
+  pub comes : OfInputs (Disturb chain) old (λ files. comes_to (Disturb chain) files ≡ bent chain (bytes_in files line_name) rows)
+  pub rows_are : OfInputs (Disturb chain) old (λ files. script_in files ≡ rows)
+  pub gives : OfInputs (Disturb chain) old (λ files. (inputs_of port).told 0 ≡ Some (bits_of (bytes_in files line_name)))

@@ -1,7 +1,21 @@
--- The steps of `e1unpack`: what each makes.
-use Rattle.std.specs.Prelude.{◌≡◌, ℕ, List}
+-- The steps of `e1unpack` and of `inspect e1`: what each finds or makes.
+use Rattle.std.specs.Prelude.{◌≡◌, ℕ, ◌*◌, ◌/◌, ◌≤◌, List}
+use Rattle.pdh_edge.specs.Files.{ShelfState}
+use Rattle.pdh_ops.specs.Names.{e1_name}
+use Rattle.pdh_ops.specs.Reading.{HasLength}
+use Rattle.pdh_ops.specs.declared.file.File.TheVariants.{E1Line}
+use Rattle.pdh_ops.specs.declared.port.Input.{Input}
+use Rattle.pdh_shape.specs.OwnNumbers.{most_frames}
 use Rattle.pdh_ops.specs.E1.{unpacked_payload, counts_of}
 use Rattle.pdh_ops.specs.declared.e1.Unpacked.{Unpacked}
+
+-- these are all bits of the framed line, which has no more frames than a line may have
+pub record IsFramedLine (line : Input) (state : ShelfState) : Type 0 where
+  pub file_is : line.file ≡ E1Line
+  pub octets : ℕ
+  pub bits_are : line.bits ≡ 8 * octets
+  pub long : HasLength e1_name octets state
+  pub few : octets / 32 ≤ most_frames
 
 -- what a line gives: the whole octets of its payload, and what was found in it
 pub record IsUnpacked (line : List ℕ) (unpacked : Unpacked) : Type 0 where

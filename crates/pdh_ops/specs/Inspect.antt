@@ -1,7 +1,6 @@
 -- What `inspect` and `show` come to.
-use Rattle.std.specs.Prelude.{ℕ, suc, ◌*◌, nat_lt, List, Option, Result, Ok, Err, length, if◌then◌else◌}
-use Rattle.std.specs.List.{slice_range}
-use Rattle.pdh_bits.specs.Bits.{bits_of}
+use Rattle.std.specs.Prelude.{ℕ, suc, ◌*◌, nat_lt, Bool, List, Option, Result, Ok, Err, length, take, drop, if◌then◌else◌}
+use Rattle.pdh_bits.specs.Bits.{bits_of, bytes_of}
 use Rattle.pdh_chain.specs.Chains.{frame_bytes_of}
 use Rattle.pdh_chain.specs.declared.chain.Chain.{Chain}
 use Rattle.pdh_g706.specs.Tracking.{multiframes_in, counted}
@@ -38,10 +37,10 @@ long_enough chain n line = (if nat_lt (length line) (bytes_upto chain n) then Er
 abbrev pub line_to_show : Chain → ℕ → Option (List ℕ) → Result (List ℕ) Stop
 line_to_show chain n held = and_then (line_of Line chain held) (long_enough chain n)
 
--- the bytes of frame n, whatever the alignment
-abbrev pub frame_at : Chain → ℕ → List ℕ → List ℕ
-frame_at chain n line = slice_range line (n * frame_bytes_of chain) (bytes_upto chain n)
+-- the bits of frame n, whatever the alignment: those of the line up to its end, without those before it
+abbrev pub frame_at : Chain → ℕ → List ℕ → List Bool
+frame_at chain n line = drop (n * (8 * frame_bytes_of chain)) (take (8 * bytes_upto chain n) (bits_of line))
 
 -- the text of that frame
 unfoldable pub frame_shown : Chain → ℕ → List ℕ → Answer
-frame_shown chain n line = Ok (Shown (shown chain n (frame_at chain n line)))
+frame_shown chain n line = Ok (Shown (shown chain n (bytes_of (frame_at chain n line))))

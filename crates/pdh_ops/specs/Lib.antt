@@ -23,3 +23,5 @@ pub mod GivesBack
 pub mod Packs
 pub mod Tolerated
 pub mod InTime
+pub mod PortFiles
+pub mod ShowSteps

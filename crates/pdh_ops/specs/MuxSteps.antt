@@ -1,30 +1,31 @@
 -- The steps of `mux`: what each finds, and why it stops.
-use Rattle.std.specs.Prelude.{◌≡◌, ℕ, ◌*◌, ◌<◌, ◌≤◌, List, Bool, Option, Some, None, Ok, if◌then◌else◌, IsTrue, length, slice_index, slice_index_or}
-use Rattle.std.specs.Option.{option_map}
-use Rattle.pdh_bits.specs.BitOut.{BoundedBits}
-use Rattle.pdh_bits.specs.Bits.{bytes_of}
+use Rattle.std.specs.Prelude.{◌≡◌, ℕ, ◌*◌, ◌<◌, ◌≤◌, List, Bool, Option, Some, None, Ok, Err, IsTrue, All, map, take, slice_index}
+use Rattle.std.specs.List.{range_with_len}
+use Rattle.std.specs.Option.{option_map, option_map_or}
 use Rattle.pdh_edge.specs.Files.{ShelfState}
-use Rattle.pdh_edge.specs.Ports.{Inputs, Outputs}
+use Rattle.pdh_edge.specs.Ports.{Inputs}
+use Rattle.pdh_blocks.specs.State.{PortState}
+use Rattle.pdh_blocks.specs.Lists.{inputs_of}
 use Rattle.pdh_shape.specs.declared.place.Path.{Path}
-use Rattle.pdh_shape.specs.declared.place.Place.{Place}
-use Rattle.pdh_chain.specs.Chains.{shapes_of, leaves_of}
+use Rattle.pdh_chain.specs.Chains.{leaves_of, levels_of}
 use Rattle.pdh_chain.specs.declared.chain.Chain.{Chain}
-use Rattle.pdh_line.specs.Events.{Event}
-use Rattle.pdh_chain.specs.Saying.{says_of}
-use Rattle.pdh_chain.specs.Muxes.{frames_of_line, Muxes, StopsAtEvent}
 use Rattle.pdh_clock.specs.Row.{Row}
-use Rattle.pdh_clock.specs.Contents.{counts, frame_count}
+use Rattle.pdh_clock.specs.Contents.{IsRowOf}
 use Rattle.pdh_ops.specs.Names.{schedule_name, leaf_name}
+use Rattle.pdh_ops.specs.Answer.{Answer}
 use Rattle.pdh_ops.specs.Reading.{HasLength}
-use Rattle.pdh_ops.specs.Schedules.{bytes_in, rows_of, frames_in}
-use Rattle.pdh_ops.specs.Mux.{mux_inputs, all_held, leaf_bits, short_node, stop_of_shortage, bits_needed, event_of, frames_made, stop_of_event}
-use Rattle.pdh_ops.specs.Commands.{OfInputs}
+use Rattle.pdh_ops.specs.Schedules.{Files, bytes_in, rows_of, frames_in}
+use Rattle.pdh_ops.specs.Mux.{mux_inputs, all_held, leaf_bits, short_node, stop_of_shortage, bits_needed, event_of, stop_of_event}
+use Rattle.pdh_ops.specs.Commands.{OfInputs, comes_to}
+use Rattle.pdh_ops.specs.PortFiles.{HasBits, IsOpenFor}
 use Rattle.pdh_words.specs.declared.commands.Command.TheVariants.{Mux}
 use Rattle.pdh_ops.specs.declared.file.File.TheVariants.{Leaf}
 use Rattle.pdh_ops.specs.declared.mux.InputSizes.{InputSizes}
-use Rattle.pdh_ops.specs.declared.mux.Made.{Made}
+use Rattle.pdh_ops.specs.declared.mux.Plan.{Plan}
+use Rattle.pdh_ops.specs.declared.port.Input.{Input}
+use Rattle.pdh_ops.specs.declared.answer.Done.TheVariants.{Muxed}
 use Rattle.pdh_ops.specs.declared.answer.Stop.{Stop}
-use Rattle.pdh_ops.specs.declared.answer.Stop.TheVariants.{ShortNode, Short, Overflow, Underflow, ManyFrames}
+use Rattle.pdh_ops.specs.declared.answer.Stop.TheVariants.{ShortNode, Short, ManyFrames}
 use Rattle.pdh_shape.specs.OwnNumbers.{most_frames}
 
 -- the sizes of the inputs
@@ -73,12 +74,6 @@ IsEnoughStop chain rows sizes (ShortNode node have need) = IsShortNode chain row
 IsEnoughStop chain rows sizes (Short (Leaf k) have need) = IsShort chain rows sizes k have need
 IsEnoughStop chain rows sizes _ = ⊥
 
--- the leaves' bits
-pub record AreLeaves (chain : Chain) (sizes : InputSizes) (state : ShelfState) (leaves : List BoundedBits) : Type 0 where
-  pub count : length leaves ≡ leaves_of chain
-  pub len : (k : ℕ) (d : BoundedBits) → k < leaves_of chain → length (slice_index_or leaves k d).bits ≡ 8 * slice_index sizes.leaves k
-  pub bits : (k : ℕ) (d : BoundedBits) → k < leaves_of chain → OfInputs (Mux chain None) state (λ files. (slice_index_or leaves k d).bits ≡ leaf_bits files k)
-
 -- A port can send so many frames of the line: they are those of the schedule, each node has those that it begins, and each
 -- leaf's list has as many bits as must enter.
 pub record CanSend (chain : Chain) (rows : List Row) (frames : ℕ) (inputs : Inputs) : Type 0 where
@@ -87,22 +82,40 @@ pub record CanSend (chain : Chain) (rows : List Row) (frames : ℕ) (inputs : In
   pub holds : (k : ℕ) → k < leaves_of chain → IsTrue (inputs.holds k)
   pub long : (k : ℕ) → k < leaves_of chain → bits_needed chain rows k ≤ inputs.left k
 
--- so many frames of the line were put; or the first event ends the command so, and the whole frames before it were put
-abbrev pub IsSent : Chain → Option ℕ → List Row → ℕ → Inputs → Inputs → Outputs → Outputs → Option Stop → Type 0
-IsSent chain feac rows frames inputs inputs_now outputs outputs_now None = Muxes (shapes_of chain) (counts rows) (says_of feac) (frame_count rows) frames inputs inputs_now outputs outputs_now
-IsSent chain feac rows frames inputs inputs_now outputs outputs_now (Some stop) =
-    (over : Bool) × (place : Place) × (stop ≡ (if over then Overflow place else Underflow place)) × StopsAtEvent (shapes_of chain) (counts rows) (says_of feac) (frame_count rows) frames over place inputs inputs_now outputs outputs_now
+-- ---- the port
 
--- how an event ends the command, if there is one
-abbrev pub IsEnd : Option Event → Option Stop → Type 0
-IsEnd None end = end ≡ None
-IsEnd (Some event) end = end ≡ Some (stop_of_event event)
+-- each leaf gives the bits that enter
+abbrev pub AreLeafInputs : Chain → List Row → List Input → Type 0
+AreLeafInputs chain rows reads = reads ≡ map (λ k. record { file = Leaf k; bits = bits_needed chain rows k }) (range_with_len 0 (leaves_of chain))
 
--- these are the leaves' bits
-abbrev pub AreBits : Chain → List BoundedBits → (ℕ → List Bool) → Type 0
-AreBits chain leaves lists = (k : ℕ) (d : BoundedBits) → k < leaves_of chain → lists k ≡ (slice_index_or leaves k d).bits
+-- A plan has a schedule of the chain, and as many frames as it has: no more than a line may have, and each node has those that
+-- it begins.
+pub record IsScheduled (chain : Chain) (plan : Plan) : Type 0 where
+  pub levels_are : plan.clock.levels ≡ levels_of chain
+  pub sound : All (IsRowOf (levels_of chain)) plan.clock.rows
+  pub frames_are : plan.frames ≡ frames_in plan.clock.rows
+  pub few : plan.frames ≤ most_frames
+  pub enough : short_node chain plan.clock.rows ≡ None
 
--- the line's bytes up to the first event, and how that ends the command
-pub record IsMade (chain : Chain) (feac : Option ℕ) (rows : List Row) (leaves : List BoundedBits) (made : Made) : Type 0 where
-  pub bytes : (lists : ℕ → List Bool) → AreBits chain leaves lists → made.bytes.items ≡ bytes_of (frames_of_line (shapes_of chain) (counts rows) (says_of feac) lists (frames_made chain rows))
-  pub end : IsEnd (event_of chain rows) made.end
+-- What the line is made by, where no step refuses the inputs: the schedule's rows, for which each leaf's file has the bits that
+-- enter.
+pub record IsPlanned (chain : Chain) (plan : Plan) (state : ShelfState) : Type 0 where
+  pub scheduled : IsScheduled chain plan
+  pub held : AllHeld chain state
+  pub rows_are : HasRows chain state plan.clock.rows
+  pub leaves_have : (k : ℕ) → k < leaves_of chain → HasBits (leaf_name k) (bits_needed chain plan.clock.rows k) state
+
+-- what a line that nothing refuses before its run comes to: its first event, or all its frames
+abbrev pub run_answer : Chain → List Row → Answer
+run_answer chain rows = option_map_or (λ event. Err (stop_of_event event)) (event_of chain rows) (Ok (Muxed chain (frames_in rows)))
+
+-- the bits of leaf k's file that enter
+abbrev pub entering : Chain → List Row → Files → ℕ → List Bool
+entering chain rows files k = take (bits_needed chain rows k) (leaf_bits files k)
+
+-- a port is open for `mux` with these rows: its lists give the bits that enter
+pub record IsMuxPort (chain : Chain) (feac : Option ℕ) (rows : List Row) (old : ShelfState) (port : PortState) : Type 0 where
+  pub open_for : IsOpenFor (Mux chain feac) old port
+  pub rows_are : HasRows chain old rows
+  pub comes : OfInputs (Mux chain feac) old (λ files. comes_to (Mux chain feac) files ≡ run_answer chain rows)
+  pub gives : OfInputs (Mux chain feac) old (λ files. (k : ℕ) → k < leaves_of chain → (inputs_of port).told k ≡ Some (entering chain rows files k))

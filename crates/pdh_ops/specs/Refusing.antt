@@ -3,15 +3,15 @@ use Rattle.std.specs.Prelude.{⊤, Err}
 use Rattle.pdh_edge.specs.Files.{ShelfState}
 use Rattle.pdh_words.specs.declared.commands.Command.{Command}
 use Rattle.pdh_words.specs.declared.commands.Command.TheVariants.{InspectE1, E1Unpack}
-use Rattle.pdh_ops.specs.Run.{Comes, FailsInTurn}
+use Rattle.pdh_ops.specs.Run.{Comes, FailsInTurn, FailsEarly}
 use Rattle.pdh_ops.specs.declared.answer.Stop.{Stop}
 use Rattle.pdh_ops.specs.declared.answer.Stop.TheVariants.{Memory, Usage, Read, Write, Overflow, Underflow, NoAlignment}
 
--- memory is wanting, a call failed to read in its turn, or the inputs come to this stop
+-- memory is wanting, a call failed to read in its turn and before the run, or the inputs come to this stop
 abbrev pub Refuses : Command → ShelfState → ShelfState → Stop → Type 0
 Refuses command old new Memory = ⊤
 Refuses command old new Usage = ⊥
-Refuses command old new (Read file) = FailsInTurn command file old new
+Refuses command old new (Read file) = FailsInTurn command file old new × FailsEarly command file old new
 Refuses command old new (Write file) = ⊥
 Refuses command old new (Overflow place) = ⊥
 Refuses command old new (Underflow place) = ⊥

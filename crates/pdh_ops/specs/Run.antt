@@ -1,10 +1,13 @@
 -- What a run does, whatever its command.
-use Rattle.std.specs.Prelude.{◌≡◌, ◌⊎◌, ℕ, ◌<◌, List, [], ⊤, true, Option, Some, None, Result, Ok, Err}
-use Rattle.pdh_edge.specs.Files.{ShelfState, Counts, with_read_fault, with_write_fault, with_miss, SinkState, Rose, FailsToRead, FailsToWrite, Holds, HoldsPrefix}
-use Rattle.pdh_edge.specs.Files.Told.{Known}
+use Rattle.std.specs.Prelude.{◌≡◌, ◌⊎◌, ℕ, ◌<◌, List, [], take, ⊤, Bool, true, false, Option, Some, None, Result, Ok, Err}
+use Rattle.pdh_bits.specs.Bits.{bits_of}
+use Rattle.pdh_edge.specs.Files.{ShelfState, Counts, with_read_fault, with_write_fault, with_miss, SinkState, Rose, FailsToRead, FailsToWrite, Holds, HoldsPrefix, told_empty}
 use Rattle.pdh_edge.specs.declared.shelf.Call.TheVariants.{Size as SizeCall, Read as ReadCall, Start as StartCall, Append as AppendCall}
 use Rattle.pdh_watch.specs.declared.event.Event.{Event}
 use Rattle.pdh_watch.specs.Monitors.{State, SawEach}
+use Rattle.pdh_events.specs.Chain.{chain_events}
+use Rattle.pdh_chain.specs.Chains.{shapes_of}
+use Rattle.pdh_g706.specs.Events.{e1_events}
 use Rattle.pdh_inspect.specs.Seen.{line_events, framed_events}
 use Rattle.pdh_ops.specs.Names.{name_of, line_file, e1_name}
 use Rattle.pdh_ops.specs.Schedules.{Files, bytes_in}
@@ -12,8 +15,9 @@ use Rattle.pdh_ops.specs.Answer.{Answer}
 use Rattle.pdh_ops.specs.Lines.{IsTold}
 use Rattle.pdh_ops.specs.Commands.{inputs, outputs, output_bytes, comes_to, AreTold, OfInputs, IsOutput, reaches_outputs, AreHeld, IsReadDue}
 use Rattle.pdh_words.specs.declared.commands.Command.{Command}
-use Rattle.pdh_words.specs.declared.commands.Command.TheVariants.{Inspect, InspectE1}
+use Rattle.pdh_words.specs.declared.commands.Command.TheVariants.{Demux, Mux, Inspect, InspectE1, Show, Disturb}
 use Rattle.pdh_ops.specs.declared.file.File.{File}
+use Rattle.pdh_ops.specs.declared.file.File.TheVariants.{Line, Leaf}
 use Rattle.pdh_ops.specs.declared.answer.Stop.{Stop}
 use Rattle.pdh_ops.specs.declared.answer.Stop.TheVariants.{Memory, Usage, Read, Write, Missing, Overflow, Underflow, NoAlignment}
 
@@ -87,19 +91,21 @@ IsSame command old new i = new.told ((outputs command).name i) ≡ old.told ((ou
 abbrev pub AreWhole : Command → ShelfState → ShelfState → Type 0
 AreWhole command old new = (i : ℕ) → i < (outputs command).count → IsWhole command old new i
 
+-- each output was started, and has a prefix of its bytes
+abbrev pub AreBegun : Command → ShelfState → ShelfState → Type 0
+AreBegun command old new = (i : ℕ) → i < (outputs command).count → IsBegun command old new i
+
 -- the start of output k failed: those before it are empty, it is as before or empty, and the later ones are as before
 pub record StopsAtStart (command : Command) (k : ℕ) (old new : ShelfState) : Type 0 where
   pub fails : FailsToWrite StartCall ((outputs command).name k) old new
   pub before : (i : ℕ) → i < k → IsEmpty command new i
-  pub here : IsSame command old new k ⊎ (new.told ((outputs command).name k) ≡ Known (Some []))
+  pub here : IsSame command old new k ⊎ (new.told ((outputs command).name k) ≡ told_empty new ((outputs command).name k))
   pub later : (i : ℕ) → k < i → i < (outputs command).count → IsSame command old new i
 
--- an append to output k failed: those before it are whole, it has a prefix of its bytes, and the later ones are empty
+-- an append to output k failed: each output was started, and has a prefix of its bytes
 pub record StopsAtAppend (command : Command) (k : ℕ) (old new : ShelfState) : Type 0 where
   pub fails : FailsToWrite AppendCall ((outputs command).name k) old new
-  pub before : (i : ℕ) → i < k → IsWhole command old new i
-  pub here : IsBegun command old new k
-  pub later : (i : ℕ) → k < i → i < (outputs command).count → IsEmpty command new i
+  pub begun : AreBegun command old new
 
 -- a call failed to write to a file, which is an output of the command
 pub record AreCut (command : Command) (file : File) (old new : ShelfState) : Type 0 where
@@ -108,14 +114,39 @@ pub record AreCut (command : Command) (file : File) (old new : ShelfState) : Typ
   pub named : name_of file ≡ (outputs command).name at
   pub how : StopsAtStart command at old new ⊎ StopsAtAppend command at old new
 
+-- the bytes of a file are read in the run, behind the start of the outputs
+abbrev pub is_read_in_run : Command → File → Bool
+is_read_in_run (Demux chain bits) file = true
+is_read_in_run (Mux chain feac) (Leaf leaf) = true
+is_read_in_run (Inspect chain bits) file = true
+is_read_in_run InspectE1 file = true
+is_read_in_run (Show chain frame) file = true
+is_read_in_run (Disturb chain) Line = true
+is_read_in_run command file = false
+
+-- a call for a file failed before the run: one for its size, or one for bytes that are read before the outputs are started
+abbrev pub FailsEarly : Command → File → ShelfState → ShelfState → Type 0
+FailsEarly command file old new = FailsToRead SizeCall (name_of file) old new ⊎ (is_read_in_run command file ≡ false)
+
+-- a call for the bytes of a file failed in the run
+pub record FailsLate (command : Command) (file : File) (old new : ShelfState) : Type 0 where
+  pub in_run : is_read_in_run command file ≡ true
+  pub fails : FailsToRead ReadCall (name_of file) old new
+
+-- How a call that failed to read leaves the files: before the run as they were; in it each output is started, and has a prefix
+-- of its bytes.
+abbrev pub AreLeftUnread : Command → File → ShelfState → ShelfState → Type 0
+AreLeftUnread command file old new = (FailsEarly command file old new × (new.told ≡ old.told)) ⊎ (FailsLate command file old new × AreBegun command old new)
+
 -- How an answer leaves the files. What was done, an event of a store and a line without an alignment leave whole outputs; a
--- call that failed to write leaves them cut; every other stop, a call that failed to read among them, leaves the files as
--- they were.
+-- call that failed to write leaves them cut, and so does one that failed to read in the run; every other stop leaves the files
+-- as they were.
 abbrev pub AreLeft : Command → ShelfState → ShelfState → Answer → Type 0
 AreLeft command old new (Ok done) = AreWhole command old new
 AreLeft command old new (Err (Overflow place)) = AreWhole command old new
 AreLeft command old new (Err (Underflow place)) = AreWhole command old new
 AreLeft command old new (Err (NoAlignment bits)) = AreWhole command old new
+AreLeft command old new (Err (Read file)) = AreLeftUnread command file old new
 AreLeft command old new (Err (Write file)) = AreCut command file old new
 AreLeft command old new (Err stop) = new.told ≡ old.told
 
@@ -141,11 +172,25 @@ Does (Some command) old new answer = Performs command old new answer
 abbrev pub SeeEvents : Command → ShelfState → (Files → List Event) → List State → List State → Type 0
 SeeEvents command old events_of before after = (events : List Event) × SawEach before events after × OfInputs command old (λ files. events ≡ events_of files)
 
--- An inspection that did its work showed the monitors the events of its line; every other run leaves them as they were.
-abbrev pub Watches : Option Command → ShelfState → Answer → List State → List State → Type 0
-Watches (Some (Inspect chain bits)) old (Ok done) before after = SeeEvents (Inspect chain bits) old (λ files. line_events chain (bytes_in files (name_of (line_file bits)))) before after
-Watches (Some InspectE1) old (Ok done) before after = SeeEvents InspectE1 old (λ files. framed_events (bytes_in files e1_name)) before after
-Watches command old answer before after = after ≡ before
+-- they saw the events of its first bits, so many
+abbrev pub SeeFirst : Command → ShelfState → (ℕ → Files → List Event) → List State → List State → Type 0
+SeeFirst command old events_of before after = (bits : ℕ) × SeeEvents command old (events_of bits) before after
+
+-- what the monitors saw where a call for the input failed: nothing where it asked for the size, and else the events of the
+-- bits that were read
+abbrev pub SeeUnread : Command → File → ShelfState → ShelfState → (ℕ → Files → List Event) → List State → List State → Type 0
+SeeUnread command file old new events_of before after =
+    (FailsToRead SizeCall (name_of file) old new × (after ≡ before)) ⊎ (FailsToRead ReadCall (name_of file) old new × SeeFirst command old events_of before after)
+
+-- An inspection that did its work showed the monitors the events of its line, and one of which a call for the line's bytes failed
+-- those of the line's first bits; every other run leaves them as they were.
+abbrev pub Watches : Option Command → ShelfState → ShelfState → Answer → List State → List State → Type 0
+Watches (Some (Inspect chain bits)) old new (Ok done) before after = SeeEvents (Inspect chain bits) old (λ files. line_events chain (bytes_in files (name_of (line_file bits)))) before after
+Watches (Some (Inspect chain bits)) old new (Err (Read file)) before after =
+    SeeUnread (Inspect chain bits) file old new (λ n files. chain_events (shapes_of chain) (take n (bits_of (bytes_in files (name_of (line_file bits)))))) before after
+Watches (Some InspectE1) old new (Ok done) before after = SeeEvents InspectE1 old (λ files. framed_events (bytes_in files e1_name)) before after
+Watches (Some InspectE1) old new (Err (Read file)) before after = SeeUnread InspectE1 file old new (λ n files. e1_events (take n (bits_of (bytes_in files e1_name)))) before after
+Watches command old new answer before after = after ≡ before
 
 -- ---- what it tells
 
@@ -153,7 +198,7 @@ Watches command old answer before after = after ≡ before
 pub record Runs (command : Option Command) (old new : ShelfState) (before after : SinkState) (seen_before seen_after : List State) (status : ℕ) : Type 0 where
   pub answer : Answer
   pub does : Does command old new answer
-  pub watches : Watches command old answer seen_before seen_after
+  pub watches : Watches command old new answer seen_before seen_after
   pub told : IsTold seen_after answer before after status
 
 -- where the inputs are told and no fault of the shelf rose, a run tells exactly what they come to, or want of memory

@@ -1,48 +1,59 @@
 -- The steps of `demux`: what each makes, and why it stops.
-use Rattle.std.specs.Prelude.{◌≡◌, ◌⊎◌, ℕ, ◌<◌, Bool, true, List, ⊤, Some, Err, is_ok, IsTrue, length, Vec, slice_index_or}
-use Rattle.std.specs.declared.alloc.Global.{Global}
-use Rattle.pdh_bits.specs.Bits.{bytes_of}
+use Rattle.std.specs.Prelude.{◌≡◌, ℕ, ◌*◌, ◌/◌, ◌≤◌, List, Some, Err, IsTrue, map}
+use Rattle.std.specs.List.{range_with_len}
+use Rattle.pdh_bits.specs.Bits.{bits_of}
 use Rattle.pdh_edge.specs.Files.{ShelfState, WhereTold, FailsToRead}
-use Rattle.pdh_edge.specs.declared.shelf.Call.TheVariants.{Size as SizeCall, Read as ReadCall}
-use Rattle.pdh_edge.specs.Ports.{Inputs, Outputs}
-use Rattle.pdh_chain.specs.Chains.{leaves_of}
+use Rattle.pdh_edge.specs.declared.shelf.Call.TheVariants.{Size as SizeCall}
+use Rattle.pdh_edge.specs.Ports.{Inputs}
+use Rattle.pdh_blocks.specs.State.{PortState}
+use Rattle.pdh_blocks.specs.Lists.{inputs_of}
+use Rattle.pdh_chain.specs.Chains.{leaves_of, frame_bytes_of}
 use Rattle.pdh_chain.specs.declared.chain.Chain.{Chain}
-use Rattle.pdh_ops.specs.Names.{name_of}
-use Rattle.pdh_ops.specs.Demux.{line_of, frames_received, output_of}
+use Rattle.pdh_words.specs.declared.commands.Bits.{Bits}
+use Rattle.pdh_words.specs.declared.commands.Command.TheVariants.{Demux}
+use Rattle.pdh_ops.specs.Names.{name_of, line_file}
+use Rattle.pdh_ops.specs.Reading.{HasLength}
+use Rattle.pdh_ops.specs.Schedules.{bytes_in}
+use Rattle.pdh_ops.specs.Demux.{line_of, demuxed}
+use Rattle.pdh_ops.specs.Commands.{OfInputs, comes_to}
+use Rattle.pdh_ops.specs.PortFiles.{IsOpenFor}
 use Rattle.pdh_ops.specs.declared.file.File.{File}
-use Rattle.pdh_ops.specs.declared.demux.Received.{Received}
+use Rattle.pdh_ops.specs.declared.file.File.TheVariants.{Output}
+use Rattle.pdh_ops.specs.declared.port.Input.{Input}
 use Rattle.pdh_ops.specs.declared.answer.Stop.{Stop}
-use Rattle.pdh_ops.specs.declared.answer.Stop.TheVariants.{Memory, Read, Missing, ManyFrames}
+use Rattle.pdh_ops.specs.declared.answer.Stop.TheVariants.{Read, Missing, ManyFrames}
+use Rattle.pdh_shape.specs.OwnNumbers.{most_frames}
 
--- a call for the size of a line's file failed, or one for its bytes, where nothing refuses the line before it is read
-abbrev pub FailsForLine : File → Chain → ShelfState → ShelfState → Type 0
-FailsForLine file chain old new =
-    FailsToRead SizeCall (name_of file) old new ⊎ (FailsToRead ReadCall (name_of file) old new × WhereTold (old.told (name_of file)) (λ held. is_ok (line_of file chain held) ≡ true))
-
--- why the line of a file isn't there to be demultiplexed
+-- why the line of a file can't be read
 abbrev pub IsLineCause : File → Chain → ShelfState → ShelfState → Stop → Type 0
-IsLineCause file chain old new Memory = ⊤
-IsLineCause file chain old new (Read failed) = (failed ≡ file) × FailsForLine file chain old new
+IsLineCause file chain old new (Read failed) = (failed ≡ file) × FailsToRead SizeCall (name_of file) old new
 IsLineCause file chain old new (Missing missed) = WhereTold (old.told (name_of file)) (λ held. line_of file chain held ≡ Err (Missing missed))
 IsLineCause file chain old new (ManyFrames frames) = WhereTold (old.told (name_of file)) (λ held. line_of file chain held ≡ Err (ManyFrames frames))
 IsLineCause file chain old new _ = ⊥
+
+-- these are all bits of the line of a file, which has no more frames than a line may have
+pub record IsLine (chain : Chain) (line : Input) (state : ShelfState) : Type 0 where
+  pub bytes : ℕ
+  pub bits_are : line.bits ≡ 8 * bytes
+  pub long : HasLength (name_of line.file) bytes state
+  pub few : bytes / frame_bytes_of chain ≤ most_frames
+
+-- it is the file of a line
+abbrev pub IsLineFile : File → Type 0
+IsLineFile file = (bits : Bits) × (file ≡ line_file bits)
 
 -- list 0 has so many bits
 pub record HasLine (bits : ℕ) (inputs : Inputs) : Type 0 where
   pub holds : IsTrue (inputs.holds 0)
   pub left : inputs.left 0 ≡ bits
 
--- the whole bytes of what so many lists took
-pub record AreBytes (lists : Outputs) (leaves : ℕ) (outputs : List (Vec ℕ Global)) : Type 0 where
-  pub count : length outputs ≡ leaves
-  pub each : (leaf : ℕ) (d : Vec ℕ Global) (bits : List Bool) → leaf < leaves → lists.told leaf ≡ Some bits → (slice_index_or outputs leaf d).items ≡ bytes_of bits
+-- each leaf has its output
+abbrev pub AreLeafOutputs : Chain → List File → Type 0
+AreLeafOutputs chain writes = writes ≡ map Output (range_with_len 0 (leaves_of chain))
 
--- the outputs of the leaves of a line
-pub record AreOutputs (chain : Chain) (line : List ℕ) (outputs : List (Vec ℕ Global)) : Type 0 where
-  pub count : length outputs ≡ leaves_of chain
-  pub each : (leaf : ℕ) (d : Vec ℕ Global) → leaf < leaves_of chain → (slice_index_or outputs leaf d).items ≡ output_of chain line leaf
-
--- what a line gives: these outputs, and so many delivered frames
-pub record IsReceived (chain : Chain) (line : List ℕ) (received : Received) : Type 0 where
-  pub outputs : AreOutputs chain line received.outputs.items
-  pub frames_are : received.frames ≡ frames_received chain line
+-- A port is open for `demux` of a line: its list 0 gives all bits of the line, which isn't refused.
+pub record IsDemuxPort (chain : Chain) (bits : Bits) (line : Input) (old : ShelfState) (port : PortState) : Type 0 where
+  pub open_for : IsOpenFor (Demux chain bits) old port
+  pub file_is : line.file ≡ line_file bits
+  pub comes : OfInputs (Demux chain bits) old (λ files. comes_to (Demux chain bits) files ≡ demuxed chain (bytes_in files (name_of line.file)))
+  pub gives : OfInputs (Demux chain bits) old (λ files. (inputs_of port).told 0 ≡ Some (bits_of (bytes_in files (name_of line.file))))

@@ -1,24 +1,26 @@
-ghost use Rattle.std.specs.Prelude.{◌≡◌, ◌+◌, ◌*◌, ◌<◌, ◌^◌, [], ◌∷◌, length, IsTrue, IfOk, IfErr, Ok};
-ghost use Rattle.pdh_edge.specs.Files.{Looks};
-ghost use Rattle.pdh_edge.specs.MemLists.{inputs_of, outputs_of, room_of};
-ghost use Rattle.pdh_script.specs.Scripts.{FitIn, bytes_added};
-ghost use Rattle.pdh_script.specs.Applying.{Applies};
+ghost use Rattle.std.specs.Prelude.{◌≡◌, ◌*◌, ◌<◌, ◌^◌, [], ◌∷◌, IsTrue, IfOk, IfErr, Ok, true};
+ghost use Rattle.pdh_edge.specs.Files.{ShelfState, Looks};
+ghost use Rattle.pdh_blocks.specs.State.{over};
+ghost use Rattle.pdh_blocks.specs.Lists.{inputs_of, outputs_of};
+ghost use Rattle.pdh_script.specs.Scripts.{FitIn};
 ghost use Rattle.pdh_ops.specs.Steps.{HasLine};
-ghost use Rattle.pdh_ops.specs.DisturbSteps.{HasSizes, ScriptIs, IsBent, IsOutcome};
+ghost use Rattle.pdh_ops.specs.PortFiles.{HasFiles};
+ghost use Rattle.pdh_ops.specs.DisturbSteps.{HasSizes, ScriptIs, IsBendPlan, IsBendPort};
 ghost use Rattle.pdh_ops.specs.Refusing.{Refuses};
 ghost use Rattle.pdh_ops.specs.Run.{Performs, IsCounted};
+ghost use Rattle.pdh_ops.specs.declared.file.File.TheVariants.{Line};
 ghost use Rattle.pdh_words.specs.declared.commands.Command.TheVariants.{Disturb};
 
 use crate::answer::{Done, Stop};
 use crate::file::File;
-use crate::files::{append, read, size, start};
-use crate::mux::port_for;
+use crate::files::{read, size};
+use crate::port::{Ended, Input, PortFiles};
+use pdh_blocks::ShelfPort;
 use pdh_chain::{Chain, frame_bytes};
-use pdh_edge::{Drain, Feed, MemPort, Port, Shelf};
-use pdh_packed::Packed;
+use pdh_edge::Shelf;
 use pdh_script::{ApplyStop, MOST_SCRIPT_BYTES, Script};
 use pdh_shape::MOST_FRAMES;
-use std::alloc::{AllocError, Global};
+use std::alloc::Global;
 
 // The sizes of the inputs, in bytes.
 #[derive(Clone, Copy)]
@@ -27,10 +29,10 @@ struct Sizes {
     script: u64,
 }
 
-// What comes of a line: its whole bytes, and how many bits it has.
+// What a line is disturbed by, and how many bits the line has.
 #[derive(Drop)]
-struct BentLine {
-    bytes: Vec<u8>,
+struct Plan {
+    script: Script,
     bits: u64,
 }
 
@@ -71,80 +73,79 @@ fn read_script<S: Shelf>(
     Ok(Script::read(alloc, &text, 8 * sizes.line)?)
 }
 
-// Takes the line from the port, and puts the disturbed line to it. The port gives the line's bits, and has room.
-fn apply(script: &Script, bits: u64, port: &mut MemPort)
-    requires fit { FitIn bits script.now }
-    requires line { HasLine bits (⟦<MemPort as Feed>⟧.inputs port.old) }
-    requires outputs { ⟦<MemPort as Drain>⟧.outputs port.old ≡ outputs_of ([] ∷ []) }
-    requires fresh { ⟦<MemPort as Port>⟧.fresh port.old }
-    requires faults { ⟦<MemPort as Drain>⟧.drain_faults port.old ≡ 0 }
-    requires room { bits + 8 * bytes_added script.now < room_of port.old 0 }
-    ensures applies { Applies script.now bits (⟦<MemPort as Feed>⟧.inputs port.old) (⟦<MemPort as Feed>⟧.inputs port.new) (⟦<MemPort as Drain>⟧.outputs port.old) (⟦<MemPort as Drain>⟧.outputs port.new) }
-    ensures list { IsTrue ((⟦<MemPort as Drain>⟧.outputs port.new).holds 0) }
-{
-    match script.apply(bits, port) {
-        Ok(()) => (),
-        // The line has its bits; the port gives them, and has room.
-        Err(ApplyStop::Ended) => unreachable!(),
-        Err(ApplyStop::ReadFailed) => unreachable!(),
-        Err(ApplyStop::WriteFailed) => unreachable!(),
-    }
-}
-
-// A port that gives a line and has room for so many bits.
-fn port_of(alloc: Global, line: Packed, room: usize) -> Result<MemPort, AllocError>
-    requires { room < 2 ^ 63 }
-    ensures inputs { IfOk result (λ port. ⟦<MemPort as Feed>⟧.inputs port ≡ inputs_of (line.bits ∷ [])) }
-    ensures outputs { IfOk result (λ port. ⟦<MemPort as Drain>⟧.outputs port ≡ outputs_of ([] ∷ [])) }
-    ensures fresh { IfOk result ⟦<MemPort as Port>⟧.fresh }
-    ensures faults { IfOk result (λ port. ⟦<MemPort as Drain>⟧.drain_faults port ≡ 0) }
-    ensures room { IfOk result (λ port. room < room_of port 0) }
-{
-    let mut lists = Vec::new(alloc);
-    lists.push(line)?;
-    let port = port_for(alloc, lists, room)?;
-    Ok(port)
-}
-
-// What comes of a line.
-fn bend(alloc: Global, line: &[u8], script: &Script) -> Result<BentLine, AllocError>
-    requires few { length line.now < 2 ^ 59 }
-    requires fit { FitIn (8 * length line.now) script.now }
-    ensures { IfOk result (IsBent line.now script.now) }
-{
-    let bits = Packed::of_bytes(alloc, line)?;
-    let count = bits.len();
-    let room = count + 8 * script.added_bytes() as usize;
-    let mut port = port_of(alloc, bits, room)?;
-    apply(script, count as u64, &mut port);
-    let bent = port.output(0);
-    let bytes = bent.to_bytes(alloc)?;
-    Ok(BentLine {
-        bytes,
-        bits: bent.len() as u64,
-    })
-}
-
-// What comes of the line by its script, where no step refuses them.
-fn read_bent<S: Shelf>(alloc: Global, chain: Chain, shelf: &mut S) -> Result<BentLine, Stop>
+// What a line is disturbed by, where no step refuses the inputs: the script, and the line's bits.
+fn read_plan<S: Shelf>(alloc: Global, chain: Chain, shelf: &mut S) -> Result<Plan, Stop>
     ensures looks { Looks (S.state shelf.old) (S.state shelf.new) }
-    ensures ok { IfOk result (IsOutcome chain (S.state shelf.old)) }
+    ensures ok { IfOk result (λ plan. IsBendPlan chain plan (S.state shelf.new)) }
     ensures err { IfErr result (Refuses (Disturb chain) (S.state shelf.old) (S.state shelf.new)) }
     ensures counted { IsCounted (S.state shelf.old) (S.state shelf.new) result }
 {
     let sizes = read_sizes(chain, shelf)?;
     let script = read_script(alloc, chain, shelf, sizes)?;
-    let line = read(alloc, shelf, File::Line, sizes.line)?;
-    Ok(bend(alloc, &line, &script)?)
+    Ok(Plan {
+        script,
+        bits: 8 * sizes.line,
+    })
+}
+
+// Puts the disturbed line to the port, and appends what waits of it.
+fn apply<S: Shelf>(
+    chain: Chain,
+    plan: &Plan,
+    files: &PortFiles,
+    port: &mut ShelfPort<S>,
+) -> Result<Done, Stop>
+    requires few { plan.now.bits < 2 ^ 63 }
+    requires fit { FitIn plan.now.bits plan.now.script }
+    requires inputs { files.now.inputs.items ≡ record { file = Line; bits = plan.now.bits } ∷ [] }
+    requires files { HasFiles files.now.inputs.items files.now.outputs.items (over (S.state port.old.shelf) port.old.blocks) }
+    requires line { HasLine plan.now.bits (inputs_of (over (S.state port.old.shelf) port.old.blocks)) }
+    requires out { IsTrue ((outputs_of (over (S.state port.old.shelf) port.old.blocks)).holds 0) }
+    requires fresh { port.old.blocks.fresh ≡ true }
+    ensures { (a : ShelfState) → IsBendPort chain plan.now.script a (over (S.state port.old.shelf) port.old.blocks)
+        → Performs (Disturb chain) a (S.state port.new.shelf) result }
+{
+    match plan.script.apply(plan.bits, port) {
+        Ok(()) => {
+            files.finish(port)?;
+            Ok(Done::Disturbed(chain, plan.script.bits_of(plan.bits)))
+        }
+        Err(ApplyStop::ReadFailed) => Err(files.stop(port)),
+        Err(ApplyStop::WriteFailed) => Err(files.stop(port)),
+        // The line has its bits.
+        Err(ApplyStop::Ended) => unreachable!(),
+    }
+}
+
+// Disturbs the line, where no step refuses the inputs.
+fn bend<S: Shelf>(alloc: Global, chain: Chain, plan: &Plan, shelf: S) -> Ended<S>
+    requires { IsBendPlan chain plan.now (S.state shelf) }
+    ensures { (a : ShelfState) → Looks a (S.state shelf) → (S.state shelf).counts ≡ a.counts
+        → Performs (Disturb chain) a (S.state result.shelf) result.answer }
+{
+    let line = Input {
+        file: File::Line,
+        bits: plan.bits,
+    };
+    let Ok(files) = PortFiles::line_to_line(alloc, line, File::Bent) else {
+        return Ended::new(shelf, Err(Stop::Memory));
+    };
+    match files.open(alloc, shelf) {
+        Ok(mut port) => {
+            let answer = apply(chain, plan, &files, &mut port);
+            Ended::new(port.close(), answer)
+        }
+        Err(none) => Ended::new(none.shelf, Err(Stop::Memory)),
+    }
 }
 
 /// Reads the line and the script, writes the disturbed line, and answers how many bits it has, of which the file holds the
 /// whole bytes.
-pub fn disturb<S: Shelf>(alloc: Global, chain: Chain, shelf: &mut S) -> Result<Done, Stop>
-    ensures { Performs (Disturb chain) (S.state shelf.old) (S.state shelf.new) result }
+pub fn disturb<S: Shelf>(alloc: Global, chain: Chain, mut shelf: S) -> Ended<S>
+    ensures { Performs (Disturb chain) (S.state shelf) (S.state result.shelf) result.answer }
 {
-    let bent = read_bent(alloc, chain, shelf)?;
-    start(shelf, File::Bent)?;
-    append(shelf, File::Bent, &bent.bytes)?;
-    Ok(Done::Disturbed(chain, bent.bits))
+    match read_plan(alloc, chain, &mut shelf) {
+        Ok(plan) => bend(alloc, chain, &plan, shelf),
+        Err(stop) => Ended::new(shelf, Err(stop)),
+    }
 }

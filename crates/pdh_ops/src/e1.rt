@@ -6,7 +6,7 @@ ghost use Rattle.pdh_g706.specs.View.{StandsFor, Gains};
 ghost use Rattle.pdh_words.specs.declared.commands.Command.TheVariants.{E1Pack, E1Unpack};
 ghost use Rattle.pdh_ops.specs.Names.{payload_name, e1_name};
 ghost use Rattle.pdh_ops.specs.E1.{payload_of, packed_line, framed_of};
-ghost use Rattle.pdh_ops.specs.E1Steps.{IsUnpacked};
+ghost use Rattle.pdh_ops.specs.E1Steps.{IsFramedLine, IsUnpacked};
 ghost use Rattle.pdh_ops.specs.Refusing.{Refuses, RefusesFramed};
 ghost use Rattle.pdh_ops.specs.Run.{IsCounted, Performs};
 ghost use Rattle.pdh_ops.specs.declared.answer.Stop.TheVariants.{Memory};
@@ -15,6 +15,7 @@ ghost use Rattle.pdh_shape.specs.OwnNumbers.{most_frames};
 use crate::answer::{Done, E1Counts, Stop};
 use crate::file::File;
 use crate::files::{append, read, size, start};
+use crate::port::Input;
 use pdh_bits::bits_of;
 use pdh_e1::{PackFault, pack};
 use pdh_edge::{Drain, MemPort, Shelf};
@@ -76,12 +77,10 @@ pub fn e1pack<S: Shelf>(alloc: Global, shelf: &mut S) -> Result<Done, Stop>
     Ok(Done::E1Packed(payload.len() as u64 / 496))
 }
 
-// The framed line, if it has no more frames than a line may have.
-pub fn read_framed<S: Shelf>(alloc: Global, shelf: &mut S) -> Result<Vec<u8>, Stop>
+/// All bits of the framed line, if it has no more frames than a line may have.
+pub fn framed_line<S: Shelf>(shelf: &mut S) -> Result<Input, Stop>
     ensures looks { Looks (S.state shelf.old) (S.state shelf.new) }
-    ensures line { IfOk result (λ line. Holds ((S.state shelf.old).told e1_name) line.items) }
-    ensures served { IfOk result (λ line. framed_of (Some line.items) ≡ Ok line.items) }
-    ensures few { IfOk result (λ line. length line.items / 32 ≤ most_frames) }
+    ensures ok { IfOk result (λ line. IsFramedLine line (S.state shelf.new)) }
     ensures err { IfErr result (RefusesFramed (S.state shelf.old) (S.state shelf.new)) }
     ensures counted { IsCounted (S.state shelf.old) (S.state shelf.new) result }
 {
@@ -90,7 +89,23 @@ pub fn read_framed<S: Shelf>(alloc: Global, shelf: &mut S) -> Result<Vec<u8>, St
     if frames > MOST_FRAMES {
         return Err(Stop::ManyFrames(frames));
     }
-    read(alloc, shelf, File::E1Line, octets)
+    Ok(Input {
+        file: File::E1Line,
+        bits: 8 * octets,
+    })
+}
+
+// The octets of the framed line, if it has no more frames than a line may have.
+fn read_framed<S: Shelf>(alloc: Global, shelf: &mut S) -> Result<Vec<u8>, Stop>
+    ensures looks { Looks (S.state shelf.old) (S.state shelf.new) }
+    ensures line { IfOk result (λ line. Holds ((S.state shelf.old).told e1_name) line.items) }
+    ensures served { IfOk result (λ line. framed_of (Some line.items) ≡ Ok line.items) }
+    ensures few { IfOk result (λ line. length line.items / 32 ≤ most_frames) }
+    ensures err { IfErr result (Refuses E1Unpack (S.state shelf.old) (S.state shelf.new)) }
+    ensures counted { IsCounted (S.state shelf.old) (S.state shelf.new) result }
+{
+    let line = framed_line(shelf)?;
+    read(alloc, shelf, File::E1Line, line.bits / 8)
 }
 
 // A port that takes the payload of a line of so many bits.

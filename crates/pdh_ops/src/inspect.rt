@@ -1,45 +1,113 @@
 ghost use Rattle.std.specs.Prelude.{◌≡◌, map, Some};
-ghost use Rattle.pdh_words.specs.declared.commands.Command.TheVariants.{Inspect, InspectE1};
+ghost use Rattle.pdh_edge.specs.Files.{ShelfState, Looks};
+ghost use Rattle.pdh_ops.specs.Names.{line_file};
 ghost use Rattle.pdh_ops.specs.Run.{Performs, Watches};
+ghost use Rattle.pdh_ops.specs.Steps.{IsLine};
+ghost use Rattle.pdh_ops.specs.E1Steps.{IsFramedLine};
+ghost use Rattle.pdh_words.specs.declared.commands.Command.TheVariants.{Inspect, InspectE1};
 
 use crate::answer::{Done, Stop};
-use crate::e1::read_framed;
+use crate::e1::framed_line;
 use crate::file::File;
-use crate::line::read_line;
+use crate::line::line_of;
+use crate::port::{Ended, Input, PortFiles};
 use pdh_chain::Chain;
 use pdh_edge::Shelf;
-use pdh_inspect::{inspect_framed, inspect_line};
+use pdh_inspect::{LineStop, inspect_framed, inspect_line};
 use pdh_watch::Monitor;
 use pdh_words::Bits;
 use std::alloc::Global;
+
+// Shows the events of a line to the monitors.
+fn watch_line<S: Shelf>(
+    alloc: Global,
+    chain: Chain,
+    line: Input,
+    shelf: S,
+    monitors: &mut Vec<Box<dyn Monitor>>,
+) -> Ended<S>
+    requires { IsLine chain line (S.state shelf) }
+    ensures performs { (a : ShelfState) (bits : Bits) → line.file ≡ line_file bits → Looks a (S.state shelf) → (S.state shelf).counts ≡ a.counts
+        → Performs (Inspect chain bits) a (S.state result.shelf) result.answer }
+    ensures watches { (a : ShelfState) (bits : Bits) → line.file ≡ line_file bits → Looks a (S.state shelf) → (S.state shelf).counts ≡ a.counts
+        → Watches (Some (Inspect chain bits)) a (S.state result.shelf) result.answer (map ⟦<Box<dyn Monitor> as Monitor>⟧.state monitors.old.items) (map ⟦<Box<dyn Monitor> as Monitor>⟧.state monitors.new.items) }
+{
+    let Ok(files) = PortFiles::line(alloc, line) else {
+        return Ended::new(shelf, Err(Stop::Memory));
+    };
+    match files.open(alloc, shelf) {
+        Ok(port) => {
+            let seen = inspect_line(alloc, chain, line.bits, port, monitors);
+            let answer = match seen.result {
+                Ok(seen) => Ok(Done::Inspected(chain, seen.frames, seen.events)),
+                Err(LineStop::Memory) => Err(Stop::Memory),
+                Err(LineStop::Failed) => Err(files.stop(&seen.feed)),
+            };
+            Ended::new(seen.feed.close(), answer)
+        }
+        Err(none) => Ended::new(none.shelf, Err(Stop::Memory)),
+    }
+}
 
 /// Reads the line, shows its events to the monitors, and answers the numbers of its delivered frames and of its events.
 pub fn inspect<S: Shelf>(
     alloc: Global,
     chain: Chain,
     bits: Bits,
-    shelf: &mut S,
+    mut shelf: S,
     monitors: &mut Vec<Box<dyn Monitor>>,
-) -> Result<Done, Stop>
-    ensures performs { Performs (Inspect chain bits) (S.state shelf.old) (S.state shelf.new) result }
-    ensures watches { Watches (Some (Inspect chain bits)) (S.state shelf.old) result (map ⟦<Box<dyn Monitor> as Monitor>⟧.state monitors.old.items) (map ⟦<Box<dyn Monitor> as Monitor>⟧.state monitors.new.items) }
+) -> Ended<S>
+    ensures performs { Performs (Inspect chain bits) (S.state shelf) (S.state result.shelf) result.answer }
+    ensures watches { Watches (Some (Inspect chain bits)) (S.state shelf) (S.state result.shelf) result.answer (map ⟦<Box<dyn Monitor> as Monitor>⟧.state monitors.old.items) (map ⟦<Box<dyn Monitor> as Monitor>⟧.state monitors.new.items) }
 {
-    let line = read_line(alloc, chain, File::of_line(bits), shelf)?;
-    let seen = inspect_line(alloc, chain, &line, monitors)?;
-    Ok(Done::Inspected(chain, seen.frames, seen.events))
+    match line_of(chain, File::of_line(bits), &mut shelf) {
+        Ok(line) => watch_line(alloc, chain, line, shelf, monitors),
+        Err(stop) => Ended::new(shelf, Err(stop)),
+    }
+}
+
+// Shows the events of a framed line to the monitors.
+fn watch_framed<S: Shelf>(
+    alloc: Global,
+    line: Input,
+    shelf: S,
+    monitors: &mut Vec<Box<dyn Monitor>>,
+) -> Ended<S>
+    requires { IsFramedLine line (S.state shelf) }
+    ensures performs { (a : ShelfState) → Looks a (S.state shelf) → (S.state shelf).counts ≡ a.counts
+        → Performs InspectE1 a (S.state result.shelf) result.answer }
+    ensures watches { (a : ShelfState) → Looks a (S.state shelf) → (S.state shelf).counts ≡ a.counts
+        → Watches (Some InspectE1) a (S.state result.shelf) result.answer (map ⟦<Box<dyn Monitor> as Monitor>⟧.state monitors.old.items) (map ⟦<Box<dyn Monitor> as Monitor>⟧.state monitors.new.items) }
+{
+    let Ok(files) = PortFiles::line(alloc, line) else {
+        return Ended::new(shelf, Err(Stop::Memory));
+    };
+    match files.open(alloc, shelf) {
+        Ok(port) => {
+            let seen = inspect_framed(alloc, line.bits, port, monitors);
+            let answer = match seen.result {
+                Ok(seen) => Ok(Done::E1Inspected(seen.multiframes, seen.events)),
+                Err(LineStop::Memory) => Err(Stop::Memory),
+                Err(LineStop::Failed) => Err(files.stop(&seen.feed)),
+            };
+            Ended::new(seen.feed.close(), answer)
+        }
+        Err(none) => Ended::new(none.shelf, Err(Stop::Memory)),
+    }
 }
 
 /// Reads the framed line, shows its events to the monitors, and answers the numbers of its delivered multiframes and of its
 /// events.
 pub fn inspect_e1<S: Shelf>(
     alloc: Global,
-    shelf: &mut S,
+    mut shelf: S,
     monitors: &mut Vec<Box<dyn Monitor>>,
-) -> Result<Done, Stop>
-    ensures performs { Performs InspectE1 (S.state shelf.old) (S.state shelf.new) result }
-    ensures watches { Watches (Some InspectE1) (S.state shelf.old) result (map ⟦<Box<dyn Monitor> as Monitor>⟧.state monitors.old.items) (map ⟦<Box<dyn Monitor> as Monitor>⟧.state monitors.new.items) }
+) -> Ended<S>
+    ensures performs { Performs InspectE1 (S.state shelf) (S.state result.shelf) result.answer }
+    ensures watches { Watches (Some InspectE1) (S.state shelf) (S.state result.shelf) result.answer (map ⟦<Box<dyn Monitor> as Monitor>⟧.state monitors.old.items) (map ⟦<Box<dyn Monitor> as Monitor>⟧.state monitors.new.items) }
 {
-    let line = read_framed(alloc, shelf)?;
-    let seen = inspect_framed(alloc, &line, monitors)?;
-    Ok(Done::E1Inspected(seen.multiframes, seen.events))
+    match framed_line(&mut shelf) {
+        Ok(line) => watch_framed(alloc, line, shelf, monitors),
+        Err(stop) => Ended::new(shelf, Err(stop)),
+    }
 }

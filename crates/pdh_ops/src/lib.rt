@@ -13,6 +13,7 @@ mod inspect;
 mod leaf;
 mod line;
 mod mux;
+mod port;
 mod program;
 mod report;
 mod schedule;

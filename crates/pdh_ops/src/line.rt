@@ -1,28 +1,21 @@
-ghost use Rattle.std.specs.Prelude.{◌≡◌, IfOk, IfErr, Some, Ok};
-ghost use Rattle.pdh_edge.specs.Files.{Looks, Holds};
-ghost use Rattle.pdh_ops.specs.Names.{name_of};
-ghost use Rattle.pdh_ops.specs.Demux.{line_of};
-ghost use Rattle.pdh_ops.specs.Steps.{IsLineCause};
+ghost use Rattle.std.specs.Prelude.{◌≡◌, IfOk, IfErr};
+ghost use Rattle.pdh_edge.specs.Files.{Looks};
+ghost use Rattle.pdh_ops.specs.Steps.{IsLine, IsLineCause};
 ghost use Rattle.pdh_ops.specs.Run.{IsCounted};
 
 use crate::answer::Stop;
 use crate::file::File;
-use crate::files::{read, size};
+use crate::files::size;
+use crate::port::Input;
 use pdh_chain::{Chain, frame_bytes};
 use pdh_edge::Shelf;
 use pdh_shape::MOST_FRAMES;
-use std::alloc::Global;
 
-/// The bytes of the line of a file, if it has no more frames than a line may have.
-pub fn read_line<S: Shelf>(
-    alloc: Global,
-    chain: Chain,
-    file: File,
-    shelf: &mut S,
-) -> Result<Vec<u8>, Stop>
+/// All bits of the line of a file, if it has no more frames than a line may have.
+pub fn line_of<S: Shelf>(chain: Chain, file: File, shelf: &mut S) -> Result<Input, Stop>
     ensures looks { Looks (S.state shelf.old) (S.state shelf.new) }
-    ensures line { IfOk result (λ line. Holds ((S.state shelf.old).told (name_of file)) line.items) }
-    ensures served { IfOk result (λ line. line_of file chain (Some line.items) ≡ Ok line.items) }
+    ensures file { IfOk result (λ line. line.file ≡ file) }
+    ensures ok { IfOk result (λ line. IsLine chain line (S.state shelf.new)) }
     ensures err { IfErr result (IsLineCause file chain (S.state shelf.old) (S.state shelf.new)) }
     ensures counted { IsCounted (S.state shelf.old) (S.state shelf.new) result }
 {
@@ -31,5 +24,8 @@ pub fn read_line<S: Shelf>(
     if frames > MOST_FRAMES {
         return Err(Stop::ManyFrames(frames));
     }
-    read(alloc, shelf, file, bytes)
+    Ok(Input {
+        file,
+        bits: 8 * bytes,
+    })
 }

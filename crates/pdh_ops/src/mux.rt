@@ -1,30 +1,27 @@
-ghost use Rattle.std.specs.Prelude.{if◌then◌else◌, ◌≡◌, ℕ, ◌*◌, [], ◌∷◌, map, ◌^◌, ◌<◌, ◌≤◌, length, slice_index_or, IsTrue, IfOk, OnOk, OnErr, IfErr, IfSome, All, Option, None};
-ghost use Rattle.pdh_bits.specs.BitOut.{BoundedBits};
-ghost use Rattle.pdh_edge.specs.Files.{Looks};
-ghost use Rattle.pdh_edge.specs.MemLists.{inputs_of, outputs_of, items_of, room_of};
-ghost use Rattle.pdh_nesting.specs.Chains.{top_len};
+ghost use Rattle.std.specs.Prelude.{if◌then◌else◌, ◌≡◌, ℕ, [], ◌∷◌, ◌<◌, IfOk, OnOk, IfErr, IfSome, All, Option, IsTrue, true};
+ghost use Rattle.pdh_edge.specs.Files.{ShelfState, Looks};
+ghost use Rattle.pdh_blocks.specs.State.{over};
+ghost use Rattle.pdh_blocks.specs.Lists.{inputs_of, outputs_of};
 ghost use Rattle.pdh_clock.specs.Contents.{IsRowOf};
-ghost use Rattle.pdh_ops.specs.Names.{schedule_name};
-ghost use Rattle.pdh_ops.specs.Reading.{HasLength};
-ghost use Rattle.pdh_chain.specs.Chains.{shapes_of, levels_of, leaves_of};
-ghost use Rattle.pdh_ops.specs.Schedules.{frames_in};
-ghost use Rattle.pdh_ops.specs.Mux.{bits_needed, short_node};
-ghost use Rattle.pdh_ops.specs.Run.{Performs, GoesOn, IsCounted};
+ghost use Rattle.pdh_chain.specs.Chains.{levels_of};
+ghost use Rattle.pdh_ops.specs.PortFiles.{HasFiles};
+ghost use Rattle.pdh_ops.specs.Run.{Performs, IsCounted};
 ghost use Rattle.pdh_ops.specs.Refusing.{Refuses};
 ghost use Rattle.pdh_ops.specs.declared.answer.Stop.TheVariants.{Overflow, Underflow};
-ghost use Rattle.pdh_ops.specs.MuxSteps.{AreSizes, AllHeld, HasRows, AreEnough, IsEnoughStop, AreLeaves, CanSend, IsSent, IsMade};
+ghost use Rattle.pdh_ops.specs.declared.file.File.TheVariants.{Line};
+ghost use Rattle.pdh_ops.specs.MuxSteps.{AreSizes, AllHeld, AreEnough, IsEnoughStop, IsScheduled, IsPlanned, AreLeafInputs, CanSend, IsMuxPort};
 ghost use Rattle.pdh_words.specs.declared.commands.Command.TheVariants.{Mux};
-ghost use Rattle.pdh_shape.specs.OwnNumbers.{most_frames};
 
 use crate::answer::{Done, Stop};
 use crate::file::File;
-use crate::files::{append, read, size, start};
+use crate::files::size;
 use crate::leaf::leaf_count;
+use crate::port::{Ended, Input, PortFiles};
 use crate::schedule::read_schedule;
-use pdh_chain::{Chain, MuxStop, frame_bytes};
+use pdh_blocks::ShelfPort;
+use pdh_chain::{Chain, MuxStop};
 use pdh_clock::Schedule;
-use pdh_edge::{Drain, Feed, MemPort, Port, Shelf};
-use pdh_packed::Packed;
+use pdh_edge::Shelf;
 use pdh_shape::{MOST_FRAMES, Place, TOP};
 use std::alloc::{AllocError, Global};
 
@@ -35,11 +32,11 @@ struct InputSizes {
     leaves: [u64; 64],
 }
 
-// The bytes of a line up to the first event, and how that event ends the command.
+// What a line is made by: the schedule, and how many frames it has.
 #[derive(Drop)]
-struct Made {
-    bytes: Vec<u8>,
-    end: Option<Stop>,
+struct Plan {
+    clock: Schedule,
+    frames: u64,
 }
 
 // The sizes of the inputs, in order.
@@ -83,29 +80,35 @@ fn frames(chain: Chain, clock: &Schedule, sizes: &InputSizes) -> Result<u64, Sto
     Ok(frames)
 }
 
-// The bits of the leaves, where no step refuses the inputs.
-fn read_leaves<S: Shelf>(
-    alloc: Global,
-    chain: Chain,
-    shelf: &mut S,
-    sizes: &InputSizes,
-) -> Result<Vec<Packed>, Stop>
-    requires sizes { AreSizes chain sizes.now (S.state shelf.old) }
-    requires due { GoesOn (Mux chain None) (S.state shelf.old) }
+// What the line is made by, where no step refuses the inputs.
+fn read_plan<S: Shelf>(alloc: Global, chain: Chain, shelf: &mut S) -> Result<Plan, Stop>
     ensures looks { Looks (S.state shelf.old) (S.state shelf.new) }
-    ensures ok { IfOk result (λ leaves. AreLeaves chain sizes.now (S.state shelf.new) leaves.items) }
+    ensures ok { IfOk result (λ plan. IsPlanned chain plan (S.state shelf.new)) }
     ensures err { IfErr result (λ stop. (feac : Option ℕ) → Refuses (Mux chain feac) (S.state shelf.old) (S.state shelf.new) stop) }
     ensures counted { IsCounted (S.state shelf.old) (S.state shelf.new) result }
 {
-    let mut leaves = Vec::new(alloc);
+    let sizes = read_sizes(chain, shelf)?;
+    let clock = read_schedule(alloc, chain, shelf, sizes.schedule)?;
+    let frames = frames(chain, &clock, &sizes)?;
+    Ok(Plan { clock, frames })
+}
+
+// The files of the port: of each leaf the bits that enter, and the line.
+fn port_files(alloc: Global, chain: Chain, plan: &Plan) -> Result<PortFiles, AllocError>
+    requires { IsScheduled chain plan.now }
+    ensures inputs { IfOk result (λ files. AreLeafInputs chain plan.now.clock.rows files.inputs.items) }
+    ensures outputs { IfOk result (λ files. files.outputs.items ≡ Line ∷ []) }
+{
+    let mut inputs = Vec::with_capacity(alloc, usize::from(leaf_count(chain)))?;
     for leaf in 0..leaf_count(chain) {
-        let bytes = read(alloc, shelf, File::Leaf(leaf), sizes.leaves[leaf as usize])?;
-        let bits = Packed::of_bytes(alloc, &bytes)?;
-        if leaves.push(bits).is_err() {
-            return Err(Stop::Memory);
-        }
+        inputs.push(Input {
+            file: File::Leaf(leaf),
+            bits: plan.clock.entered(u32::from(leaf), plan.frames) as u64,
+        })?;
     }
-    Ok(leaves)
+    let mut outputs = Vec::with_capacity(alloc, 1)?;
+    outputs.push(File::Line)?;
+    Ok(PortFiles { inputs, outputs })
 }
 
 // How an event ends the command.
@@ -119,100 +122,71 @@ fn stop_of(over: bool, place: Place) -> Stop
     }
 }
 
-/// A port that gives the bits of these lists and has room for a line of so many bits.
-pub fn port_for(alloc: Global, lists: Vec<Packed>, bits: usize) -> Result<MemPort, AllocError>
-    requires { bits < 2 ^ 63 }
-    ensures inputs { IfOk result (λ port. ⟦<MemPort as Feed>⟧.inputs port ≡ inputs_of (map items_of lists.items)) }
-    ensures outputs { IfOk result (λ port. ⟦<MemPort as Drain>⟧.outputs port ≡ outputs_of ([] ∷ [])) }
-    ensures fresh { IfOk result ⟦<MemPort as Port>⟧.fresh }
-    ensures faults { IfOk result (λ port. ⟦<MemPort as Drain>⟧.drain_faults port ≡ 0) }
-    ensures room { IfOk result (λ port. bits < room_of port 0) }
-{
-    let mut port = MemPort::open(alloc, lists, 1)?;
-    // One more than is ever put, so that the list is never full.
-    port.room(0, bits + 1)?;
-    Ok(port)
-}
-
-// Makes the line into the port's list, whole frames up to the first event, and answers how that event
-// ends the command. Where memory is wanting the port isn't started.
-fn send(
+// Makes the line into the port, whole frames up to the first event, and appends what waits of it.
+fn send<S: Shelf>(
     alloc: Global,
     chain: Chain,
-    clock: &Schedule,
-    frames: u64,
+    plan: &Plan,
     feac: Option<u8>,
-    port: &mut MemPort,
-) -> Result<Option<Stop>, AllocError>
-    requires levels { clock.now.levels ≡ levels_of chain }
+    files: &PortFiles,
+    port: &mut ShelfPort<S>,
+) -> Result<Done, Stop>
+    requires levels { plan.now.clock.levels ≡ levels_of chain }
     requires code { IfSome feac (λ code. code < 64) }
-    requires enough { CanSend chain clock.now.rows frames (⟦<MemPort as Feed>⟧.inputs port.old) }
-    requires outputs { ⟦<MemPort as Drain>⟧.outputs port.old ≡ outputs_of ([] ∷ []) }
-    requires fresh { ⟦<MemPort as Port>⟧.fresh port.old }
-    requires faults { ⟦<MemPort as Drain>⟧.drain_faults port.old ≡ 0 }
-    requires room { frames * top_len (shapes_of chain) < room_of port.old 0 }
-    ensures ok { IfOk result (λ end. IsSent chain feac clock.now.rows frames (⟦<MemPort as Feed>⟧.inputs port.old) (⟦<MemPort as Feed>⟧.inputs port.new) (⟦<MemPort as Drain>⟧.outputs port.old) (⟦<MemPort as Drain>⟧.outputs port.new) end) }
-    ensures err { OnErr result (⟦<MemPort as Port>⟧.fresh port.new) }
-    ensures line { IsTrue ((⟦<MemPort as Drain>⟧.outputs port.new).holds 0) }
+    requires inputs { AreLeafInputs chain plan.now.clock.rows files.now.inputs.items }
+    requires files { HasFiles files.now.inputs.items files.now.outputs.items (over (S.state port.old.shelf) port.old.blocks) }
+    requires enough { CanSend chain plan.now.clock.rows plan.now.frames (inputs_of (over (S.state port.old.shelf) port.old.blocks)) }
+    requires line { IsTrue ((outputs_of (over (S.state port.old.shelf) port.old.blocks)).holds 0) }
+    requires fresh { port.old.blocks.fresh ≡ true }
+    ensures { (a : ShelfState) → IsMuxPort chain feac plan.now.clock.rows a (over (S.state port.old.shelf) port.old.blocks)
+        → Performs (Mux chain feac) a (S.state port.new.shelf) result }
 {
-    match pdh_chain::mux(alloc, chain, clock, frames, feac, port) {
-        Ok(()) => Ok(None),
-        Err(MuxStop::Event { over, place }) => Ok(Some(stop_of(over, place))),
-        Err(MuxStop::Memory) => Err(AllocError),
-        // The schedule and the leaves are long enough; the port gives its bits, and has room.
+    match pdh_chain::mux(alloc, chain, &plan.clock, plan.frames, feac, port) {
+        Ok(()) => {
+            files.finish(port)?;
+            Ok(Done::Muxed(chain, plan.frames))
+        }
+        Err(MuxStop::Event { over, place }) => {
+            files.finish(port)?;
+            Err(stop_of(over, place))
+        }
+        Err(MuxStop::Memory) => Err(Stop::Memory),
+        Err(MuxStop::ReadFailed) => Err(files.stop(port)),
+        Err(MuxStop::WriteFailed) => Err(files.stop(port)),
+        // The schedule and the leaves are long enough.
         Err(MuxStop::NoFrame { .. }) => unreachable!(),
         Err(MuxStop::Ended { .. }) => unreachable!(),
-        Err(MuxStop::ReadFailed) => unreachable!(),
-        Err(MuxStop::WriteFailed) => unreachable!(),
     }
 }
 
-// The bytes of the line, whole frames up to the first event.
-fn make(
-    alloc: Global,
-    chain: Chain,
-    clock: &Schedule,
-    frames: u64,
-    feac: Option<u8>,
-    leaves: Vec<Packed>,
-) -> Result<Made, AllocError>
-    requires levels { clock.now.levels ≡ levels_of chain }
-    requires frames { frames ≡ frames_in clock.now.rows }
+// Makes the line, where no step refuses the inputs.
+fn make<S: Shelf>(alloc: Global, chain: Chain, plan: &Plan, feac: Option<u8>, shelf: S) -> Ended<S>
+    requires plan { IsPlanned chain plan.now (S.state shelf) }
     requires code { IfSome feac (λ code. code < 64) }
-    requires few { frames ≤ most_frames }
-    requires scheduled { short_node chain clock.now.rows ≡ None }
-    requires count { length leaves.items ≡ leaves_of chain }
-    requires long { (k : ℕ) (d : BoundedBits) → k < leaves_of chain → bits_needed chain clock.now.rows k ≤ length (slice_index_or leaves.items k d).bits }
-    ensures { IfOk result (IsMade chain feac clock.now.rows leaves.items) }
+    ensures { (a : ShelfState) → Looks a (S.state shelf) → (S.state shelf).counts ≡ a.counts
+        → Performs (Mux chain feac) a (S.state result.shelf) result.answer }
 {
-    let bits = 8 * frames as usize * frame_bytes(chain) as usize;
-    let mut port = port_for(alloc, leaves, bits)?;
-    let end = send(alloc, chain, clock, frames, feac, &mut port)?;
-    let bytes = port.output(0).to_bytes(alloc)?;
-    Ok(Made { bytes, end })
+    let Ok(files) = port_files(alloc, chain, plan) else {
+        return Ended::new(shelf, Err(Stop::Memory));
+    };
+    match files.open(alloc, shelf) {
+        Ok(mut port) => {
+            let answer = send(alloc, chain, plan, feac, &files, &mut port);
+            Ended::new(port.close(), answer)
+        }
+        Err(none) => Ended::new(none.shelf, Err(Stop::Memory)),
+    }
 }
 
 /// Reads the schedule and the leaves, makes the line, writes its whole frames up to the first event,
 /// and answers the number of frames. The line sends a code over the far end alarm and control channel
 /// of its top, where one is asked for.
-pub fn mux<S: Shelf>(
-    alloc: Global,
-    chain: Chain,
-    feac: Option<u8>,
-    shelf: &mut S,
-) -> Result<Done, Stop>
+pub fn mux<S: Shelf>(alloc: Global, chain: Chain, feac: Option<u8>, mut shelf: S) -> Ended<S>
     requires code { IfSome feac (λ code. code < 64) }
-    ensures { Performs (Mux chain feac) (S.state shelf.old) (S.state shelf.new) result }
+    ensures { Performs (Mux chain feac) (S.state shelf) (S.state result.shelf) result.answer }
 {
-    let sizes = read_sizes(chain, shelf)?;
-    let clock = read_schedule(alloc, chain, shelf, sizes.schedule)?;
-    let frames = frames(chain, &clock, &sizes)?;
-    let leaves = read_leaves(alloc, chain, shelf, &sizes)?;
-    let made = make(alloc, chain, &clock, frames, feac, leaves)?;
-    start(shelf, File::Line)?;
-    append(shelf, File::Line, &made.bytes)?;
-    match made.end {
-        None => Ok(Done::Muxed(chain, frames)),
-        Some(stop) => Err(stop),
+    match read_plan(alloc, chain, &mut shelf) {
+        Ok(plan) => make(alloc, chain, &plan, feac, shelf),
+        Err(stop) => Ended::new(shelf, Err(stop)),
     }
 }

@@ -15,6 +15,7 @@ use crate::drill::drill;
 use crate::e1::{e1pack, e1unpack};
 use crate::inspect::{inspect, inspect_e1};
 use crate::mux::mux;
+use crate::port::Ended;
 use crate::report::report;
 use crate::show::show;
 use pdh_edge::{Shelf, Sink};
@@ -34,35 +35,47 @@ pub struct Ran<S, K> {
 fn answer<S: Shelf>(
     alloc: Global,
     words: &[String],
-    shelf: &mut S,
+    mut shelf: S,
     monitors: &mut Vec<Box<dyn Monitor>>,
-) -> Result<Done, Stop>
-    ensures does { Does (command_of (map string_bytes words.now)) (S.state shelf.old) (S.state shelf.new) result }
-    ensures watches { Watches (command_of (map string_bytes words.now)) (S.state shelf.old) result (map ⟦<Box<dyn Monitor> as Monitor>⟧.state monitors.old.items) (map ⟦<Box<dyn Monitor> as Monitor>⟧.state monitors.new.items) }
+) -> Ended<S>
+    ensures does { Does (command_of (map string_bytes words.now)) (S.state shelf) (S.state result.shelf) result.answer }
+    ensures watches { Watches (command_of (map string_bytes words.now)) (S.state shelf) (S.state result.shelf) result.answer (map ⟦<Box<dyn Monitor> as Monitor>⟧.state monitors.old.items) (map ⟦<Box<dyn Monitor> as Monitor>⟧.state monitors.new.items) }
 {
     let Some(command) = command(words) else {
-        return Err(Stop::Usage);
+        return Ended::new(shelf, Err(Stop::Usage));
     };
     match command {
         Command::Demux { chain, bits } => demux(alloc, chain, bits, shelf),
         Command::Mux { chain, feac } => mux(alloc, chain, feac, shelf),
-        Command::ClockCheck { chain } => check(alloc, chain, shelf),
+        Command::Inspect { chain, bits } => inspect(alloc, chain, bits, shelf, monitors),
+        Command::InspectE1 => inspect_e1(alloc, shelf, monitors),
+        Command::Show { chain, frame } => show(alloc, chain, frame, shelf),
+        Command::Disturb { chain } => disturb(alloc, chain, shelf),
+        Command::ClockCheck { chain } => {
+            let answer = check(alloc, chain, &mut shelf);
+            Ended::new(shelf, answer)
+        }
         Command::ClockMake {
             chain,
             frames,
             bias,
-        } => make(alloc, chain, frames, bias, shelf),
-        Command::Inspect { chain, bits } => inspect(alloc, chain, bits, shelf, monitors),
-        Command::InspectE1 => inspect_e1(alloc, shelf, monitors),
-        Command::Show { chain, frame } => show(alloc, chain, frame, shelf),
-        Command::E1Pack => e1pack(alloc, shelf),
-        Command::E1Unpack => e1unpack(alloc, shelf),
-        Command::Disturb { chain } => disturb(alloc, chain, shelf),
+        } => {
+            let answer = make(alloc, chain, frames, bias, &mut shelf);
+            Ended::new(shelf, answer)
+        }
+        Command::E1Pack => {
+            let answer = e1pack(alloc, &mut shelf);
+            Ended::new(shelf, answer)
+        }
+        Command::E1Unpack => {
+            let answer = e1unpack(alloc, &mut shelf);
+            Ended::new(shelf, answer)
+        }
         Command::Drill {
             chain,
             seed,
             frames,
-        } => drill(alloc, chain, seed, frames),
+        } => Ended::new(shelf, drill(alloc, chain, seed, frames)),
     }
 }
 
@@ -82,7 +95,7 @@ fn answer<S: Shelf>(
 pub fn run<S: Shelf, K: Sink>(
     alloc: Global,
     words: &[String],
-    mut shelf: S,
+    shelf: S,
     mut out: K,
     monitors: &mut Vec<Box<dyn Monitor>>,
 ) -> Ran<S, K>
@@ -100,7 +113,11 @@ pub fn run<S: Shelf, K: Sink>(
     // The same as the first, said of inputs that are told and of a shelf without faults.
     ensures completes { Completes (command_of (map string_bytes words.now)) (S.state shelf) (S.state result.shelf) (K.state out) (K.state result.out) (map ⟦<Box<dyn Monitor> as Monitor>⟧.state monitors.new.items) result.status }
 {
-    let answer = answer(alloc, words, &mut shelf, monitors);
-    let status = report(&mut out, answer, monitors);
-    Ran { status, shelf, out }
+    let ended = answer(alloc, words, shelf, monitors);
+    let status = report(&mut out, ended.answer, monitors);
+    Ran {
+        status,
+        shelf: ended.shelf,
+        out,
+    }
 }

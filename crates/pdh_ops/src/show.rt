@@ -1,30 +1,32 @@
-ghost use Rattle.std.specs.Prelude.{◌≡◌, ◌≤◌, IfOk, IfErr, Some, Ok};
-ghost use Rattle.pdh_edge.specs.Files.{Looks, Holds};
+ghost use Rattle.std.specs.Prelude.{◌≡◌, ◌≤◌, ◌*◌, [], ◌∷◌, OnOk, IfErr, true};
+ghost use Rattle.pdh_edge.specs.Files.{ShelfState, Looks};
+ghost use Rattle.pdh_blocks.specs.State.{over};
+ghost use Rattle.pdh_blocks.specs.Lists.{inputs_of};
 ghost use Rattle.pdh_words.specs.declared.commands.Command.TheVariants.{Show};
-ghost use Rattle.pdh_ops.specs.Names.{line_name};
-ghost use Rattle.pdh_ops.specs.Inspect.{line_to_show};
+ghost use Rattle.pdh_ops.specs.PortFiles.{HasFiles};
+ghost use Rattle.pdh_ops.specs.Inspect.{bytes_upto};
+ghost use Rattle.pdh_ops.specs.Steps.{HasLine};
+ghost use Rattle.pdh_ops.specs.ShowSteps.{HasFrame, IsShowPort};
 ghost use Rattle.pdh_ops.specs.Refusing.{Refuses};
 ghost use Rattle.pdh_ops.specs.Run.{IsCounted, Performs};
+ghost use Rattle.pdh_ops.specs.declared.file.File.TheVariants.{Line};
 
 use crate::answer::{Done, FrameText, Stop};
 use crate::file::File;
-use crate::files::{read, size};
+use crate::files::size;
+use crate::port::{Ended, Input, PortFiles};
+use pdh_blocks::ShelfPort;
 use pdh_chain::{Chain, frame_bytes};
 use pdh_edge::Shelf;
 use pdh_shape::MOST_FRAMES;
+use pdh_show::ShowStop;
 use std::alloc::Global;
 
-// The bytes of the line, if it has no more frames than a line may have, and this frame whole.
-fn read_line_to_show<S: Shelf>(
-    alloc: Global,
-    chain: Chain,
-    frame: u64,
-    shelf: &mut S,
-) -> Result<Vec<u8>, Stop>
+// Checks that the line has no more frames than a line may have, and this frame whole.
+fn judge<S: Shelf>(chain: Chain, frame: u64, shelf: &mut S) -> Result<(), Stop>
     requires { frame ≤ 999999999 }
     ensures looks { Looks (S.state shelf.old) (S.state shelf.new) }
-    ensures line { IfOk result (λ line. Holds ((S.state shelf.old).told line_name) line.items) }
-    ensures served { IfOk result (λ line. line_to_show chain frame (Some line.items) ≡ Ok line.items) }
+    ensures ok { OnOk result (HasFrame chain frame (S.state shelf.new)) }
     ensures err { IfErr result (Refuses (Show chain frame) (S.state shelf.old) (S.state shelf.new)) }
     ensures counted { IsCounted (S.state shelf.old) (S.state shelf.new) result }
 {
@@ -38,17 +40,63 @@ fn read_line_to_show<S: Shelf>(
     if bytes < need {
         return Err(Stop::Short(File::Line, 8 * bytes, 8 * need));
     }
-    read(alloc, shelf, File::Line, bytes)
+    Ok(())
 }
 
-/// Reads the line, and answers the text of one of its frames, whatever the alignment.
-pub fn show<S: Shelf>(alloc: Global, chain: Chain, frame: u64, shelf: &mut S) -> Result<Done, Stop>
-    requires { frame ≤ 999999999 }
-    ensures { Performs (Show chain frame) (S.state shelf.old) (S.state shelf.new) result }
+// Shows the frame behind so many frames of the line.
+fn text<S: Shelf>(
+    alloc: Global,
+    chain: Chain,
+    frame: u64,
+    files: &PortFiles,
+    port: &mut ShelfPort<S>,
+) -> Result<Done, Stop>
+    requires known { frame ≤ 999999999 }
+    requires inputs { files.now.inputs.items ≡ record { file = Line; bits = 8 * bytes_upto chain frame } ∷ [] }
+    requires files { HasFiles files.now.inputs.items files.now.outputs.items (over (S.state port.old.shelf) port.old.blocks) }
+    requires line { HasLine (8 * bytes_upto chain frame) (inputs_of (over (S.state port.old.shelf) port.old.blocks)) }
+    requires fresh { port.old.blocks.fresh ≡ true }
+    ensures { (a : ShelfState) → IsShowPort chain frame a (over (S.state port.old.shelf) port.old.blocks)
+        → Performs (Show chain frame) a (S.state port.new.shelf) result }
 {
-    let line = read_line_to_show(alloc, chain, frame, shelf)?;
-    let bytes = frame_bytes(chain) as usize;
-    let start = frame as usize * bytes;
-    let text = pdh_show::show(alloc, chain, frame as u32, &line[start..start + bytes])?;
-    Ok(Done::Shown(FrameText::new(text)))
+    match pdh_show::show(alloc, chain, frame as u32, port) {
+        Ok(text) => Ok(Done::Shown(FrameText::new(text))),
+        Err(ShowStop::Memory) => Err(Stop::Memory),
+        Err(ShowStop::Failed) => Err(files.stop(port)),
+    }
+}
+
+// Shows a frame, where no step refuses the line.
+fn show_frame<S: Shelf>(alloc: Global, chain: Chain, frame: u64, shelf: S) -> Ended<S>
+    requires known { frame ≤ 999999999 }
+    requires long { HasFrame chain frame (S.state shelf) }
+    ensures { (a : ShelfState) → Looks a (S.state shelf) → (S.state shelf).counts ≡ a.counts
+        → Performs (Show chain frame) a (S.state result.shelf) result.answer }
+{
+    let bytes = (frame + 1) * u64::from(frame_bytes(chain));
+    let line = Input {
+        file: File::Line,
+        bits: 8 * bytes,
+    };
+    let Ok(files) = PortFiles::line(alloc, line) else {
+        return Ended::new(shelf, Err(Stop::Memory));
+    };
+    match files.open(alloc, shelf) {
+        Ok(mut port) => {
+            let answer = text(alloc, chain, frame, &files, &mut port);
+            Ended::new(port.close(), answer)
+        }
+        Err(none) => Ended::new(none.shelf, Err(Stop::Memory)),
+    }
+}
+
+/// Reads the line up to the end of one of its frames, and answers the text of that frame, whatever the alignment.
+pub fn show<S: Shelf>(alloc: Global, chain: Chain, frame: u64, mut shelf: S) -> Ended<S>
+    requires { frame ≤ 999999999 }
+    ensures { Performs (Show chain frame) (S.state shelf) (S.state result.shelf) result.answer }
+{
+    match judge(chain, frame, &mut shelf) {
+        Ok(()) => show_frame(alloc, chain, frame, shelf),
+        Err(stop) => Ended::new(shelf, Err(stop)),
+    }
 }

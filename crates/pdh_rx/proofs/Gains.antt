@@ -1,8 +1,7 @@
 -- Calls that follow each other in giving bits to the children.
 use Rattle.std.proofs.Common.{min, ◌-◌, ◌^◌, zero, suc, length, cond, slice_get, arith, ◌≡◌, ℕ, ◌+◌, ◌<◌, ◌≤◌, Bool, List, [], ◌∷◌, ◌++◌, refl, sym, ◌∙◌, ap, subst, append_assoc, Option, Some, None, Result, Ok, Err, OnOk, OnErr}
 use Rattle.std.proofs.lemmas.List.{append-nil}
-use Rattle.pdh_edge.specs.Files.{Rose}
-use Rattle.pdh_edge.specs.Ports.{Outputs, PrefixOf, IsPrefix, HasCause, after, nothing}
+use Rattle.pdh_edge.specs.Ports.{Outputs, PrefixOf, IsPrefix, after, nothing}
 use Rattle.pdh_rx.specs.Meaning.{Meaning, Gains, GainsPart}
 use Rattle.pdh_events.specs.Acts.{with_more}
 use Rattle.pdh_rx.specs.Node.{EachStands, got_by, Gives, GivesPart}
@@ -23,13 +22,6 @@ on_err_both P Q (Err e) p q = (p, q)
 pub on_ok_both : {T E : Type 0} (P Q : Type 0) (r : Result T E) → OnOk r P → OnOk r Q → OnOk r (P × Q)
 on_ok_both P Q (Ok x) p q = (p, q)
 on_ok_both P Q (Err e) p q = tt
-
-rose_after : (a b c most : ℕ) → a ≤ b → min (b + 1) most ≤ c → min (a + 1) most ≤ c
-rose_after a b c most h r = omega arith
-
--- a failed call is the cause of what it ends
-pub cause_since : {T E : Type 0} (r : Result T E) (a b c : ℕ) → a ≤ b → b ≤ c → Rose b c → HasCause a c r
-cause_since r a b c less later rose = record { later = omega (arith, less, later); failed = on_err_from (Rose a c) r (rose_after a b c (2 ^ 64 - 1) less rose) }
 
 after_join : (x y : List Bool) (o : Option (List Bool)) → after y (after x o) ≡ after (x ++ y) o
 after_join x y None = refl

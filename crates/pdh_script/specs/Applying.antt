@@ -1,5 +1,6 @@
 -- What a script takes of a port and puts to it.
-use Rattle.std.specs.Prelude.{◌≡◌, ⊤, ℕ, ◌<◌, ◌≤◌, Bool, List, length, Result, Ok, Err}
+use Rattle.std.specs.Prelude.{◌≡◌, ℕ, ◌<◌, ◌≤◌, ◌⊎◌, Bool, List, length, Result, Ok, Err}
+use Rattle.pdh_edge.specs.Counts.{one_more}
 use Rattle.pdh_edge.specs.Files.{Rose}
 use Rattle.pdh_edge.specs.Ports.{Inputs, Outputs, Takes, Puts, PutsPart, IsPrefix, for_leaf}
 use Rattle.pdh_edge.specs.declared.port.FeedStop.{FeedStop}
@@ -47,11 +48,29 @@ abbrev pub IsApplyStop : List Row → ℕ → Inputs → Inputs → Outputs → 
 IsApplyStop rows bits inputs inputs_now outputs outputs_now reads reads_now writes writes_now stop =
     IsPassStop (λ line. disturbed line rows) bits inputs inputs_now outputs outputs_now reads reads_now writes writes_now stop
 
--- the port is ready, unless a call that puts bits failed
-abbrev pub IsLeftReady : Type 0 → Result Unit ApplyStop → Type 0
-IsLeftReady ready (Ok done) = ready
-IsLeftReady ready (Err WriteFailed) = ⊤
-IsLeftReady ready (Err stop) = ready
+-- the port is ready, unless it refused to be started
+abbrev pub IsLeftReady : (ready refused : Type 0) → Result Unit ApplyStop → Type 0
+IsLeftReady ready refused (Ok done) = ready
+IsLeftReady ready refused (Err WriteFailed) = ready ⊎ refused
+IsLeftReady ready refused (Err stop) = ready
+
+-- the counts of the port's failed reads and failed writes: the call of the port that ended it was counted once, and nothing
+-- else was
+abbrev pub reads_at_stop : ApplyStop → ℕ → ℕ
+reads_at_stop ReadFailed faults = one_more faults
+reads_at_stop stop faults = faults
+
+abbrev pub writes_at_stop : ApplyStop → ℕ → ℕ
+writes_at_stop WriteFailed faults = one_more faults
+writes_at_stop stop faults = faults
+
+abbrev pub apply_reads : {T : Type 0} → Result T ApplyStop → ℕ → ℕ
+apply_reads (Ok done) faults = faults
+apply_reads (Err stop) faults = reads_at_stop stop faults
+
+abbrev pub apply_writes : {T : Type 0} → Result T ApplyStop → ℕ → ℕ
+apply_writes (Ok done) faults = faults
+apply_writes (Err stop) faults = writes_at_stop stop faults
 
 -- how a call for bits ends `apply`
 abbrev pub feed_stop : FeedStop → ApplyStop

@@ -41,6 +41,12 @@ abbrev pub count_added : Edit → ℕ
 count_added (edits.Alter effect bits) = 0
 count_added (edits.Add count) = count
 
+-- how many bits of the line are left out
+abbrev pub count_dropped : Edit → ℕ
+count_dropped (edits.Alter effects.Drop bits) = bits
+count_dropped (edits.Alter effect bits) = 0
+count_dropped (edits.Add count) = 0
+
 abbrev pub row_in : Step → List ℕ → Row
 row_in step bytes = record { at = step.at; change = change_in step.edit bytes }
 

@@ -4,7 +4,7 @@ ghost use Rattle.std.specs.Prelude.{◌≡◌, ◌<◌, ◌≤◌, length, OnOk,
 ghost use Rattle.pdh_bits.specs.Bits.{bits_of};
 ghost use Rattle.pdh_script.specs.Scripts.{altered, bits_changed, FitIn};
 ghost use Rattle.pdh_script.specs.Stored.{becomes, change_in, count_added, rows_in, steps_add};
-ghost use Rattle.pdh_script.specs.Applying.{Passes, IsPassStop, Applies, IsApplyStop};
+ghost use Rattle.pdh_script.specs.Applying.{Passes, IsPassStop, Applies, IsApplyStop, apply_reads, apply_writes};
 
 use crate::step::{Edit, Effect, Step};
 use crate::stop::ApplyStop;
@@ -47,6 +47,8 @@ fn pass<P: Port>(
     requires out { IsTrue ((P.outputs port.old).holds 0) }
     ensures capacity { buffer.new.capacity ≡ buffer.old.capacity }
     ensures kept { P.kept port.old port.new }
+    ensures reads { P.feed_faults port.new ≡ apply_reads result (P.feed_faults port.old) }
+    ensures writes { P.drain_faults port.new ≡ apply_writes result (P.drain_faults port.old) }
     ensures ok { OnOk result (Passes (becomes effect) bits
         (P.inputs port.old) (P.inputs port.new) (P.outputs port.old) (P.outputs port.new)) }
     ensures err { IfErr result (IsPassStop (becomes effect) bits
@@ -72,6 +74,8 @@ fn put_bytes<P: Port>(bytes: &[u8], buffer: &mut Packed, port: &mut P) -> Result
     requires out { IsTrue ((P.outputs port.old).holds 0) }
     ensures capacity { buffer.new.capacity ≡ buffer.old.capacity }
     ensures kept { P.kept port.old port.new }
+    ensures reads { P.feed_faults port.new ≡ apply_reads result (P.feed_faults port.old) }
+    ensures writes { P.drain_faults port.new ≡ apply_writes result (P.drain_faults port.old) }
     ensures ok { OnOk result (Passes (λ line. bits_of bytes.now) 0
         (P.inputs port.old) (P.inputs port.new) (P.outputs port.old) (P.outputs port.new)) }
     ensures err { IfErr result (IsPassStop (λ line. bits_of bytes.now) 0
@@ -104,6 +108,8 @@ fn make_change<P: Port>(
     requires out { IsTrue ((P.outputs port.old).holds 0) }
     ensures capacity { buffer.new.capacity ≡ buffer.old.capacity }
     ensures kept { P.kept port.old port.new }
+    ensures reads { P.feed_faults port.new ≡ apply_reads result (P.feed_faults port.old) }
+    ensures writes { P.drain_faults port.new ≡ apply_writes result (P.drain_faults port.old) }
     ensures ok { let change = change_in edit added.now in OnOk result (Passes (altered change) (bits_changed change)
         (P.inputs port.old) (P.inputs port.new) (P.outputs port.old) (P.outputs port.new)) }
     ensures err { let change = change_in edit added.now in IfErr result (IsPassStop (altered change) (bits_changed change)
@@ -131,6 +137,8 @@ pub fn disturb<P: Port>(
     requires line { IsTrue ((P.inputs port.old).holds 0) }
     requires out { IsTrue ((P.outputs port.old).holds 0) }
     ensures kept { P.kept port.old port.new }
+    ensures reads { P.feed_faults port.new ≡ apply_reads result (P.feed_faults port.old) }
+    ensures writes { P.drain_faults port.new ≡ apply_writes result (P.drain_faults port.old) }
     ensures ok { OnOk result (Applies (rows_in steps.now bytes.now) bits
         (P.inputs port.old) (P.inputs port.new) (P.outputs port.old) (P.outputs port.new)) }
     ensures err { IfErr result (IsApplyStop (rows_in steps.now bytes.now) bits

@@ -32,10 +32,10 @@ impl Model for Script {
 }
 
 impl Script {
-    ghost use Rattle.std.specs.Prelude.{◌≡◌, ◌≤◌, IfOk, IfErr, OnOk, IsTrue};
-    ghost use Rattle.pdh_script.specs.Scripts.{FitIn, bytes_added};
+    ghost use Rattle.std.specs.Prelude.{◌≡◌, ◌≤◌, ◌<◌, ◌^◌, Bool, List, length, IfOk, IfErr, OnOk, IsTrue};
+    ghost use Rattle.pdh_script.specs.Scripts.{FitIn, bytes_added, disturbed};
     ghost use Rattle.pdh_script.specs.ScriptText.{Gives, script_of};
-    ghost use Rattle.pdh_script.specs.Applying.{Applies, IsApplyStop, IsLeftReady};
+    ghost use Rattle.pdh_script.specs.Applying.{Applies, IsApplyStop, IsLeftReady, apply_reads, apply_writes};
 
     /// Reads a script's text for a line of so many bits. Faults are those of the first line that has one, and memory may
     /// run out besides.
@@ -61,6 +61,19 @@ impl Script {
         self.rows.added.len() as u64
     }
 
+    /// How many bits come of a line of so many, as the script was read for.
+    pub fn bits_of(&self, bits: u64) -> u64
+        requires fit { FitIn bits self.now }
+        requires few { bits < 2 ^ 63 }
+        ensures { (line : List Bool) → length line ≡ bits → result ≡ length (disturbed line self.now) }
+    {
+        let mut dropped = 0;
+        for step in self.rows.steps.iter() {
+            dropped += u64::from(step.edit.dropped());
+        }
+        bits - dropped + 8 * self.added_bytes()
+    }
+
     /// Takes a line of so many bits, as the script was read for, from the port's list 0, and puts the disturbed line to its
     /// list 0. The port is fresh, and is started first. Where the line has fewer bits or a call fails, what was put is a part
     /// of the disturbed line from its beginning on. No memory is taken.
@@ -70,7 +83,9 @@ impl Script {
         requires line { IsTrue ((P.inputs port.old).holds 0) }
         requires out { IsTrue ((P.outputs port.old).holds 0) }
         ensures kept { P.kept port.old port.new }
-        ensures ready { IsLeftReady (P.ready port.new) result }
+        ensures reads { P.feed_faults port.new ≡ apply_reads result (P.feed_faults port.old) }
+        ensures writes { P.drain_faults port.new ≡ apply_writes result (P.drain_faults port.old) }
+        ensures ready { IsLeftReady (P.ready port.new) (P.refused port.new) result }
         ensures ok { OnOk result (Applies self.now bits
             (P.inputs port.old) (P.inputs port.new) (P.outputs port.old) (P.outputs port.new)) }
         ensures err { IfErr result (IsApplyStop self.now bits

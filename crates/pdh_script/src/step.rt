@@ -2,7 +2,7 @@
 
 ghost use Rattle.std.specs.Prelude.{◌≡◌, ℕ, List};
 ghost use Rattle.pdh_script.specs.Scripts.{bits_changed, end_of};
-ghost use Rattle.pdh_script.specs.Stored.{change_in, count_added, row_in};
+ghost use Rattle.pdh_script.specs.Stored.{change_in, count_added, count_dropped, row_in};
 
 /// What becomes of bits of the line.
 #[derive(Clone, Copy)]
@@ -41,6 +41,19 @@ impl Edit {
         match *self {
             Edit::Alter { .. } => 0,
             Edit::Add { bytes } => bytes as usize,
+        }
+    }
+
+    /// How many bits of the line it leaves out.
+    pub fn dropped(&self) -> u32
+        ensures { result ≡ count_dropped self.now }
+    {
+        match *self {
+            Edit::Alter {
+                effect: Effect::Drop,
+                bits,
+            } => bits,
+            _ => 0,
         }
     }
 

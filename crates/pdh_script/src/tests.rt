@@ -126,6 +126,14 @@ fn disturbs_a_line_of_many_words(rt: HostRuntime) -> Result<(), Fail> {
 }
 
 #[test]
+fn counts_the_bits_of_a_disturbed_line(rt: HostRuntime) -> Result<(), Fail> {
+    let text = "flip 1 2\ndrop 3 4\nadd 8 a5\n";
+    let script = Script::read(rt.alloc(), text.as_bytes(), 8)?;
+    assert_eq!(rt; script.bits_of(8), 12);
+    Ok(())
+}
+
+#[test]
 fn names_faults(rt: HostRuntime) -> Result<(), Fail> {
     let rows = [
         (ScriptFault::TooLong { len: 1_048_577 }, "too long"),

@@ -1,31 +1,44 @@
-ghost use Rattle.std.specs.Prelude.{◌≡◌, length, IfOk};
+ghost use Rattle.std.specs.Prelude.{◌≡◌, ◌≤◌, ◌*◌, suc, IsTrue, IfOk, Err};
 ghost use Rattle.pdh_chain.specs.Chains.{frame_bytes_of};
-ghost use Rattle.pdh_show.specs.Shown.{shown};
+ghost use Rattle.pdh_show.specs.Showing.{Shows, faults_shown};
+ghost use Rattle.pdh_show.specs.declared.stop.ShowStop.TheVariants.{Memory};
 
 use crate::frame::shown_as;
+use crate::stop::ShowStop;
 use pdh_chain::Chain;
 use pdh_ds::{Ds2, Ds3, Ds3C};
+use pdh_edge::Feed;
 use pdh_shape::{E2, E3, E4};
-use std::alloc::{AllocError, Global};
+use std::alloc::Global;
 
-/// The text that shows a frame of a chain's top, by its number and its bytes: whether its alignment signal is right, for
-/// each tributary the copies of its justification control and how many bits of it the frame carries, and the bytes in
-/// hexadecimal. Or it finds no memory.
-pub fn show(alloc: Global, chain: Chain, number: u32, frame: &[u8]) -> Result<Vec<u8>, AllocError>
-    requires { length frame.now ≡ frame_bytes_of chain }
-    ensures { IfOk result (λ text. text.items ≡ shown chain number frame.now) }
+/// The text that shows the frame of this number, counted from 0, of the top of a chain's line, which list 0 of a feed gives:
+/// whether its alignment signal is right, for each tributary the copies of its justification control and how many bits of it
+/// the frame carries, and the bytes in hexadecimal. It takes all its memory before the first bit, and then the frames up to
+/// this one.
+pub fn show<F: Feed>(
+    alloc: Global,
+    chain: Chain,
+    number: u32,
+    feed: &mut F,
+) -> Result<Vec<u8>, ShowStop>
+    requires held { IsTrue ((F.inputs feed.old).holds 0) }
+    requires long { suc number * (8 * frame_bytes_of chain) ≤ (F.inputs feed.old).left 0 }
+    ensures fed { F.fed feed.old feed.new }
+    ensures faults { F.feed_faults feed.new ≡ faults_shown result (F.feed_faults feed.old) }
+    ensures ok { IfOk result (λ text. Shows chain number text.items (F.inputs feed.old) (F.inputs feed.new)) }
+    ensures memory { result ≡ Err Memory → F.inputs feed.new ≡ F.inputs feed.old }
 {
     let name = chain.name();
     match chain {
-        Chain::E12 => shown_as::<E2>(alloc, name, number, frame),
-        Chain::E23 => shown_as::<E3>(alloc, name, number, frame),
-        Chain::E34 => shown_as::<E4>(alloc, name, number, frame),
-        Chain::E13 => shown_as::<E3>(alloc, name, number, frame),
-        Chain::E24 => shown_as::<E4>(alloc, name, number, frame),
-        Chain::E14 => shown_as::<E4>(alloc, name, number, frame),
-        Chain::M12 => shown_as::<Ds2>(alloc, name, number, frame),
-        Chain::M23 => shown_as::<Ds3>(alloc, name, number, frame),
-        Chain::M13 => shown_as::<Ds3>(alloc, name, number, frame),
-        Chain::C13 => shown_as::<Ds3C>(alloc, name, number, frame),
+        Chain::E12 => shown_as::<E2, F>(alloc, name, number, feed),
+        Chain::E23 => shown_as::<E3, F>(alloc, name, number, feed),
+        Chain::E34 => shown_as::<E4, F>(alloc, name, number, feed),
+        Chain::E13 => shown_as::<E3, F>(alloc, name, number, feed),
+        Chain::E24 => shown_as::<E4, F>(alloc, name, number, feed),
+        Chain::E14 => shown_as::<E4, F>(alloc, name, number, feed),
+        Chain::M12 => shown_as::<Ds2, F>(alloc, name, number, feed),
+        Chain::M23 => shown_as::<Ds3, F>(alloc, name, number, feed),
+        Chain::M13 => shown_as::<Ds3, F>(alloc, name, number, feed),
+        Chain::C13 => shown_as::<Ds3C, F>(alloc, name, number, feed),
     }
 }

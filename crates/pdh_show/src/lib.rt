@@ -4,8 +4,12 @@
 mod by_chain;
 mod frame;
 mod lines;
+mod reading;
 mod signal;
+mod stop;
 #[cfg(test)]
 mod tests;
+mod text;
 
 pub use by_chain::show;
+pub use stop::ShowStop;

@@ -10,7 +10,8 @@ use pdh_text::Text;
 #[tactic(auto, using(pdh_text::proofs::Lengths::digits))]
 pub fn signal_line(name: &str, number: u32, right: bool) -> Text
     requires short { length name.now ≤ 3 }
-    ensures { result ≡ ended (signal_line_of name.now number right) }
+    ensures text { result ≡ ended (signal_line_of name.now number right) }
+    ensures len { length result ≤ 320 }
 {
     let mut line = Text::new();
     line.text("show ");
@@ -79,7 +80,8 @@ fn carried<S: Shape>(tables: &SlotTables<S>, trib: u8, frame: &[bool]) -> u64
 pub fn tributary_line<S: Shape>(tables: &SlotTables<S>, trib: u8, frame: &[bool]) -> Text
     requires known { trib < S.TRIBS }
     requires whole { length frame.now ≡ S.LEN }
-    ensures { result ≡ ended (tributary_line_of S.shape frame.now trib) }
+    ensures text { result ≡ ended (tributary_line_of S.shape frame.now trib) }
+    ensures len { length result ≤ 320 }
 {
     let mut line = Text::new();
     line.text("tributary ");
@@ -94,7 +96,8 @@ pub fn tributary_line<S: Shape>(tables: &SlotTables<S>, trib: u8, frame: &[bool]
 /// A line of bytes in hexadecimal.
 pub fn bytes_line(bytes: &[u8]) -> Text
     requires { length bytes.now ≤ 16 }
-    ensures { result ≡ ended (encode_lower bytes.now) }
+    ensures text { result ≡ ended (encode_lower bytes.now) }
+    ensures len { length result ≤ 33 }
 {
     let mut line = Text::new();
     line.hex(bytes);

@@ -66,7 +66,7 @@ module _ {W : Type 0} (placed : W → Plan → ℕ → ℕ → Type 0) (held : W
     free = λ size fit. first_after (steps size) (next size) (first.free size fit) ∙ second.free size (moves_fit held meaning plan ms u v x y read a b size first.moves fit);
   }
 
-  pub blocked_join : (ms : List Meaning) (u v : List W) (x y most read : ℕ → ℕ) (steps next : (ℕ → ℕ) → List (Option TxStop)) (stop : TxStop) (a b c : Inputs) (f g h : ℕ) → f ≤ g
+  pub blocked_join : (ms : List Meaning) (u v : List W) (x y most read : ℕ → ℕ) (steps next : (ℕ → ℕ) → List (Option TxStop)) (stop : TxStop) (a b c : Inputs) (f g h : ℕ) → g ≡ f
       → Advance placed held ms plan u v x y read steps a b → Blocked ms plan y most next stop b c g h → Blocked ms plan x most (λ size. steps size ++ next size) stop a c f h
   blocked_join ms u v x y most read steps next stop a b c f g h less first second = record {
     stays = stays_join held meaning plan ms u v x y most read stop a b c first.moves second.stays;
@@ -80,7 +80,7 @@ module _ {W : Type 0} (placed : W → Plan → ℕ → ℕ → Type 0) (held : W
       → Blocked ms plan x most steps stop a b f g → Blocked ms plan x most all stop a b f g
   blocked_more ms x most steps next all stop a b f g is blocked = record {
     stays = blocked.stays;
-    met = met_weaker (AllFit ms plan x a) (AllFit ms plan x a) (λ size. first_some (steps size)) (λ size. first_some (all size)) stop f g f (omega arith) (λ size fit. fit)
+    met = met_weaker (AllFit ms plan x a) (AllFit ms plan x a) (λ size. first_some (steps size)) (λ size. first_some (all size)) stop f g f refl (λ size fit. fit)
         (λ size fit e. ap first_some (is size) ∙ first_here (steps size) (next size) stop e) blocked.met;
   }
 
@@ -167,7 +167,7 @@ module _ {W : Type 0} (placed : W → Plan → ℕ → ℕ → Type 0) (held : W
       advance_steps placed held meaning plan ms u w x z read (λ size. flat_map (f size) (range_with_len 0 i) ++ f size i) (λ size. flat_map (f size) (range_with_len 0 (suc i))) a c (λ size. flat_push (f size) i)
       (advance_join placed held meaning plan ms u v w x y z read (λ size. flat_map (f size) (range_with_len 0 i)) (λ size. f size i) a b c first second)
 
-  pub loop_stop : (ms : List Meaning) (u v : List W) (x y most read : ℕ → ℕ) (f : (ℕ → ℕ) → ℕ → List (Option TxStop)) (i n : ℕ) (stop : TxStop) (a b c : Inputs) (j k l : ℕ) → i < n → j ≤ k
+  pub loop_stop : (ms : List Meaning) (u v : List W) (x y most read : ℕ → ℕ) (f : (ℕ → ℕ) → ℕ → List (Option TxStop)) (i n : ℕ) (stop : TxStop) (a b c : Inputs) (j k l : ℕ) → i < n → k ≡ j
       → Advance placed held ms plan u v x y read (λ size. flat_map (f size) (range_with_len 0 i)) a b → Blocked ms plan y most (λ size. f size i) stop b c k l
       → Blocked ms plan x most (λ size. flat_map (f size) (range_with_len 0 n)) stop a c j l
   loop_stop ms u v x y most read f i n stop a b c j k l less later first second =

@@ -2,7 +2,7 @@
 use Rattle.std.proofs.Common.{◌≡◌, inl, inr, ◌<◌, ◌≤◌, ◌+◌, ℕ, suc, List, sym, ap, ◌∙◌, subst, arith, Some, None, slice_get}
 use Rattle.std.proofs.lemmas.Bool.{cases_Bool}
 use Rattle.std.proofs.lemmas.List.{length-map}
-use Rattle.pdh_edge.specs.Files.{Rose}
+use Rattle.pdh_edge.specs.Counts.{one_more}
 use Rattle.pdh_edge.specs.Ports.{Inputs}
 use Rattle.pdh_shape.specs.declared.shape.Shape as shape
 use Rattle.pdh_shape.specs.Frame.{FrameShape, IsFrame}
@@ -25,6 +25,7 @@ use Rattle.pdh_tx.proofs.Moving.{inside, fit_one, moves_fit, stays_join}
 use Rattle.pdh_tx.proofs.PassingAll.{upto_past, came_grows}
 use Rattle.pdh_tx.proofs.Clearing.{beginning_clear, piece_clear, piece_few, piece_enough}
 use Rattle.pdh_tx.proofs.PieceSteps.{came_first, read_first, stays_more}
+use Rattle.pdh_tx.proofs.TributarySteps.{faults_failed}
 
 no : {stop : TxStop} → None ≡ Some stop → ⊥
 no h = cc
@@ -104,12 +105,12 @@ module _ {S C : Type 0} {shape : shape.Ghosts S} {tx : Ghosts C} (frame : IsFram
         blocked.stays
 
     -- which was a fault, since nothing else does
-    pub begin_rose : 0 < at.len → IsClearFor ts plan at a → Rose f g
-    begin_rose some clear =
+    pub begin_failed : 0 < at.len → IsClearFor ts plan at a → g ≡ one_more f
+    begin_failed some clear =
         let zero : t + 0 ≡ t = omega arith in
         let P : ℕ → Type 0 = λ k. first_some (steps s at.path plan (meanings ts) clear.size n k) ≡ None in
         let none = beginning_clear s at.path plan (meanings ts) clear.size n t (subst P zero (clear.clear 0 some)) in
         elim (cases_Bool (is_failed stop)) [
-          | inl failed ↦ blocked.met.rose failed
+          | inl failed ↦ blocked.met.counted ∙ faults_failed stop f failed
           | inr other ↦ absurd (no (sym none ∙ blocked.met.is_first other clear.size clear.fits))
         ]

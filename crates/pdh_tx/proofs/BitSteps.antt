@@ -18,6 +18,7 @@ use Rattle.pdh_tx.specs.laws.Growing.{given_more}
 use Rattle.pdh_tx.proofs.Firsts.{first_after, first_of}
 use Rattle.pdh_tx.proofs.Advancing.{advance_join, blocked_join, blocked_more}
 use Rattle.pdh_tx.proofs.FrameStarts.{advance_change, started, ended}
+use Rattle.pdh_tx.proofs.TributarySteps.{faults_unmet}
 
 module _ {W : Type 0} (placed : W → Plan → ℕ → ℕ → Type 0) (held : W → Supply → ℕ → ℕ → Type 0) (meaning : W → Meaning) (share : W → FrameShare) (plan : Plan) (s : FrameShape) (path : Path) where
   abbrev came : ℕ → ℕ → ℕ → ℕ
@@ -48,7 +49,7 @@ module _ {W : Type 0} (placed : W → Plan → ℕ → ℕ → Type 0) (held : W
       (λ k. given_more meaning plan u (came_to s path plan n t 0) (came n (suc t)) k grows (λ j. (let e = started placed held meaning plan s path n t j in let h = came_before_grows s (plan.counts path j) n t frame in omega (arith, e, h))))
       blocked)
 
-  pub arrival_stops : (ms : List Meaning) (u v : List W) (n t : ℕ) (stop : TxStop) (a b c : Inputs) (f g h : ℕ) → f ≤ g
+  pub arrival_stops : (ms : List Meaning) (u v : List W) (n t : ℕ) (stop : TxStop) (a b c : Inputs) (f g h : ℕ) → g ≡ f
       → Advance placed held ms plan u v (taken_to s path plan n t) (came_to s path plan n t 0) (read_to s path plan n t) (λ size. beginning s path plan ms size n t) a b
       → Blocked ms plan (came_to s path plan n t 0) (λ j. came_before s (plan.counts path j) n (suc t)) (λ size. arrivals s path plan ms size n t) stop b c g h
       → Blocked ms plan (taken_to s path plan n t) (λ j. came_before s (plan.counts path j) n (suc t)) (λ size. steps s path plan ms size n t) stop a c f h
@@ -68,11 +69,11 @@ module _ {W : Type 0} (placed : W → Plan → ℕ → ℕ → Type 0) (held : W
       (λ j. refl) (λ j h. ended placed held meaning plan s path n t s.tribs j (omega (arith, h, all))) (λ j. refl) (λ size e. e)
       (advance_join placed held meaning plan ms u v w (taken_to s path plan n t) (came_to s path plan n t 0) (came_to s path plan n t s.tribs) (read_to s path plan n t) (λ size. beginning s path plan ms size n t) (λ size. arrivals s path plan ms size n t) a b c first second)
 
-  pub read_stops : (ms : List Meaning) (u w : List W) (n t : ℕ) (stop : TxStop) (a c : Inputs) (f g : ℕ)
+  pub read_stops : (ms : List Meaning) (u w : List W) (n t : ℕ) (stop : TxStop) (a c : Inputs) (f g : ℕ) → g ≡ f
       → Advance placed held ms plan u w (taken_to s path plan n t) (λ j. came_before s (plan.counts path j) n (suc t)) (read_to s path plan n t) (λ size. beginning s path plan ms size n t ++ arrivals s path plan ms size n t) a c
       → is_failed stop ≡ false → first_some (reads s path plan n t) ≡ Some stop
       → Blocked ms plan (taken_to s path plan n t) (λ j. came_before s (plan.counts path j) n (suc t)) (λ size. steps s path plan ms size n t) stop a c f g
-  read_stops ms u w n t stop a c f g advance other read = record {
+  read_stops ms u w n t stop a c f g same advance other read = record {
     stays = record {
       given = advance.moves.given;
       takes = advance.moves.takes;
@@ -81,15 +82,12 @@ module _ {W : Type 0} (placed : W → Plan → ℕ → ℕ → Type 0) (held : W
       used_up = first_of (λ v. IsUsedUp v c) (λ j. underflows s j (plan.counts path j) n t) (λ j. Underflow (place_at path j n t)) (range_with_len 0 s.tribs) stop (λ j. tt) read;
     };
     met = record {
-      rose = λ h. absurd (differ (sym other ∙ h));
+      counted = same ∙ sym (faults_unmet stop f other);
       is_first = λ h size fit.
           ap first_some (sym (append_assoc (beginning s path plan ms size n t) (arrivals s path plan ms size n t) (reads s path plan n t)))
           ∙ first_after (beginning s path plan ms size n t ++ arrivals s path plan ms size n t) (reads s path plan n t) (advance.free size fit) ∙ read;
     };
   }
-    where
-      differ : false ≡ true → ⊥
-      differ h = cc
 
   pub bit_made : (ms : List Meaning) (u w x : List W) (n t : ℕ) (say : Service) (odd bit : Bool) (a c : Inputs)
       → Advance placed held ms plan u w (taken_to s path plan n t) (λ j. came_before s (plan.counts path j) n (suc t)) (read_to s path plan n t) (λ size. beginning s path plan ms size n t ++ arrivals s path plan ms size n t) a c

@@ -42,7 +42,7 @@ module _ {W : Type 0} (placed : W → Plan → ℕ → ℕ → Type 0) (held : W
       let P : (ℕ → ℕ) → Type 0 = λ h. Blocked ms plan h most steps stop a b f g in
       let Q : (ℕ → ℕ) → Type 0 = λ h. Blocked ms plan x h steps stop a b f g in
       let now : Blocked ms plan x y steps stop a b f g = subst Q (fun_ext last) (subst P (fun_ext first) blocked) in
-      record { stays = now.stays; met = record { rose = now.met.rose; is_first = λ h size fit. same size ∙ now.met.is_first h size fit } }
+      record { stays = now.stays; met = record { counted = now.met.counted; is_first = λ h size fit. same size ∙ now.met.is_first h size fit } }
 
   module _ (s : FrameShape) (path : Path) where
     pub started : (n t j : ℕ) → came_to s path plan n t 0 j ≡ came_before s (plan.counts path j) n t
@@ -101,11 +101,8 @@ module _ {W : Type 0} (placed : W → Plan → ℕ → ℕ → Type 0) (held : W
         no_more = λ k h. (let g = given_more meaning plan ws (taken_to s path plan n 0) (came_to s path plan n 0 0) k grows (λ j. taken_start n j) in omega (arith, g));
         used_up = tt;
       };
-      met = record { rose = λ h. absurd (no h); is_first = λ h size fit. steps_none (map meaning ws) size n none };
+      met = record { counted = refl; is_first = λ h size fit. steps_none (map meaning ws) size n none };
     }
-      where
-        no : false ≡ true → ⊥
-        no h = cc
 
 -- the decisions are those of the fills
 pub decision : (s : FrameShape) (counts : ℕ → ℕ) (n j held : ℕ) → eqb s.copies 0 ≡ false → IsFrame s → read_before s j counts n 0 + held ≡ came_before s counts n 0 → leb threshold held ≡ sends_more s counts n

@@ -73,7 +73,7 @@ no_first (Some x) p h = h
 pub arrival_none : (m : Meaning) (plan : Plan) (place : Place) (size : ℕ → ℕ) (made fill : ℕ) → first_some (arrival m plan place size made fill) ≡ None → m.obstacle plan size made ≡ None
 arrival_none m plan place size made fill h = no_first (m.obstacle plan size made) (cond (leb 48 fill) (Some (Overflow place)) None) h
 
-pub lead_met : (m : Meaning) (plan : Plan) (place : Place) (fits fits' : (ℕ → ℕ) → Type 0) (made fill : ℕ) (stop : TxStop) (f g f' : ℕ) → made < 24 → fill < 48 → f' ≤ f
+pub lead_met : (m : Meaning) (plan : Plan) (place : Place) (fits fits' : (ℕ → ℕ) → Type 0) (made fill : ℕ) (stop : TxStop) (f g f' : ℕ) → made < 24 → fill < 48 → f ≡ f'
     → ((size : ℕ → ℕ) → fits' size → fits size) → ((size : ℕ → ℕ) → fits' size → (k : ℕ) → k < made → m.obstacle plan size k ≡ None)
     → Met fits (λ size. first_some (arrival m plan place size made fill)) stop f g → Met fits' (λ size. first_some (lead_of m plan size)) stop f' g
 lead_met m plan place fits fits' made fill stop f g f' few room less narrower before met =

@@ -83,7 +83,7 @@ module _ {W : Type 0} (placed : W → Plan → ℕ → ℕ → Type 0) (held : W
             omega (arith, less, p, q);
         used_up = blocked.stays.used_up;
         met = record {
-          rose = blocked.met.rose;
+          counted = blocked.met.counted;
           is_first = λ h size fit. obstacle_is at.frame at.slot x old.place old.inside ms size ∙ blocked.met.is_first h size (λ k leaf. fit k leaf ∙ ap (λ v. given_by ms plan v k + a.left k) now);
         };
       }

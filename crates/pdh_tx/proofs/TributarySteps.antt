@@ -1,16 +1,16 @@
 -- One arrival at a tributary's store.
-use Rattle.std.proofs.Common.{◌≡◌, ℕ, suc, ◌+◌, ◌<◌, ◌≤◌, Bool, false, List, [], ◌∷◌, ◌++◌, length, map, cond, leb, sym, ap, ◌∙◌, subst, arith, None, Some, Option, length-append}
+use Rattle.std.proofs.Common.{◌≡◌, ℕ, suc, ◌+◌, ◌<◌, ◌≤◌, Bool, true, false, List, [], ◌∷◌, ◌++◌, length, map, cond, leb, refl, sym, ap, ◌∙◌, subst, arith, None, Some, Option, length-append}
 use Rattle.std.specs.List.{range_with_len}
 use Rattle.std.proofs.lemmas.Bool.{lt-leb}
 use Rattle.std.proofs.lemmas.List.{map-append}
 use Rattle.pdh_line.proofs.Ranges.{range_push}
-use Rattle.pdh_edge.specs.Files.{Rose}
+use Rattle.pdh_edge.specs.Counts.{one_more}
 use Rattle.pdh_edge.specs.Ports.{Inputs}
 use Rattle.pdh_shape.specs.declared.place.Place.{Place}
 use Rattle.pdh_shape.specs.declared.role.Service.{Service}
 use Rattle.pdh_tx.specs.declared.tx.TxStop.{TxStop}
-use Rattle.pdh_tx.specs.declared.tx.TxStop.TheVariants.{Overflow}
-use Rattle.pdh_tx.specs.Meaning.{Supply, Plan, Meaning, Makes, Met, Fits}
+use Rattle.pdh_tx.specs.declared.tx.TxStop.TheVariants.{Overflow, Underflow, NoFrame, Failed, Ended}
+use Rattle.pdh_tx.specs.Meaning.{Supply, Plan, Meaning, Makes, Met, Fits, is_failed, faults_met}
 use Rattle.pdh_tx.specs.Held.{IsPart, Placed, Held, Gains, arrival, first_some}
 
 -- the line's next bit joins those held
@@ -21,15 +21,28 @@ part_push line bits from to bit part count is =
     ∙ sym (map-append line (range_with_len from (length bits)) ((from + length bits) ∷ []))
     ∙ ap (map line) (sym (range_push from (length bits))) ∙ ap (λ n. map line (range_with_len from n)) (sym long)
 
-pub met_weaker : (fits fits' : (ℕ → ℕ) → Type 0) (first first' : (ℕ → ℕ) → Option TxStop) (stop : TxStop) (f g f' : ℕ) → f' ≤ f
+pub met_weaker : (fits fits' : (ℕ → ℕ) → Type 0) (first first' : (ℕ → ℕ) → Option TxStop) (stop : TxStop) (f g f' : ℕ) → f ≡ f'
     → ((size : ℕ → ℕ) → fits' size → fits size) → ((size : ℕ → ℕ) → fits' size → first size ≡ Some stop → first' size ≡ Some stop) → Met fits first stop f g → Met fits' first' stop f' g
-met_weaker fits fits' first first' stop f g f' less narrower longer met = record {
-  rose = λ h. let r = met.rose h in less_rose r;
+met_weaker fits fits' first first' stop f g f' same narrower longer met = record {
+  counted = met.counted ∙ ap (faults_met stop) same;
   is_first = λ h size fit. longer size fit (met.is_first h size (narrower size fit));
 }
-  where
-    less_rose : Rose f g → Rose f' g
-    less_rose r = omega arith
+
+-- what is met without a failure counts nothing
+pub faults_unmet : (stop : TxStop) (faults : ℕ) → is_failed stop ≡ false → faults_met stop faults ≡ faults
+faults_unmet (Overflow place) faults h = refl
+faults_unmet (Underflow place) faults h = refl
+faults_unmet (NoFrame node) faults h = refl
+faults_unmet Failed faults h = cc
+faults_unmet (Ended leaf) faults h = refl
+
+-- a failure is counted once
+pub faults_failed : (stop : TxStop) (faults : ℕ) → is_failed stop ≡ true → faults_met stop faults ≡ one_more faults
+faults_failed (Overflow place) faults h = cc
+faults_failed (Underflow place) faults h = cc
+faults_failed (NoFrame node) faults h = cc
+faults_failed Failed faults h = refl
+faults_failed (Ended leaf) faults h = cc
 
 module _ {C : Type 0} (stands_at : C → Plan → ℕ → Type 0) (stands_for : C → Supply → ℕ → Type 0) (meaning : C → Meaning) (says : C → Service) (is_stopped : C → Bool) (old new : C) (plan : Plan) where
   abbrev held : C → List Bool → Supply → ℕ → ℕ → Type 0

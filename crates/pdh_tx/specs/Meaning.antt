@@ -1,7 +1,7 @@
 -- What a tree of multiplexers makes, takes and meets.
 use Rattle.std.specs.Prelude.{◌≡◌, ℕ, suc, ◌+◌, ◌<◌, ◌≤◌, Bool, true, false, List, [], length, Option, Some, None}
 use Rattle.std.specs.List.{slice_index_or}
-use Rattle.pdh_edge.specs.Files.{Rose}
+use Rattle.pdh_edge.specs.Counts.{one_more}
 use Rattle.pdh_edge.specs.Leaves.{HaveLists}
 use Rattle.pdh_edge.specs.Ports.{Inputs, Takes}
 use Rattle.pdh_shape.specs.declared.role.Service.{Service}
@@ -111,9 +111,14 @@ abbrev pub is_failed : TxStop → Bool
 is_failed Failed = true
 is_failed _ = false
 
--- a call met this: Failed only where the count of faults rose, else exactly what stands first in the way
+-- a count of faults after a call that met this: one more where it failed, and else as it was
+abbrev pub faults_met : TxStop → ℕ → ℕ
+faults_met Failed faults = one_more faults
+faults_met stop faults = faults
+
+-- a call met this: Failed where the feed failed, which was counted once, else exactly what stands first in the way
 pub record Met (fits : (ℕ → ℕ) → Type 0) (first : (ℕ → ℕ) → Option TxStop) (stop : TxStop) (faults now : ℕ) : Type 0 where
-  pub rose : is_failed stop ≡ true → Rose faults now
+  pub counted : now ≡ faults_met stop faults
   pub is_first : is_failed stop ≡ false → (size : ℕ → ℕ) → fits size → first size ≡ Some stop
 
 -- where a leaf ended, its list is used up

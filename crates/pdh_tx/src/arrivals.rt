@@ -44,7 +44,7 @@ impl<S: Shape, C: Tx> Tributaries<S, C> {
         ensures err { IfErr result (λ stop. StopIn self.old (plan_of clock.now)
             (arrival_stretch self.old path (plan_of clock.now) frame slot trib) stop
             (F.inputs feed.old) (F.inputs feed.new) (F.feed_faults feed.old) (F.feed_faults feed.new)) }
-        ensures later { F.feed_faults feed.old ≤ F.feed_faults feed.new }
+        ensures unfailed { OnOk result (F.feed_faults feed.new ≡ F.feed_faults feed.old) }
         ensures fed { F.fed feed.old feed.new }
         ensures same { meanings self.new ≡ meanings self.old }
         ensures shares { shares self.new ≡ shares self.old }
@@ -82,7 +82,7 @@ impl<S: Shape, C: Tx> Tributaries<S, C> {
         ensures err { IfErr result (λ stop. StopIn self.old (plan_of clock.now)
             (arrivals_stretch self.old path (plan_of clock.now) frame slot S.TRIBS) stop
             (F.inputs feed.old) (F.inputs feed.new) (F.feed_faults feed.old) (F.feed_faults feed.new)) }
-        ensures later { F.feed_faults feed.old ≤ F.feed_faults feed.new }
+        ensures unfailed { OnOk result (F.feed_faults feed.new ≡ F.feed_faults feed.old) }
         ensures fed { F.fed feed.old feed.new }
         ensures same { meanings self.new ≡ meanings self.old }
         ensures shares { shares self.new ≡ shares self.old }

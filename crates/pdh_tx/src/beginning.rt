@@ -29,7 +29,7 @@ impl<S: Shape, C: Tx> Tributaries<S, C> {
         ensures err { IfErr result (λ stop. StopIn self.old (plan_of clock.now)
             (lead_stretch self.old (plan_of clock.now) trib) stop
             (F.inputs feed.old) (F.inputs feed.new) (F.feed_faults feed.old) (F.feed_faults feed.new)) }
-        ensures later { F.feed_faults feed.old ≤ F.feed_faults feed.new }
+        ensures unfailed { OnOk result (F.feed_faults feed.new ≡ F.feed_faults feed.old) }
         ensures fed { F.fed feed.old feed.new }
         ensures same { meanings self.new ≡ meanings self.old }
     {
@@ -57,7 +57,7 @@ impl<S: Shape, C: Tx> Tributaries<S, C> {
         ensures err { IfErr result (λ stop. StopIn self.old (plan_of clock.now)
             (leads_stretch self.old (plan_of clock.now) S.TRIBS) stop
             (F.inputs feed.old) (F.inputs feed.new) (F.feed_faults feed.old) (F.feed_faults feed.new)) }
-        ensures later { F.feed_faults feed.old ≤ F.feed_faults feed.new }
+        ensures unfailed { OnOk result (F.feed_faults feed.new ≡ F.feed_faults feed.old) }
         ensures fed { F.fed feed.old feed.new }
         ensures same { meanings self.new ≡ meanings self.old }
     {
@@ -85,7 +85,7 @@ impl<S: Shape, C: Tx> Tributaries<S, C> {
         ensures err { IfErr result (λ stop. StopIn self.old (plan_of clock.now)
             (beginning_stretch self.old path (plan_of clock.now) frame 0) stop
             (F.inputs feed.old) (F.inputs feed.new) (F.feed_faults feed.old) (F.feed_faults feed.new)) }
-        ensures later { F.feed_faults feed.old ≤ F.feed_faults feed.new }
+        ensures unfailed { OnOk result (F.feed_faults feed.new ≡ F.feed_faults feed.old) }
         ensures fed { F.fed feed.old feed.new }
         ensures same { meanings self.new ≡ meanings self.old }
     {
@@ -134,7 +134,7 @@ impl<S: Shape, C: Tx> Tributaries<S, C> {
         ensures err { IfErr result (λ stop. StopIn self.old (plan_of clock.now)
             (beginning_stretch self.old path (plan_of clock.now) frame slot) stop
             (F.inputs feed.old) (F.inputs feed.new) (F.feed_faults feed.old) (F.feed_faults feed.new)) }
-        ensures later { F.feed_faults feed.old ≤ F.feed_faults feed.new }
+        ensures unfailed { OnOk result (F.feed_faults feed.new ≡ F.feed_faults feed.old) }
         ensures fed { F.fed feed.old feed.new }
         ensures same { meanings self.new ≡ meanings self.old }
     {
@@ -164,7 +164,7 @@ impl<S: Shape, C: Tx> Tributaries<S, C> {
         ensures err { IfErr result (λ stop. StopIn self.old (plan_of clock.now)
             (beginning_stretch self.old path (plan_of clock.now) frame 0) stop
             (F.inputs feed.old) (F.inputs feed.new) (F.feed_faults feed.old) (F.feed_faults feed.new)) }
-        ensures later { F.feed_faults feed.old ≤ F.feed_faults feed.new }
+        ensures unfailed { OnOk result (F.feed_faults feed.new ≡ F.feed_faults feed.old) }
         ensures fed { F.fed feed.old feed.new }
         ensures same { meanings self.new ≡ meanings self.old }
     {

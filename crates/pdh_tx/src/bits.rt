@@ -1,4 +1,4 @@
-ghost use Rattle.std.specs.Prelude.{◌≡◌, ◌<◌, ◌≤◌, IfOk, IfErr};
+ghost use Rattle.std.specs.Prelude.{◌≡◌, ◌<◌, ◌≤◌, OnOk, IfOk, IfErr};
 ghost use Rattle.pdh_tx.specs.Meaning.{plan_of};
 ghost use Rattle.pdh_tx.specs.Tributaries.{meanings, AreFed, StandBefore, MakeBit, StopInSlot};
 
@@ -29,7 +29,7 @@ impl<S: Shape, C: Tx> Tributaries<S, C> {
         ensures err { IfErr result (λ stop. StopInSlot self.old path (plan_of clock.now)
             frame slot stop
             (F.inputs feed.old) (F.inputs feed.new) (F.feed_faults feed.old) (F.feed_faults feed.new)) }
-        ensures later { F.feed_faults feed.old ≤ F.feed_faults feed.new }
+        ensures unfailed { OnOk result (F.feed_faults feed.new ≡ F.feed_faults feed.old) }
         ensures fed { F.fed feed.old feed.new }
         ensures same { meanings self.new ≡ meanings self.old }
     {

@@ -123,7 +123,7 @@ impl<S: Shape, C: Tx> Node<S, C> {
         ensures stops { let tx = ⟦<Node<S, C> as Tx>⟧ in let plan = plan_of clock.now in IfErr result (λ stop. (x : ℕ) → tx.stands_at self.old plan x
             → Stops (tx.meaning self.old) plan x stop (F.inputs feed.old) (F.inputs feed.new) (F.feed_faults feed.old) (F.feed_faults feed.new)) }
         ensures running { self.new.stopped ≡ self.old.stopped }
-        ensures later { F.feed_faults feed.old ≤ F.feed_faults feed.new }
+        ensures unfailed { OnOk result (F.feed_faults feed.new ≡ F.feed_faults feed.old) }
         ensures fed { F.fed feed.old feed.new }
         ensures same { ⟦<Node<S, C> as Tx>⟧.meaning self.new ≡ ⟦<Node<S, C> as Tx>⟧.meaning self.old }
         ensures same_says { self.new.next_say ≡ self.old.next_say }

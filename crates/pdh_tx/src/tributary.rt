@@ -59,7 +59,7 @@ impl<C: Tx> Tributary<C> {
         ensures met { IfErr result (λ stop. let plan = plan_of clock.now in (made read : ℕ) → placed_in C.Tx self.old plan made read
             → Met (Fits (meaning_in C.Tx self.old) plan made (F.inputs feed.old)) (λ size. first_some (arrival_in C.Tx self.old plan place size made))
             stop (F.feed_faults feed.old) (F.feed_faults feed.new)) }
-        ensures later { F.feed_faults feed.old ≤ F.feed_faults feed.new }
+        ensures unfailed { OnOk result (F.feed_faults feed.new ≡ F.feed_faults feed.old) }
         ensures fed { F.fed feed.old feed.new }
         ensures same { meaning_in C.Tx self.new ≡ meaning_in C.Tx self.old }
         ensures share { self.new.share ≡ self.old.share }
@@ -140,7 +140,7 @@ impl<C: Tx> Tributary<C> {
         ensures free { OnOk result ((size : ℕ → ℕ) → Fits (meaning_in C.Tx self.old) (plan_of clock.now) 0 (F.inputs feed.old) size → first_some (lead_of (meaning_in C.Tx self.old) (plan_of clock.now) size) ≡ None) }
         ensures halts { IfErr result (λ stop. Halts (meaning_in C.Tx self.old) (plan_of clock.now) 0 lead stop (F.inputs feed.old) (F.inputs feed.new)) }
         ensures met { IfErr result (λ stop. Met (Fits (meaning_in C.Tx self.old) (plan_of clock.now) 0 (F.inputs feed.old)) (λ size. first_some (lead_of (meaning_in C.Tx self.old) (plan_of clock.now) size)) stop (F.feed_faults feed.old) (F.feed_faults feed.new)) }
-        ensures later { F.feed_faults feed.old ≤ F.feed_faults feed.new }
+        ensures unfailed { OnOk result (F.feed_faults feed.new ≡ F.feed_faults feed.old) }
         ensures fed { F.fed feed.old feed.new }
         ensures same { meaning_in C.Tx self.new ≡ meaning_in C.Tx self.old }
         ensures share { self.new.share ≡ self.old.share }

@@ -72,7 +72,7 @@ pub trait Tx: Drop {
             (F.feed_faults feed.old) (F.feed_faults feed.new)) }
         ensures running { OnOk result (is_stopped self.new ≡ false) }
         ensures stopped { OnErr result (is_stopped self.new ≡ true) }
-        ensures later { F.feed_faults feed.old ≤ F.feed_faults feed.new }
+        ensures unfailed { OnOk result (F.feed_faults feed.new ≡ F.feed_faults feed.old) }
         ensures fed { F.fed feed.old feed.new }
         ensures same { meaning self.new ≡ meaning self.old }
         ensures same_says { says self.new ≡ says self.old };

@@ -1,6 +1,8 @@
 use Rattle.std.proofs.Common.{◌≡◌, ◌≤◌, ◌+◌, ◌*◌, ℕ, Bool, List, refl, sym, ap, subst, ◌∙◌, arith}
 use Rattle.pdh_bits.specs.BitOut.{BoundedBits}
 use Rattle.pdh_packed.specs.Gaining.{gained}
+use Rattle.pdh_edge.specs.Counts.{one_more}
+use Rattle.pdh_edge.proofs.Runs.{rose_of}
 use Rattle.pdh_tx.specs.declared.tx.TxStop.TheVariants.{Failed}
 use Rattle.pdh_tx.specs.Meaning.{Meaning, plan_of}
 use Rattle.pdh_tx.specs.Making.{IsClear, MakesAll}
@@ -17,6 +19,8 @@ loop-whole-init g c = record {
   said = c.channel_of-channel.ensures;
   room = refl;
   same = refl;
+  reads = refl;
+  writes = refl;
   kept = g.met.P.Port.kept_same c.args.port.now;
   lists = refl;
   lines = refl;
@@ -53,7 +57,19 @@ returns-in-Err-clause-fails g c =
     let halts : Halts (g.T.Tx.meaning c.set.new.self) plan x (x + c.args.len) Failed (g.P.Feed.inputs c.loop-whole.port) (g.P.Feed.inputs c.make_clear.new.feed) =
     c.in-Err.ensures.halts x sending.makes.place in
     sending_halts m (g.T.Tx.meaning c.set.new.self) (says_of c.args.feac) _ _ _ plan (c.args.len) c.args.frames c.loop-whole._whole Failed _ _ _ _ _ _ _ _ _ same
-    (g.met.P.Port.fed_keeps_outputs c.loop-whole.port c.make_clear.new.feed c.make_clear.ensures.fed).0 c.loop-whole-test.true (g.met.P.Port.kept_counts c.args.port.now c.loop-whole.port inv.kept).0 sending halts c.in-Err.ensures.cause.failed
+    (g.met.P.Port.fed_keeps_outputs c.loop-whole.port c.make_clear.new.feed c.make_clear.ensures.fed).0 c.loop-whole-test.true (g.met.P.Port.kept_counts c.args.port.now c.loop-whole.port inv.kept).0 sending halts (rose_of _ _ c.in-Err.ensures.cause)
+
+pub returns-in-Err-clause-reads : goal.returns-in-Err-clause-reads
+returns-in-Err-clause-reads g c = c.in-Err.ensures.cause ∙ ap one_more c.loop-whole.invariant.reads
+
+pub returns-in-Err-clause-writes : goal.returns-in-Err-clause-writes
+returns-in-Err-clause-writes g c = (g.met.P.Port.fed_keeps_outputs c.loop-whole.port c.make_clear.new.feed c.make_clear.ensures.fed).1 ∙ c.loop-whole.invariant.writes
+
+pub returns-in-Err-put_all-clause-reads : goal.returns-in-Err-put_all-clause-reads
+returns-in-Err-put_all-clause-reads g c = (g.met.P.Port.drained_keeps_inputs c.make_clear.new.feed c.put_all.new.self c.put_all.ensures.drained).1 ∙ c.in_default.ensures.cause ∙ c.loop-whole.invariant.reads
+
+pub returns-in-Err-put_all-clause-writes : goal.returns-in-Err-put_all-clause-writes
+returns-in-Err-put_all-clause-writes g c = c.in-Err-put_all.ensures.cause ∙ ap one_more ((g.met.P.Port.fed_keeps_outputs c.loop-whole.port c.make_clear.new.feed c.make_clear.ensures.fed).1 ∙ c.loop-whole.invariant.writes)
 
 pub returns-in-Err-put_all-clause-fails : goal.returns-in-Err-put_all-clause-fails
 returns-in-Err-put_all-clause-fails g c =
@@ -79,7 +95,7 @@ returns-in-Err-put_all-clause-fails g c =
     (g.T.Tx.stands_for c.set.new.self) (g.T.Tx.stands_for c.make_clear.new.self) plan len c.args.frames c.loop-whole._whole bits bits (g.P.Feed.inputs c.args.port.now)
     (g.P.Feed.inputs c.loop-whole.port) (g.P.Feed.inputs c.make_clear.new.feed) (g.P.Feed.inputs c.put_all.new.self) (g.P.Drain.outputs c.args.port.now) (g.P.Drain.outputs c.loop-whole.port) (g.P.Drain.outputs c.make_clear.new.feed)
     (g.P.Drain.outputs c.put_all.new.self) (g.P.Drain.drain_faults c.args.port.now) (g.P.Drain.drain_faults c.make_clear.new.feed) (g.P.Drain.drain_faults c.put_all.new.self) refl refl
-    (g.met.P.Port.drained_keeps_inputs c.make_clear.new.feed c.put_all.new.self c.put_all.ensures.drained).0 fed.0 c.loop-whole-test.true later sending makes c.in-Err-put_all.ensures.err c.in-Err-put_all.ensures.cause.failed
+    (g.met.P.Port.drained_keeps_inputs c.make_clear.new.feed c.put_all.new.self c.put_all.ensures.drained).0 fed.0 c.loop-whole-test.true later sending makes c.in-Err-put_all.ensures.err (rose_of _ _ c.in-Err-put_all.ensures.cause)
 
 pub returns-in-Err-put_all-clause-kept : goal.returns-in-Err-put_all-clause-kept
 returns-in-Err-put_all-clause-kept g c =
@@ -111,6 +127,8 @@ loop-whole-preserved g c =
       said = c.next_service.ensures.said c.args.feac c.loop-whole._whole inv.said;
       room = c.make_clear.ensures.capacity ∙ ap (λ (b : BoundedBits). b.capacity) c.clear.ensures ∙ inv.room;
       same = c.make_clear.ensures.same ∙ same;
+      reads = drained.1 ∙ c.in_default.ensures.cause ∙ inv.reads;
+      writes = c.in_default-put_all.ensures.cause ∙ fed.1 ∙ inv.writes;
       kept = g.met.P.Port.kept_join c.args.port.now c.make_clear.new.feed c.put_all.new.self kept (g.met.P.Port.drained_is_kept c.make_clear.new.feed c.put_all.new.self c.put_all.ensures.drained);
       lists = ap (λ i. i.holds) drained.0 ∙ g.met.P.Feed.fed_holds c.loop-whole.port c.make_clear.new.feed c.make_clear.ensures.fed ∙ inv.lists;
       lines = g.met.P.Drain.drained_holds c.make_clear.new.feed c.put_all.new.self c.put_all.ensures.drained ∙ ap (λ o. o.holds) fed.0 ∙ inv.lines;

@@ -11,6 +11,8 @@ invariant-loop-whole g l = record {
   said : HasSaid l.channel l.fn.feac l._whole;
   room : l.frame.capacity ≡ l.fn.frame.capacity;
   same : g.T.Tx.meaning l.sender ≡ g.T.Tx.meaning l.fn.sender;
+  reads : g.P.Feed.feed_faults l.port ≡ g.P.Feed.feed_faults l.fn.port;
+  writes : g.P.Drain.drain_faults l.port ≡ g.P.Drain.drain_faults l.fn.port;
   kept : g.P.Port.kept l.fn.port l.port;
   lists : (g.P.Feed.inputs l.port).holds ≡ (g.P.Feed.inputs l.fn.port).holds;
   lines : (g.P.Drain.outputs l.port).holds ≡ (g.P.Drain.outputs l.fn.port).holds;

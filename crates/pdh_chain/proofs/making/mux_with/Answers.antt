@@ -1,17 +1,33 @@
-use Rattle.std.proofs.Common.{arith, ◌≡◌, length, sym, ◌∙◌, subst}
+use Rattle.std.proofs.Common.{arith, ◌≡◌, sym, ◌∙◌, ap, subst, inl, inr}
 use Rattle.std.specs.Prelude.{IsTrue}
 use Rattle.std.proofs.lemmas.Result.{err_from_is_err_and}
 use Rattle.pdh_edge.specs.Ports.{Inputs}
+use Rattle.pdh_edge.specs.Counts.{one_more}
+use Rattle.pdh_edge.proofs.Runs.{rose_of}
 use Rattle.pdh_nesting.specs.Chains.{top_len}
 use Rattle.pdh_clock.specs.Contents.{frame_count, counts}
 use Rattle.pdh_tx.specs.Meaning.{plan_of}
 use Rattle.pdh_chain.specs.Saying.{says_of}
 use Rattle.pdh_chain.proofs.Tolerated.{at_top}
 use Rattle.pdh_chain.proofs.Muxed.{leaves_held, nodes_held, frames_held, sent, stopped, failed, call_failed, unhindered, nothing_put, stop_since}
+use Rattle.pdh_chain.proofs.MuxLeft.{left_by_sender, reads_by_sender, writes_by_sender, left_by_call, reads_by_call, writes_by_call}
 use Rattle.pdh_chain.proofs.making.mux_with.Goals as goal
 
+-- ---- the port's start failed
+
+pub returns-in-Err-clause-ready : goal.returns-in-Err-clause-ready
+returns-in-Err-clause-ready g c = inr c.in-Err.ensures.err
+
+pub returns-in-Err-clause-reads : goal.returns-in-Err-clause-reads
+returns-in-Err-clause-reads g c = c.start.ensures.reads
+
+pub returns-in-Err-clause-writes : goal.returns-in-Err-clause-writes
+returns-in-Err-clause-writes g c = c.in-Err.ensures.cause
+
 pub returns-in-Err-clause-err : goal.returns-in-Err-clause-err
-returns-in-Err-clause-err g c = (c.in-Err.ensures.cause.failed, nothing_put g.T.ChainTx.shapes _ (says_of c.args.feac) _ _ _ _ _ g.met.T.ChainTx.are_frames c.start.ensures.inputs c.start.ensures.outputs)
+returns-in-Err-clause-err g c = (rose_of _ _ c.in-Err.ensures.cause, nothing_put g.T.ChainTx.shapes _ (says_of c.args.feac) _ _ _ _ _ _ g.met.T.ChainTx.are_frames c.start.ensures.inputs c.start.ensures.outputs)
+
+-- ---- frames made at once
 
 pub send_clear_frames-requires-clause-lists : goal.send_clear_frames-requires-clause-lists
 send_clear_frames-requires-clause-lists g c =
@@ -46,12 +62,35 @@ returns-in_err-send_clear_frames-clause-err g c =
     (stop_since shapes (counts c.args.clock.now.rows) (says_of c.args.feac) (frame_count c.args.clock.now.rows) c.args.frames _ _ _ _ _ _ _ _ _ _ _ since.0 since.1
     (call_failed shapes (counts c.args.clock.now.rows) (says_of c.args.feac) (frame_count c.args.clock.now.rows) g.met.T.ChainTx.are_frames (at_top shapes c.requires.depth) _ _ c.in_ok-top.ensures.meaning long _ c.args.frames _ _ _ _ _ _ _ _ _ c.in_ok-top.ensures.fresh.held c.in_err-send_clear_frames.ensures.fails))
 
+pub returns-in_err-send_clear_frames-clause-ready : goal.returns-in_err-send_clear_frames-clause-ready
+returns-in_err-send_clear_frames-clause-ready g c =
+    let p = err_from_is_err_and c.from_residual-in_err-send_clear_frames.result c.from_residual-in_err-send_clear_frames.ensures.1 in
+    rw (p.1, p.2) (left_by_call _ _ _ _ (g.met.P.Port.kept_ready c.start.new.self c.send_clear_frames.new.port c.send_clear_frames.ensures.kept c.in_default.ensures.ok))
+
+pub returns-in_err-send_clear_frames-clause-reads : goal.returns-in_err-send_clear_frames-clause-reads
+returns-in_err-send_clear_frames-clause-reads g c =
+    let p = err_from_is_err_and c.from_residual-in_err-send_clear_frames.result c.from_residual-in_err-send_clear_frames.ensures.1 in
+    rw (p.1, p.2) (reads_by_call _ _ _ _ c.in_err-send_clear_frames.ensures.reads c.start.ensures.reads)
+
+pub returns-in_err-send_clear_frames-clause-writes : goal.returns-in_err-send_clear_frames-clause-writes
+returns-in_err-send_clear_frames-clause-writes g c =
+    let p = err_from_is_err_and c.from_residual-in_err-send_clear_frames.result c.from_residual-in_err-send_clear_frames.ensures.1 in
+    rw (p.1, p.2) (writes_by_call _ _ _ _ c.in_err-send_clear_frames.ensures.writes c.in_default.ensures.cause)
+
+pub returns-then-unhindered-clause-reads : goal.returns-then-unhindered-clause-reads
+returns-then-unhindered-clause-reads g c = c.in_ok-send_clear_frames.ensures.reads ∙ c.start.ensures.reads
+
+pub returns-then-unhindered-clause-writes : goal.returns-then-unhindered-clause-writes
+returns-then-unhindered-clause-writes g c = c.in_ok-send_clear_frames.ensures.writes ∙ c.in_default.ensures.cause
+
 pub returns-then-unhindered-clause-ok : goal.returns-then-unhindered-clause-ok
 returns-then-unhindered-clause-ok g c =
     let shapes = g.T.ChainTx.shapes in
     let long : top_len g.T.ChainTx.shapes ≡ c.LEN-len.result = g.met.T.ChainTop.len_is ∙ sym c.LEN-len.ensures in
     rw (sym c.in_default.ensures.inputs, sym c.in_default.ensures.outputs)
     (sent shapes (counts c.args.clock.now.rows) (says_of c.args.feac) (frame_count c.args.clock.now.rows) g.met.T.ChainTx.are_frames (at_top shapes c.requires.depth) _ _ c.in_ok-top.ensures.meaning long _ _ _ c.args.frames _ _ _ _ c.in_ok-top.ensures.fresh.held c.in_ok-send_clear_frames.ensures.sent)
+
+-- ---- frames made bit by bit
 
 pub send_frames-requires-clause-lists : goal.send_frames-requires-clause-lists
 send_frames-requires-clause-lists g c =
@@ -69,12 +108,33 @@ send_frames-requires-clause-frames g c =
 pub send_frames-requires-clause-stands : goal.send_frames-requires-clause-stands
 send_frames-requires-clause-stands g c = c.in_ok-top.ensures.fresh.placed (plan_of c.args.clock.now)
 
+pub returns-in-Ok-clause-reads : goal.returns-in-Ok-clause-reads
+returns-in-Ok-clause-reads g c = c.in-Ok.ensures.reads ∙ c.start.ensures.reads
+
+pub returns-in-Ok-clause-writes : goal.returns-in-Ok-clause-writes
+returns-in-Ok-clause-writes g c = c.in-Ok.ensures.writes ∙ c.in_default.ensures.cause
+
 pub returns-in-Ok-clause-ok : goal.returns-in-Ok-clause-ok
 returns-in-Ok-clause-ok g c =
     let shapes = g.T.ChainTx.shapes in
     let whole = g.met.T.ChainTop.len_is ∙ sym c.LEN-len.ensures in
     rw (sym c.in_default.ensures.inputs, sym c.in_default.ensures.outputs)
     (sent shapes (counts c.args.clock.now.rows) (says_of c.args.feac) (frame_count c.args.clock.now.rows) g.met.T.ChainTx.are_frames (at_top shapes c.requires.depth) _ c.LEN-len.result c.in_ok-top.ensures.meaning whole _ _ _ c.args.frames _ _ _ _ c.in_ok-top.ensures.fresh.held c.in-Ok.ensures.sent)
+
+pub returns-in-Err-Sender-clause-ready : goal.returns-in-Err-Sender-clause-ready
+returns-in-Err-Sender-clause-ready g c =
+    rw c.stop_of.ensures
+    (left_by_sender _ _ _ c.in-Err-Sender.stop (g.met.P.Port.kept_ready c.start.new.self c.send_frames.new.port c.send_frames.ensures.kept c.in_default.ensures.ok))
+
+pub returns-in-Err-Sender-clause-reads : goal.returns-in-Err-Sender-clause-reads
+returns-in-Err-Sender-clause-reads g c =
+    let reads = rw c.in-Err-Sender.field-0-is at c.in-Err-Sender.ensures.reads in
+    rw c.stop_of.ensures (reads_by_sender c.in-Err-Sender.stop _ _ _ reads c.start.ensures.reads)
+
+pub returns-in-Err-Sender-clause-writes : goal.returns-in-Err-Sender-clause-writes
+returns-in-Err-Sender-clause-writes g c =
+    let writes = rw c.in-Err-Sender.field-0-is at c.in-Err-Sender.ensures.writes in
+    rw c.stop_of.ensures (writes_by_sender c.in-Err-Sender.stop _ _ (writes ∙ c.in_default.ensures.cause))
 
 pub returns-in-Err-Sender-clause-err : goal.returns-in-Err-Sender-clause-err
 returns-in-Err-Sender-clause-err g c =
@@ -86,6 +146,19 @@ returns-in-Err-Sender-clause-err g c =
     (stop_since shapes (counts c.args.clock.now.rows) (says_of c.args.feac) (frame_count c.args.clock.now.rows) c.args.frames _ _ _ _ _ _ _ _ _ _ _ since.0 since.1
     (stopped shapes (counts c.args.clock.now.rows) (says_of c.args.feac) (frame_count c.args.clock.now.rows) g.met.T.ChainTx.are_frames (at_top shapes c.requires.depth) _ c.LEN-len.result c.in_ok-top.ensures.meaning whole _ c.args.frames c.in-Err-Sender.stop _ _ _ _ _ _ _ _ c.requires.scheduled
     c.in_ok-top.ensures.fresh.held stops))
+
+pub returns-clause-ready : goal.returns-clause-ready
+returns-clause-ready g c = inl (g.met.P.Port.kept_ready c.start.new.self c.send_frames.new.port c.send_frames.ensures.kept c.in_default.ensures.ok)
+
+pub returns-clause-reads : goal.returns-clause-reads
+returns-clause-reads g c =
+    let reads = rw c.in-Err-WriteFailed.field-0-is at c.in-Err-WriteFailed.ensures.reads in
+    reads ∙ c.start.ensures.reads
+
+pub returns-clause-writes : goal.returns-clause-writes
+returns-clause-writes g c =
+    let writes = rw c.in-Err-WriteFailed.field-0-is at c.in-Err-WriteFailed.ensures.writes in
+    writes ∙ ap one_more c.in_default.ensures.cause
 
 pub returns-clause-err : goal.returns-clause-err
 returns-clause-err g c =

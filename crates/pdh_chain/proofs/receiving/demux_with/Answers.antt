@@ -1,6 +1,8 @@
-use Rattle.std.proofs.Common.{◌∷◌, map, sym, ap, ◌∙◌, arith}
+use Rattle.std.proofs.Common.{◌∷◌, map, sym, ap, ◌∙◌, inr, arith}
 use Rattle.std.proofs.lemmas.Result.{err_from_is_err_and}
 use Rattle.pdh_edge.specs.Ports.{Outputs}
+use Rattle.pdh_edge.proofs.Runs.{rose_of}
+use Rattle.pdh_chain.specs.Faults.{reads_at_demux_stop, writes_at_demux_stop}
 use Rattle.pdh_rx.specs.Node.{node_meaning}
 use Rattle.pdh_rx.proofs.NodeSteps.{frames_exact}
 use Rattle.pdh_chain.proofs.Demuxed.{leaf_held, demuxes, stops, left, nothing_received}
@@ -9,7 +11,7 @@ use Rattle.pdh_chain.proofs.receiving.demux_with.Goals as goal
 pub returns-in_err-start-clause-err : goal.returns-in_err-start-clause-err
 returns-in_err-start-clause-err g c =
     let p = err_from_is_err_and c.from_residual-in_err-start.result c.from_residual-in_err-start.ensures.1 in
-    rw (p.1, p.2) (c.in_err-start.ensures.cause.failed, nothing_received (g.S.Shape.shape ∷ g.C.ChainRx.shapes) _ c.args.bits _ _ _ _ c.in_err-start.ensures.inputs c.in_err-start.ensures.outputs (g.met.W.Watch.saw_nothing c.args.watch.now))
+    rw (p.1, p.2) (rose_of _ _ c.in_err-start.ensures.cause, nothing_received (g.S.Shape.shape ∷ g.C.ChainRx.shapes) _ c.args.bits _ _ _ _ c.in_err-start.ensures.inputs c.in_err-start.ensures.outputs (g.met.W.Watch.saw_nothing c.args.watch.now))
 
 pub receive_all-requires-clause-lists : goal.receive_all-requires-clause-lists
 receive_all-requires-clause-lists g c k is =
@@ -27,6 +29,31 @@ returns-in_err-receive_all-clause-err g c =
     let since = g.met.P.Port.kept_counts c.args.port.now c.start.new.self c.start.ensures.kept in
     rw (p.1, p.2, sym c.in_ok-start.ensures.inputs, sym c.in_ok-start.ensures.outputs)
     (stops shapes _ (λ events. g.W.Watch.saw c.args.watch.now events c.receive_all.new.watch) c.args.bits _ _ _ _ _ _ _ _ _ _ c.in_err-receive_all.field-0.0 same (g.met.S.Shape.is_frame, g.met.S.Shape.has_tributaries, g.met.C.ChainRx.are_frames) since.0 since.1 c.in_err-receive_all.ensures.stops)
+
+pub returns-in_err-start-clause-ready : goal.returns-in_err-start-clause-ready
+returns-in_err-start-clause-ready g c =
+    let p = err_from_is_err_and c.from_residual-in_err-start.result c.from_residual-in_err-start.ensures.1 in
+    rw (p.1, p.2) (inr c.in_err-start.ensures.err)
+
+pub returns-in_err-start-clause-reads : goal.returns-in_err-start-clause-reads
+returns-in_err-start-clause-reads g c =
+    let p = err_from_is_err_and c.from_residual-in_err-start.result c.from_residual-in_err-start.ensures.1 in
+    rw (p.1, p.2) c.start.ensures.reads
+
+pub returns-in_err-start-clause-writes : goal.returns-in_err-start-clause-writes
+returns-in_err-start-clause-writes g c =
+    let p = err_from_is_err_and c.from_residual-in_err-start.result c.from_residual-in_err-start.ensures.1 in
+    rw (p.1, p.2) c.in_err-start.ensures.cause
+
+pub returns-in_err-receive_all-clause-reads : goal.returns-in_err-receive_all-clause-reads
+returns-in_err-receive_all-clause-reads g c =
+    let p = err_from_is_err_and c.from_residual-in_err-receive_all.result c.from_residual-in_err-receive_all.ensures.1 in
+    rw (p.1, p.2) (c.in_err-receive_all.ensures.reads ∙ ap (reads_at_demux_stop c.in_err-receive_all.field-0.0) c.start.ensures.reads)
+
+pub returns-in_err-receive_all-clause-writes : goal.returns-in_err-receive_all-clause-writes
+returns-in_err-receive_all-clause-writes g c =
+    let p = err_from_is_err_and c.from_residual-in_err-receive_all.result c.from_residual-in_err-receive_all.ensures.1 in
+    rw (p.1, p.2) (c.in_err-receive_all.ensures.writes ∙ ap (writes_at_demux_stop c.in_err-receive_all.field-0.0) c.in_ok-start.ensures.cause)
 
 pub returns-clause-kept : goal.returns-clause-kept
 returns-clause-kept g c = g.met.P.Port.kept_join c.args.port.now c.start.new.self c.receive_all.new.port c.start.ensures.kept c.receive_all.ensures.kept
@@ -50,4 +77,4 @@ returns-in_err-receive_all-clause-ready g c =
     let meaning = node_meaning g.S.Shape.shape c.in_ok-node.node.path (map g.C.Rx.meaning c.in_ok-node.node.children.items) in
     rw (p.1, p.2)
     (left meaning (λ events. g.W.Watch.saw c.args.watch.now events c.receive_all.new.watch) c.args.bits (g.P.Feed.inputs c.start.new.self) (g.P.Feed.inputs c.receive_all.new.port) (g.P.Drain.outputs c.start.new.self) (g.P.Drain.outputs c.receive_all.new.port) (g.P.Feed.feed_faults c.start.new.self)
-    (g.P.Feed.feed_faults c.receive_all.new.port) (g.P.Drain.drain_faults c.start.new.self) (g.P.Drain.drain_faults c.receive_all.new.port) _ _ c.in_err-receive_all.field-0.0 c.in_err-receive_all.ensures.stops ready)
+    (g.P.Feed.feed_faults c.receive_all.new.port) (g.P.Drain.drain_faults c.start.new.self) (g.P.Drain.drain_faults c.receive_all.new.port) _ _ _ c.in_err-receive_all.field-0.0 c.in_err-receive_all.ensures.stops ready)

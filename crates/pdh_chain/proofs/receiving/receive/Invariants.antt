@@ -6,6 +6,8 @@ use Rattle.pdh_chain.proofs.receiving.receive.Given as goal
 abbrev pub invariant-loop-received : goal.invariant-loop-received
 invariant-loop-received g l = record {
   same : g.R.Rx.meaning l.receiver ≡ g.R.Rx.meaning l.fn.receiver;
+  reads : g.P.Feed.feed_faults l.port ≡ g.P.Feed.feed_faults l.fn.port;
+  writes : g.P.Drain.drain_faults l.port ≡ g.P.Drain.drain_faults l.fn.port;
   kept : g.P.Port.kept l.fn.port l.port;
   inputs : (g.P.Feed.inputs l.port).holds ≡ (g.P.Feed.inputs l.fn.port).holds;
   outputs : (g.P.Drain.outputs l.port).holds ≡ (g.P.Drain.outputs l.fn.port).holds;

@@ -1,5 +1,3 @@
-use Rattle.std.proofs.Common.{sym}
-use Rattle.pdh_chain.proofs.Received.{receives_all, receives_as, stops_all}
 use Rattle.pdh_chain.proofs.receiving.receive_all.Goals as goal
 
 pub receive_many-requires-clause-stands : goal.receive_many-requires-clause-stands

@@ -4,9 +4,11 @@ use Rattle.std.proofs.lemmas.Result.{err_from_is_err_and}
 use Rattle.pdh_bits.specs.BitOut.{BoundedBits}
 use Rattle.pdh_packed.specs.Gaining.{gained}
 use Rattle.pdh_edge.specs.Ports.{Takes, for_leaf}
+use Rattle.pdh_edge.specs.Counts.{one_more}
+use Rattle.pdh_edge.proofs.Runs.{rose_of, rose_of_feed}
 use Rattle.pdh_chain.specs.Demuxing.{Receives}
 use Rattle.pdh_chain.proofs.Lists.{gained_whole}
-use Rattle.pdh_chain.proofs.Received.{receives_none, receives_many, feed_stops, put_stops_many}
+use Rattle.pdh_chain.proofs.Received.{receives_none, receives_many, feed_stops, feed_reads, feed_writes, put_stops_many}
 use Rattle.pdh_chain.proofs.receiving.receive_many.Goals as goal
 
 pub loop-received-init : goal.loop-received-init
@@ -14,6 +16,8 @@ loop-received-init g c = record {
   same = refl;
   within = omega arith;
   room = refl;
+  reads = refl;
+  writes = refl;
   kept = g.met.P.Port.kept_same c.args.port.now;
   inputs = refl;
   outputs = refl;
@@ -32,7 +36,30 @@ returns-in_err-count-clause-stops g c =
     rw (p.1, p.2)
     (feed_stops (g.R.Rx.meaning c.args.receiver.now) (g.R.Rx.stands c.loop-received.receiver) (λ events. ⊤) c.loop-received.received c.args.bits (g.P.Feed.inputs c.args.port.now) (g.P.Feed.inputs c.loop-received.port) (g.P.Feed.inputs c.bits.new.self)
     (g.P.Drain.outputs c.args.port.now) (g.P.Drain.outputs c.loop-received.port) (g.P.Drain.outputs c.bits.new.self) _ _ _ _ _ c.in_err-count.field-0.0 c.loop-received-test.true fed.0 inv.receives c.in_err-count.ensures.err counts.0
-    (λ e. c.in_err-count.ensures.cause.failed (ap Err e)) (λ e. c.in_err-count.ensures.ended (ap Err e)))
+    (rose_of_feed _ _ _ c.in_err-count.ensures.cause) (λ e. c.in_err-count.ensures.ended (ap Err e)))
+
+pub returns-in_err-count-clause-reads : goal.returns-in_err-count-clause-reads
+returns-in_err-count-clause-reads g c =
+    let p = err_from_is_err_and c.from_residual.result c.from_residual.ensures.1 in
+    rw (p.1, p.2) (feed_reads _ _ _ _ c.in_err-count.ensures.cause c.loop-received.invariant.reads)
+
+pub returns-in_err-count-clause-writes : goal.returns-in_err-count-clause-writes
+returns-in_err-count-clause-writes g c =
+    let p = err_from_is_err_and c.from_residual.result c.from_residual.ensures.1 in
+    let fed = g.met.P.Port.fed_keeps_outputs c.loop-received.port c.bits.new.self c.bits.ensures.fed in
+    rw (p.1, p.2) (feed_writes _ _ _ (fed.1 ∙ c.loop-received.invariant.writes))
+
+pub returns-in_err-take-clause-reads : goal.returns-in_err-take-clause-reads
+returns-in_err-take-clause-reads g c =
+    let p = err_from_is_err_and c.from_residual-in_err-take.result c.from_residual-in_err-take.ensures.1 in
+    let drained = g.met.P.Port.drained_keeps_inputs c.bits.new.self c.take.new.drain c.take.ensures.drained in
+    rw (p.1, p.2) (drained.1 ∙ c.in_ok-count.ensures.cause ∙ c.loop-received.invariant.reads)
+
+pub returns-in_err-take-clause-writes : goal.returns-in_err-take-clause-writes
+returns-in_err-take-clause-writes g c =
+    let p = err_from_is_err_and c.from_residual-in_err-take.result c.from_residual-in_err-take.ensures.1 in
+    let fed = g.met.P.Port.fed_keeps_outputs c.loop-received.port c.bits.new.self c.bits.ensures.fed in
+    rw (p.1, p.2) (c.in_err-take.ensures.cause ∙ ap one_more (fed.1 ∙ c.loop-received.invariant.writes))
 
 pub returns-in_err-count-clause-kept : goal.returns-in_err-count-clause-kept
 returns-in_err-count-clause-kept g c =
@@ -67,7 +94,7 @@ returns-in_err-take-clause-stops g c =
     (put_stops_many (g.R.Rx.meaning c.args.receiver.now) (g.R.Rx.meaning c.loop-received.receiver) (g.R.Rx.stands c.loop-received.receiver) c.loop-received.received c.args.bits bits (g.P.Feed.inputs c.args.port.now)
     (g.P.Feed.inputs c.loop-received.port) (g.P.Feed.inputs c.bits.new.self) (g.P.Feed.inputs c.take.new.drain) (g.P.Drain.outputs c.args.port.now) (g.P.Drain.outputs c.loop-received.port) (g.P.Drain.outputs c.bits.new.self)
     (g.P.Drain.outputs c.take.new.drain) (g.P.Feed.feed_faults c.args.port.now) (g.P.Feed.feed_faults c.take.new.drain) _ _ _ inv.same drained.0 fed.0 few inv.receives (subst (λ (l : List Bool). Takes (for_leaf 0 l) (g.P.Feed.inputs c.loop-received.port) (g.P.Feed.inputs c.bits.new.self)) whole c.in_ok-count.ensures.ok)
-    c.in_err-take.ensures.part later c.in_err-take.ensures.cause.failed)
+    c.in_err-take.ensures.part later (rose_of _ _ c.in_err-take.ensures.cause))
 
 pub returns-in_err-take-clause-kept : goal.returns-in_err-take-clause-kept
 returns-in_err-take-clause-kept g c =
@@ -91,6 +118,8 @@ loop-received-preserved g c =
       within = omega (arith, c.in_ok-count.ensures.count.1, c.part-most.ensures.left, c.loop-received-test.true);
       room = c.in_ok-count.ensures.grown.capacity ∙ ap (λ (b : BoundedBits). b.capacity) c.clear.ensures ∙ inv.room;
       same = c.take.ensures.same ∙ inv.same;
+      reads = drained.1 ∙ c.in_ok-count.ensures.cause ∙ inv.reads;
+      writes = c.in_ok-take.ensures.cause ∙ fed.1 ∙ inv.writes;
       kept = g.met.P.Port.kept_join c.args.port.now c.bits.new.self c.take.new.drain kept (g.met.P.Port.drained_is_kept c.bits.new.self c.take.new.drain c.take.ensures.drained);
       inputs = ap (λ i. i.holds) drained.0 ∙ g.met.P.Feed.fed_holds c.loop-received.port c.bits.new.self c.bits.ensures.fed ∙ inv.inputs;
       outputs = g.met.P.Drain.drained_holds c.bits.new.self c.take.new.drain c.take.ensures.drained ∙ ap (λ o. o.holds) fed.0 ∙ inv.outputs;

@@ -9,6 +9,8 @@ invariant-loop-received g l = record {
   within : l.received ≤ l.bits;
   room : l.buffer.capacity ≡ l.fn.buffer.capacity;
   same : g.R.Rx.meaning l.receiver ≡ g.R.Rx.meaning l.fn.receiver;
+  reads : g.P.Feed.feed_faults l.port ≡ g.P.Feed.feed_faults l.fn.port;
+  writes : g.P.Drain.drain_faults l.port ≡ g.P.Drain.drain_faults l.fn.port;
   kept : g.P.Port.kept l.fn.port l.port;
   inputs : (g.P.Feed.inputs l.port).holds ≡ (g.P.Feed.inputs l.fn.port).holds;
   outputs : (g.P.Drain.outputs l.port).holds ≡ (g.P.Drain.outputs l.fn.port).holds;

@@ -11,6 +11,7 @@ loop-made-init g c = record {
   running = c.requires.running;
   same_says = refl;
   same = refl;
+  unfailed = refl;
   fed = g.met.F.Feed.fed_same c.args.feed.now;
   len = ap (λ f. length f.bits) c.clear.ensures;
   room = ap (λ f. f.capacity) c.clear.ensures;
@@ -26,7 +27,7 @@ returns-in_err-bit-clause-stops g c =
     (λ x here.
     let makes = c.loop-made.invariant.makes x (λ n. g.T.Tx.says c.args.sender.now) here (λ y n l h begins. refl) in
     stops_making (g.T.Tx.meaning c.args.sender.now) (g.T.Tx.meaning c.loop-made.sender) (λ n. g.T.Tx.says c.args.sender.now) _ _ _ (plan_of c.args.clock.now) x _ _ c.loop-made.frame.bits _ (g.F.Feed.inputs c.args.feed.now) (g.F.Feed.inputs c.loop-made.feed)
-    (g.F.Feed.inputs c.next.new.feed) _ _ _ makes c.loop-made.invariant.same (g.met.F.Feed.fed_counts c.args.feed.now c.loop-made.feed c.loop-made.invariant.fed) (omega arith) (c.in_err-bit.ensures.stops _ makes.place))
+    (g.F.Feed.inputs c.next.new.feed) _ _ _ makes c.loop-made.invariant.same c.loop-made.invariant.unfailed (omega arith) (c.in_err-bit.ensures.stops _ makes.place))
 
 pub loop-made-preserved : goal.loop-made-preserved
 loop-made-preserved g c =
@@ -35,6 +36,7 @@ loop-made-preserved g c =
       running = c.in_ok-bit.ensures.running;
       same_says = cc;
       same = cc;
+      unfailed = c.in_ok-bit.ensures.unfailed ∙ inv.unfailed;
       fed = g.met.F.Feed.fed_join c.args.feed.now c.loop-made.feed c.next.new.feed inv.fed c.next.ensures.fed;
       len = ap (λ (f : BoundedBits). length f.bits) c.push.ensures ∙ length-append c.loop-made.frame.bits _ ∙ omega (arith, inv.len);
       room = ap (λ f. f.capacity) c.push.ensures ∙ inv.room;

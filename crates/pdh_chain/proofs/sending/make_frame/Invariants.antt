@@ -10,6 +10,7 @@ invariant-loop-made g l = record {
   running : g.T.Tx.is_stopped l.sender ≡ false;
   same_says : g.T.Tx.says l.sender ≡ g.T.Tx.says l.fn.sender;
   same : g.T.Tx.meaning l.sender ≡ g.T.Tx.meaning l.fn.sender;
+  unfailed : g.F.Feed.feed_faults l.feed ≡ g.F.Feed.feed_faults l.fn.feed;
   fed : g.F.Feed.fed l.fn.feed l.feed;
   len : length l.frame.bits ≡ l._made;
   room : l.frame.capacity ≡ l.fn.frame.capacity;

@@ -1,5 +1,7 @@
 use Rattle.std.proofs.Common.{◌≡◌, ◌≤◌, ◌+◌, ◌*◌, refl, sym, ap, subst, ◌∙◌, arith}
-use Rattle.pdh_tx.specs.Meaning.{Meaning, plan_of}
+use Rattle.pdh_edge.specs.Counts.{one_more}
+use Rattle.pdh_edge.proofs.Runs.{rose_of}
+use Rattle.pdh_tx.specs.Meaning.{Meaning, plan_of, faults_met}
 use Rattle.pdh_chain.specs.Saying.{says_of}
 use Rattle.pdh_chain.specs.Muxing.{SayInFrames, HasFrames}
 use Rattle.pdh_chain.proofs.Frames.{Sending, sending_none, sending_set, sending_more, sending_sends, sending_stops, sending_fails, says_in_frame, frame_end}
@@ -11,6 +13,8 @@ loop-whole-init g c = record {
   said = c.channel_of-channel.ensures;
   same = refl;
   room = refl;
+  reads = refl;
+  writes = refl;
   kept = g.met.P.Port.kept_same c.args.port.now;
   lists = refl;
   lines = refl;
@@ -26,8 +30,26 @@ returns-in-Err-clause-stops g c =
     let sending : Sending m (says_of c.args.feac) (g.T.Tx.stands_at c.set.new.self plan) (g.T.Tx.stands_for c.args.sender.now) (g.T.Tx.stands_for c.set.new.self) plan (c.loop-whole._whole * c.args.len) (g.P.Feed.inputs c.args.port.now) (g.P.Feed.inputs c.loop-whole.port) (g.P.Drain.outputs c.args.port.now) (g.P.Drain.outputs c.loop-whole.port) =
     sending_set m (says_of c.args.feac) _ _ _ _ _ plan _ _ _ _ _ (λ n. c.set.ensures.placed plan n) (λ supply n. c.set.ensures.held supply n) inv.sending in
     sending_stops m (g.T.Tx.meaning c.set.new.self) (says_of c.args.feac) _ _ _ plan c.args.len c.args.frames c.loop-whole._whole _ _ _ _ _ _ _ _ _ _ same
-    (g.met.P.Port.fed_keeps_outputs c.loop-whole.port c.make_frame.new.feed c.make_frame.ensures.fed).0 c.loop-whole-test.true (g.met.P.Port.kept_counts c.args.port.now c.loop-whole.port inv.kept).0 sending
+    (g.met.P.Port.fed_keeps_outputs c.loop-whole.port c.make_frame.new.feed c.make_frame.ensures.fed).0 c.loop-whole-test.true inv.reads sending
     (c.in-Err.ensures.stops _ sending.makes.place)
+
+pub returns-in-Err-clause-reads : goal.returns-in-Err-clause-reads
+returns-in-Err-clause-reads g c =
+    let plan = plan_of c.args.clock.now in
+    let inv = c.loop-whole.invariant in
+    let m = g.T.Tx.meaning c.args.sender.now in
+    let sending : Sending m (says_of c.args.feac) (g.T.Tx.stands_at c.set.new.self plan) (g.T.Tx.stands_for c.args.sender.now) (g.T.Tx.stands_for c.set.new.self) plan (c.loop-whole._whole * c.args.len) (g.P.Feed.inputs c.args.port.now) (g.P.Feed.inputs c.loop-whole.port) (g.P.Drain.outputs c.args.port.now) (g.P.Drain.outputs c.loop-whole.port) =
+    sending_set m (says_of c.args.feac) _ _ _ _ _ plan _ _ _ _ _ (λ n. c.set.ensures.placed plan n) (λ supply n. c.set.ensures.held supply n) inv.sending in
+    (c.in-Err.ensures.stops _ sending.makes.place).at.met.counted ∙ ap (faults_met c.in-Err.stop) inv.reads
+
+pub returns-in-Err-clause-writes : goal.returns-in-Err-clause-writes
+returns-in-Err-clause-writes g c = (g.met.P.Port.fed_keeps_outputs c.loop-whole.port c.make_frame.new.feed c.make_frame.ensures.fed).1 ∙ c.loop-whole.invariant.writes
+
+pub returns-in-Err-put_all-clause-reads : goal.returns-in-Err-put_all-clause-reads
+returns-in-Err-put_all-clause-reads g c = (g.met.P.Port.drained_keeps_inputs c.make_frame.new.feed c.put_all.new.self c.put_all.ensures.drained).1 ∙ c.in_default.ensures.unfailed ∙ c.loop-whole.invariant.reads
+
+pub returns-in-Err-put_all-clause-writes : goal.returns-in-Err-put_all-clause-writes
+returns-in-Err-put_all-clause-writes g c = c.in-Err-put_all.ensures.cause ∙ ap one_more ((g.met.P.Port.fed_keeps_outputs c.loop-whole.port c.make_frame.new.feed c.make_frame.ensures.fed).1 ∙ c.loop-whole.invariant.writes)
 
 pub returns-in-Err-put_all-clause-fails : goal.returns-in-Err-put_all-clause-fails
 returns-in-Err-put_all-clause-fails g c =
@@ -48,7 +70,7 @@ returns-in-Err-put_all-clause-fails g c =
     (g.P.Feed.inputs c.loop-whole.port) (g.P.Feed.inputs c.make_frame.new.feed) (g.P.Feed.inputs c.put_all.new.self) (g.P.Drain.outputs c.args.port.now) (g.P.Drain.outputs c.loop-whole.port) (g.P.Drain.outputs c.make_frame.new.feed)
     (g.P.Drain.outputs c.put_all.new.self) (g.P.Drain.drain_faults c.args.port.now) (g.P.Drain.drain_faults c.make_frame.new.feed) (g.P.Drain.drain_faults c.put_all.new.self) same refl
     (g.met.P.Port.drained_keeps_inputs c.make_frame.new.feed c.put_all.new.self c.put_all.ensures.drained).0 fed.0 c.loop-whole-test.true later sending
-    (c.in_default.ensures.made (c.loop-whole._whole * c.args.len) (says_of c.args.feac) sending.makes.place told) c.in-Err-put_all.ensures.err c.in-Err-put_all.ensures.cause.failed
+    (c.in_default.ensures.made (c.loop-whole._whole * c.args.len) (says_of c.args.feac) sending.makes.place told) c.in-Err-put_all.ensures.err (rose_of _ _ c.in-Err-put_all.ensures.cause)
 
 pub returns-in-Err-put_all-clause-kept : goal.returns-in-Err-put_all-clause-kept
 returns-in-Err-put_all-clause-kept g c =
@@ -74,6 +96,8 @@ loop-whole-preserved g c =
       said = c.next_service.ensures.said c.args.feac c.loop-whole._whole inv.said;
       same = c.make_frame.ensures.same ∙ same;
       room = c.make_frame.ensures.room ∙ inv.room;
+      reads = drained.1 ∙ c.in_default.ensures.unfailed ∙ inv.reads;
+      writes = c.in_default-put_all.ensures.cause ∙ fed.1 ∙ inv.writes;
       kept = g.met.P.Port.kept_join c.args.port.now c.make_frame.new.feed c.put_all.new.self kept (g.met.P.Port.drained_is_kept c.make_frame.new.feed c.put_all.new.self c.put_all.ensures.drained);
       lists = ap (λ i. i.holds) drained.0 ∙ g.met.P.Feed.fed_holds c.loop-whole.port c.make_frame.new.feed c.make_frame.ensures.fed ∙ inv.lists;
       lines = g.met.P.Drain.drained_holds c.make_frame.new.feed c.put_all.new.self c.put_all.ensures.drained ∙ ap (λ o. o.holds) fed.0 ∙ inv.lines;

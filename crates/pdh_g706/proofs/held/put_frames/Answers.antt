@@ -35,5 +35,6 @@ loop-number-preserved g c =
     record {
       puts = subst (λ (x : List Bool). Puts (for_leaf 0 x) (outputs c.args.drain.now) (outputs c.put_all.new.self)) (sym more)
           (puts_then 0 (payload_from (frames_of bits) k n) payload (outputs c.args.drain.now) (outputs c.loop-number.drain) (outputs c.put_all.new.self) c.loop-number.invariant.puts c.in_ok-put_all.ensures.ok);
+      unfailed = c.in_ok-put_all.ensures.cause ∙ c.loop-number.invariant.unfailed;
       drained = g.met.D.Drain.drained_join c.args.drain.now c.loop-number.drain c.put_all.new.self c.loop-number.invariant.drained c.put_all.ensures.drained;
     }

@@ -10,10 +10,10 @@ use Rattle.pdh_ops.proofs.program.run.Goals as goal
 
 pub returns-clause-runs : goal.returns-clause-runs
 returns-clause-runs g c = record {
-  answer = c.answer-answer.result;
-  does = c.answer-answer.ensures.does;
-  watches = c.answer-answer.ensures.watches;
-  told = subst (λ monitors. IsTold (map (state-value g.dyn-1).it monitors) c.answer-answer.result (g.K.Sink.state c.args.out) (g.K.Sink.state c.report-status.new.out) c.report-status.result) c.deref.ensures.value c.report-status.ensures;
+  answer = c.answer-ended.result.answer;
+  does = c.answer-ended.ensures.does;
+  watches = c.answer-ended.ensures.watches;
+  told = subst (λ monitors. IsTold (map (state-value g.dyn-1).it monitors) c.answer-ended.result.answer (g.K.Sink.state c.args.out) (g.K.Sink.state c.report-status.new.out) c.report-status.result) c.deref.ensures.value c.report-status.ensures;
 }
 
 pub returns-clause-completes : goal.returns-clause-completes

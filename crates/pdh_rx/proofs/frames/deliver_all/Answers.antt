@@ -1,5 +1,6 @@
 use Rattle.std.proofs.Common.{◌≡◌, ◌<◌, ◌-◌, ◌++◌, suc, refl, sym, ◌∙◌, ap, subst, arith, map, length, take, Bool, List}
 use Rattle.std.proofs.lemmas.List.{append-nil, take_all, length-map}
+use Rattle.std.proofs.lemmas.Result.{err_from_is_err_and}
 use Rattle.pdh_line.specs.Tracking.{Piece}
 use Rattle.pdh_line.specs.Tracking.Piece.{Delivered}
 use Rattle.pdh_align.specs.Aligning.{frame_back}
@@ -8,7 +9,8 @@ use Rattle.pdh_events.specs.Keeping.{Remembers}
 use Rattle.pdh_events.specs.laws.ActsLaws.{after_acts}
 use Rattle.pdh_rx.specs.Node.{any_leaf}
 use Rattle.pdh_rx.specs.laws.NodeLaws.{all_sound}
-use Rattle.pdh_rx.proofs.Gains.{on_err_from, cause_since}
+use Rattle.pdh_edge.proofs.Runs.{cause_since}
+use Rattle.pdh_rx.proofs.Gains.{on_err_from}
 use Rattle.pdh_rx.proofs.Playing.{plays_nothing, plays_same, plays_join, plays_part, plays_at, part_at}
 use Rattle.pdh_rx.proofs.SlotActs.{frames_next, frames_begin, frames_left, pieces_next}
 use Rattle.pdh_rx.proofs.frames.deliver_all.Goals as goal
@@ -18,6 +20,7 @@ loop-done-init g c = record {
   same = refl;
   played = λ pieces kept. plays_nothing g.C.Rx.tells g.W.Watch.saw _ _ _ _ (g.met.W.Watch.saw_nothing _);
   remembers = λ pieces kept. let P : List Piece → Type 0 = Remembers g.S.Shape.shape c.args.teller.now in subst P (sym (append-nil pieces)) kept;
+  unfailed = refl;
   drained = g.met.D.Drain.drained_same _;
 }
 
@@ -58,6 +61,7 @@ loop-done-preserved g c =
       remembers = λ pieces kept.
           let P : List Piece → Type 0 = Remembers s _ in
           subst P (sym (pieces_next pieces ready n back inside is)) (ok.remembers (pieces ++ map Delivered (take n ready)) (inv.remembers pieces kept));
+      unfailed = ok.cause ∙ inv.unfailed;
       drained = g.met.D.Drain.drained_join _ _ _ inv.drained ok.drained;
     }
 
@@ -92,10 +96,10 @@ returns-clause-remembers g c pieces kept =
     subst P (take_all c.loop-done.done ready (omega (arith, all))) (c.loop-done.invariant.remembers pieces kept)
 
 pub returns-in_err-deliver-clause-cause : goal.returns-in_err-deliver-clause-cause
-returns-in_err-deliver-clause-cause g c = cause_since c.from_residual.result _ _ _ (g.met.D.Drain.drained_counts _ _ c.loop-done.invariant.drained) c.in_err-deliver.ensures.cause.later c.in_err-deliver.ensures.cause.failed
+returns-in_err-deliver-clause-cause g c = cause_since c.from_residual.result _ _ _ _ (err_from_is_err_and c.from_residual.result c.from_residual.ensures.1).1 c.loop-done.invariant.unfailed c.in_err-deliver.ensures.cause
 
 pub returns-in_err-deliver-clause-drained : goal.returns-in_err-deliver-clause-drained
 returns-in_err-deliver-clause-drained g c = g.met.D.Drain.drained_join _ _ _ c.loop-done.invariant.drained c.in_err-deliver.ensures.drained
 
 pub returns-clause-cause : goal.returns-clause-cause
-returns-clause-cause g c = record { later = g.met.D.Drain.drained_counts _ _ c.loop-done.invariant.drained; failed = tt }
+returns-clause-cause g c = c.loop-done.invariant.unfailed

@@ -1,11 +1,13 @@
 use Rattle.std.proofs.Common.{◌≡◌, ◌<◌, ℕ, false, refl, ap, ◌∙◌, sym, arith, map, List, slice_index_or}
 use Rattle.std.specs.Prelude.{flat_map}
 use Rattle.std.specs.List.{range_with_len}
+use Rattle.std.proofs.lemmas.Result.{err_from_is_err_and}
 use Rattle.pdh_shape.specs.Frame.{slots}
 use Rattle.pdh_events.specs.Acts.{Act, slot_acts}
 use Rattle.pdh_events.specs.laws.ActsLaws.{after_acts, acts_push, acts_left, acts_begin}
 use Rattle.pdh_rx.specs.laws.NodeLaws.{all_sound}
-use Rattle.pdh_rx.proofs.Gains.{on_err_from, cause_since}
+use Rattle.pdh_edge.proofs.Runs.{cause_since}
+use Rattle.pdh_rx.proofs.Gains.{on_err_from}
 use Rattle.pdh_rx.proofs.Playing.{plays_nothing, plays_same, plays_join, plays_part, plays_at, part_same, part_at}
 use Rattle.pdh_rx.proofs.SlotActs.{names_known, slot_read}
 use Rattle.pdh_rx.proofs.frames.give_frame.Goals as goal
@@ -14,6 +16,7 @@ pub loop-slot-init : goal.loop-slot-init
 loop-slot-init g c = record {
   same = refl;
   played = plays_nothing g.C.Rx.tells g.W.Watch.saw _ _ _ _ (g.met.W.Watch.saw_nothing _);
+  unfailed = refl;
   drained = g.met.D.Drain.drained_same _;
 }
 
@@ -47,6 +50,7 @@ loop-slot-preserved g c =
           (plays_join g.C.Rx.tells g.W.Watch.saw ms g.met.W.Watch.saw_join (flat_map f (range_with_len 0 t)) (f t) _ _ _ _ _ _ _ _ _ inv.played
           (plays_same g.C.Rx.tells g.W.Watch.saw ms _ (f t) _ _ _ _ _ _ (slot_read s frame t c.role-role.result c.carries-more.result _ c.role-role.ensures c.carries-more.ensures (ap (λ l. slice_index_or l t false) c.frame-frame.ensures.frame))
           (plays_at g.C.Rx.tells g.W.Watch.saw ms _ inv.same _ _ _ _ _ _ _ ok.played)));
+      unfailed = ok.cause ∙ inv.unfailed;
       drained = g.met.D.Drain.drained_join _ _ _ inv.drained ok.drained;
     }
 
@@ -74,7 +78,7 @@ returns-clause-played g c =
     plays_same g.C.Rx.tells g.W.Watch.saw _ _ _ _ _ _ _ _ _ (ap (λ n. flat_map (slot_acts s c.args.copy.now) (range_with_len 0 n)) (sym whole)) c.loop-slot.invariant.played
 
 pub returns-in_err-give_slot-clause-cause : goal.returns-in_err-give_slot-clause-cause
-returns-in_err-give_slot-clause-cause g c = cause_since c.from_residual.result _ _ _ (g.met.D.Drain.drained_counts _ _ c.loop-slot.invariant.drained) c.in_err-give_slot.ensures.cause.later c.in_err-give_slot.ensures.cause.failed
+returns-in_err-give_slot-clause-cause g c = cause_since c.from_residual.result _ _ _ _ (err_from_is_err_and c.from_residual.result c.from_residual.ensures.1).1 c.loop-slot.invariant.unfailed c.in_err-give_slot.ensures.cause
 
 pub returns-in_err-give_slot-clause-drained : goal.returns-in_err-give_slot-clause-drained
 returns-in_err-give_slot-clause-drained g c = g.met.D.Drain.drained_join _ _ _ c.loop-slot.invariant.drained c.in_err-give_slot.ensures.drained

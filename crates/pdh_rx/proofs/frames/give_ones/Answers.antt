@@ -2,10 +2,12 @@ use Rattle.std.proofs.Common.{◌≡◌, ◌<◌, ℕ, refl, sym, ap, ◌∙◌,
 use Rattle.std.specs.Prelude.{flat_map}
 use Rattle.std.specs.List.{range_with_len}
 use Rattle.std.proofs.lemmas.List.{length-map}
+use Rattle.std.proofs.lemmas.Result.{err_from_is_err_and}
 use Rattle.pdh_events.specs.Acts.{Act, round_acts, rounds_acts}
 use Rattle.pdh_events.specs.laws.ActsLaws.{after_acts}
 use Rattle.pdh_rx.specs.laws.NodeLaws.{all_sound}
-use Rattle.pdh_rx.proofs.Gains.{on_err_from, cause_since}
+use Rattle.pdh_edge.proofs.Runs.{cause_since}
+use Rattle.pdh_rx.proofs.Gains.{on_err_from}
 use Rattle.pdh_events.specs.laws.ActsLaws.{acts_push, acts_left, acts_begin}
 use Rattle.pdh_rx.proofs.Playing.{plays_nothing, plays_same, plays_join, plays_part, plays_at, part_at}
 use Rattle.pdh_rx.proofs.frames.give_ones.Goals as goal
@@ -14,6 +16,7 @@ pub loop-round-init : goal.loop-round-init
 loop-round-init g c = record {
   same = refl;
   played = plays_nothing g.C.Rx.tells g.W.Watch.saw _ _ _ _ (g.met.W.Watch.saw_nothing _);
+  unfailed = refl;
   drained = g.met.D.Drain.drained_same _;
 }
 
@@ -36,6 +39,7 @@ loop-round-preserved g c =
       same = ok.same ∙ inv.same;
       played = plays_same g.C.Rx.tells g.W.Watch.saw ms _ _ _ _ _ _ _ _ (acts_push f t)
           (plays_join g.C.Rx.tells g.W.Watch.saw ms g.met.W.Watch.saw_join (flat_map f (range_with_len 0 t)) (f t) _ _ _ _ _ _ _ _ _ inv.played (plays_at g.C.Rx.tells g.W.Watch.saw ms _ inv.same _ _ _ _ _ _ _ ok.played));
+      unfailed = ok.cause ∙ inv.unfailed;
       drained = g.met.D.Drain.drained_join _ _ _ inv.drained ok.drained;
     }
 
@@ -59,7 +63,7 @@ returns-clause-played g c =
     plays_same g.C.Rx.tells g.W.Watch.saw _ _ _ _ _ _ _ _ _ (ap (λ n. flat_map f (range_with_len 0 n)) (sym all)) c.loop-round.invariant.played
 
 pub returns-in_err-give_round-clause-cause : goal.returns-in_err-give_round-clause-cause
-returns-in_err-give_round-clause-cause g c = cause_since c.from_residual.result _ _ _ (g.met.D.Drain.drained_counts _ _ c.loop-round.invariant.drained) c.in_err-give_round.ensures.cause.later c.in_err-give_round.ensures.cause.failed
+returns-in_err-give_round-clause-cause g c = cause_since c.from_residual.result _ _ _ _ (err_from_is_err_and c.from_residual.result c.from_residual.ensures.1).1 c.loop-round.invariant.unfailed c.in_err-give_round.ensures.cause
 
 pub returns-in_err-give_round-clause-drained : goal.returns-in_err-give_round-clause-drained
 returns-in_err-give_round-clause-drained g c = g.met.D.Drain.drained_join _ _ _ c.loop-round.invariant.drained c.in_err-give_round.ensures.drained

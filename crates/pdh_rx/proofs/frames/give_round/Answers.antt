@@ -2,11 +2,13 @@ use Rattle.std.proofs.Common.{◌≡◌, ◌<◌, ℕ, refl, sym, ap, ◌∙◌,
 use Rattle.std.specs.Prelude.{flat_map}
 use Rattle.std.specs.List.{range_with_len}
 use Rattle.std.proofs.lemmas.List.{length-map}
+use Rattle.std.proofs.lemmas.Result.{err_from_is_err_and}
 use Rattle.pdh_events.specs.Acts.{Act, round_acts}
 use Rattle.pdh_events.specs.Acts.Act.{Give}
 use Rattle.pdh_events.specs.laws.ActsLaws.{after_acts}
 use Rattle.pdh_rx.specs.laws.NodeLaws.{all_sound}
-use Rattle.pdh_rx.proofs.Gains.{on_err_from, cause_since}
+use Rattle.pdh_edge.proofs.Runs.{cause_since}
+use Rattle.pdh_rx.proofs.Gains.{on_err_from}
 use Rattle.pdh_events.specs.laws.ActsLaws.{acts_push, acts_left, acts_begin}
 use Rattle.pdh_rx.proofs.Playing.{plays_nothing, plays_same, plays_join, plays_part, plays_at, part_at}
 use Rattle.pdh_rx.proofs.frames.give_round.Goals as goal
@@ -18,6 +20,7 @@ pub loop-trib-init : goal.loop-trib-init
 loop-trib-init g c = record {
   same = refl;
   played = plays_nothing g.C.Rx.tells g.W.Watch.saw _ _ _ _ (g.met.W.Watch.saw_nothing _);
+  unfailed = refl;
   drained = g.met.D.Drain.drained_same _;
 }
 
@@ -40,6 +43,7 @@ loop-trib-preserved g c =
       same = ok.same ∙ inv.same;
       played = plays_same g.C.Rx.tells g.W.Watch.saw ms _ _ _ _ _ _ _ _ (acts_push one t)
           (plays_join g.C.Rx.tells g.W.Watch.saw ms g.met.W.Watch.saw_join (flat_map one (range_with_len 0 t)) (one t) _ _ _ _ _ _ _ _ _ inv.played (plays_at g.C.Rx.tells g.W.Watch.saw ms _ inv.same _ _ _ _ _ _ _ ok.played));
+      unfailed = ok.cause ∙ inv.unfailed;
       drained = g.met.D.Drain.drained_join _ _ _ inv.drained ok.drained;
     }
 
@@ -61,7 +65,7 @@ returns-clause-played g c =
     plays_same g.C.Rx.tells g.W.Watch.saw _ _ _ _ _ _ _ _ _ (ap (λ n. flat_map one (range_with_len 0 n)) (sym all)) c.loop-trib.invariant.played
 
 pub returns-in_err-push_to-clause-cause : goal.returns-in_err-push_to-clause-cause
-returns-in_err-push_to-clause-cause g c = cause_since c.from_residual.result _ _ _ (g.met.D.Drain.drained_counts _ _ c.loop-trib.invariant.drained) c.in_err-push_to.ensures.cause.later c.in_err-push_to.ensures.cause.failed
+returns-in_err-push_to-clause-cause g c = cause_since c.from_residual.result _ _ _ _ (err_from_is_err_and c.from_residual.result c.from_residual.ensures.1).1 c.loop-trib.invariant.unfailed c.in_err-push_to.ensures.cause
 
 pub returns-in_err-push_to-clause-drained : goal.returns-in_err-push_to-clause-drained
 returns-in_err-push_to-clause-drained g c = g.met.D.Drain.drained_join _ _ _ c.loop-trib.invariant.drained c.in_err-push_to.ensures.drained

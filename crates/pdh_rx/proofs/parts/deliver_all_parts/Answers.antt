@@ -1,10 +1,12 @@
 use Rattle.std.proofs.Common.{◌≡◌, ◌<◌, ◌-◌, suc, refl, ◌∙◌, arith, map, length, take, []}
+use Rattle.std.proofs.lemmas.Result.{err_from_is_err_and}
 use Rattle.pdh_shape.specs.Tributary.{stripped}
 use Rattle.pdh_align.specs.Aligning.{frame_back}
 use Rattle.pdh_events.specs.Acts.{with_more}
 use Rattle.pdh_rx.specs.Node.{frames_bits}
 use Rattle.pdh_rx.specs.laws.NodeLaws.{all_sound}
-use Rattle.pdh_rx.proofs.Gains.{on_err_from, cause_since, gives_nothing, gives_join, gives_part, gives_at, part_at}
+use Rattle.pdh_edge.proofs.Runs.{cause_since}
+use Rattle.pdh_rx.proofs.Gains.{on_err_from, gives_nothing, gives_join, gives_part, gives_at, part_at}
 use Rattle.pdh_rx.proofs.FrameBits.{frames_push, frames_begin}
 use Rattle.pdh_rx.proofs.parts.deliver_all_parts.Goals as goal
 
@@ -12,6 +14,7 @@ pub loop-done-init : goal.loop-done-init
 loop-done-init g c = record {
   same = refl;
   given = gives_nothing g.C.Rx.stands _ _ _ (frames_bits g.S.Shape.shape []) (λ j. refl);
+  unfailed = refl;
   drained = g.met.D.Drain.drained_same _;
 }
 
@@ -32,6 +35,7 @@ loop-done-preserved g c =
     record {
       same = ok.same ∙ inv.same;
       given = gives_join g.C.Rx.stands ms (frames_bits s (take n ready)) (λ j. stripped s j (frame_back ready back)) _ _ _ _ _ _ _ (frames_push s ready n back inside is) inv.given (gives_at g.C.Rx.stands ms _ inv.same _ _ _ _ _ ok.given);
+      unfailed = ok.cause ∙ inv.unfailed;
       drained = g.met.D.Drain.drained_join _ _ _ inv.drained ok.drained;
     }
 
@@ -51,7 +55,7 @@ returns-in_err-deliver_parts-clause-part g c =
     (frames_begin s ready n back inside is) inv.given (part_at g.C.Rx.stands ms _ inv.same _ _ _ _ err.part))
 
 pub returns-in_err-deliver_parts-clause-cause : goal.returns-in_err-deliver_parts-clause-cause
-returns-in_err-deliver_parts-clause-cause g c = cause_since c.from_residual.result _ _ _ (g.met.D.Drain.drained_counts _ _ c.loop-done.invariant.drained) c.in_err-deliver_parts.ensures.cause.later c.in_err-deliver_parts.ensures.cause.failed
+returns-in_err-deliver_parts-clause-cause g c = cause_since c.from_residual.result _ _ _ _ (err_from_is_err_and c.from_residual.result c.from_residual.ensures.1).1 c.loop-done.invariant.unfailed c.in_err-deliver_parts.ensures.cause
 
 pub returns-in_err-deliver_parts-clause-drained : goal.returns-in_err-deliver_parts-clause-drained
 returns-in_err-deliver_parts-clause-drained g c = g.met.D.Drain.drained_join _ _ _ c.loop-done.invariant.drained c.in_err-deliver_parts.ensures.drained

@@ -1,10 +1,12 @@
 use Rattle.std.proofs.Common.{◌≡◌, ℕ, Bool, List, refl, sym, ap, ◌∙◌, arith, length, map, true, replicate}
 use Rattle.std.proofs.lemmas.List.{length-map}
+use Rattle.std.proofs.lemmas.Result.{err_from_is_err_and}
 use Rattle.pdh_edge.specs.Ports.{for_leaf}
 use Rattle.pdh_events.specs.Acts.{with_more}
 use Rattle.pdh_rx.specs.Node.{ones_bits}
 use Rattle.pdh_rx.specs.laws.NodeLaws.{all_sound}
-use Rattle.pdh_rx.proofs.Gains.{on_err_from, cause_since, gives_nothing, gives_join, gives_part, gives_below, gives_at, part_at}
+use Rattle.pdh_edge.proofs.Runs.{cause_since}
+use Rattle.pdh_rx.proofs.Gains.{on_err_from, gives_nothing, gives_join, gives_part, gives_below, gives_at, part_at}
 use Rattle.pdh_rx.proofs.Shares.{first_bits, first_bits_none, first_bits_push, first_bits_begin, first_bits_all}
 use Rattle.pdh_rx.proofs.parts.fill_parts.Goals as goal
 
@@ -14,6 +16,7 @@ loop-trib-init g c =
     record {
       same = refl;
       given = gives_nothing g.C.Rx.stands _ _ _ (first_bits f 0) (first_bits_none f);
+      unfailed = refl;
       drained = g.met.D.Drain.drained_same _;
     }
 
@@ -39,6 +42,7 @@ loop-trib-preserved g c =
     record {
       same = ok.same ∙ inv.same;
       given = gives_join g.C.Rx.stands ms (first_bits f t) (for_leaf t c.ones.result.now.bits) _ _ _ _ _ _ _ (first_bits_push f t c.ones.result.now.bits is) inv.given (gives_at g.C.Rx.stands ms _ inv.same _ _ _ _ _ ok.given);
+      unfailed = ok.cause ∙ inv.unfailed;
       drained = g.met.D.Drain.drained_join _ _ _ inv.drained ok.drained;
     }
 
@@ -65,7 +69,7 @@ returns-clause-given g c =
     (λ j lt. first_bits_all f t j (omega (arith, lt, few))) inv.given
 
 pub returns-in_err-take_to-clause-cause : goal.returns-in_err-take_to-clause-cause
-returns-in_err-take_to-clause-cause g c = cause_since c.from_residual.result _ _ _ (g.met.D.Drain.drained_counts _ _ c.loop-trib.invariant.drained) c.in_err-take_to.ensures.cause.later c.in_err-take_to.ensures.cause.failed
+returns-in_err-take_to-clause-cause g c = cause_since c.from_residual.result _ _ _ _ (err_from_is_err_and c.from_residual.result c.from_residual.ensures.1).1 c.loop-trib.invariant.unfailed c.in_err-take_to.ensures.cause
 
 pub returns-in_err-take_to-clause-drained : goal.returns-in_err-take_to-clause-drained
 returns-in_err-take_to-clause-drained g c = g.met.D.Drain.drained_join _ _ _ c.loop-trib.invariant.drained c.in_err-take_to.ensures.drained

@@ -1,5 +1,6 @@
-use Rattle.std.proofs.Common.{◌<◌, ◌≤◌, ◌+◌, length, drop, get_or, refl, ◌∙◌, arith}
+use Rattle.std.proofs.Common.{◌<◌, ◌≤◌, ◌+◌, length, drop, get_or, refl, ap, ◌∙◌, arith}
 use Rattle.std.proofs.lemmas.Result.{err_from_is_err_and}
+use Rattle.pdh_script.specs.Applying.{apply_reads, apply_writes, reads_at_stop, writes_at_stop}
 use Rattle.pdh_script.specs.Stored.{rows_in}
 use Rattle.pdh_script.proofs.Disturbing.{disturbing_begins, kept_passes, kept_stops, change_stops, change_done, end_ok, end_err, no_step, step_next, no_step_left}
 use Rattle.pdh_script.proofs.passing.disturb.Goals as goal
@@ -8,6 +9,8 @@ pub loop-step-init : goal.loop-step-init
 loop-step-init g c = record {
   capacity = refl;
   kept = g.met.P.Port.kept_same c.args.port.now;
+  reads = refl;
+  writes = refl;
   disturbing = disturbing_begins c.args.bits c.args.steps.now c.args.bytes.now (g.P.Feed.inputs c.args.port.now) (g.P.Drain.outputs c.args.port.now) c.requires.fit c.requires.enough;
 }
 
@@ -25,6 +28,26 @@ returns-in_err-pass-clause-err g c =
     (g.P.Feed.inputs c.args.port.now) (g.P.Feed.inputs c.loop-step.port) (g.P.Feed.inputs c.pass.new.port) (g.P.Drain.outputs c.args.port.now) (g.P.Drain.outputs c.loop-step.port) (g.P.Drain.outputs c.pass.new.port)
     (g.P.Feed.feed_faults c.args.port.now) (g.P.Feed.feed_faults c.loop-step.port) (g.P.Feed.feed_faults c.pass.new.port) (g.P.Drain.drain_faults c.args.port.now) (g.P.Drain.drain_faults c.loop-step.port) (g.P.Drain.drain_faults c.pass.new.port)
     c.in_err-pass.field-0.0 d c.from.ensures since.0 since.1 c.in_err-pass.ensures.err)
+
+pub returns-in_err-pass-clause-reads : goal.returns-in_err-pass-clause-reads
+returns-in_err-pass-clause-reads g c =
+    let p = err_from_is_err_and c.from_residual.result c.from_residual.ensures.1 in
+    rw (p.1, p.2) (c.in_err-pass.ensures.reads ∙ ap (reads_at_stop c.in_err-pass.field-0.0) c.loop-step.invariant.reads)
+
+pub returns-in_err-pass-clause-writes : goal.returns-in_err-pass-clause-writes
+returns-in_err-pass-clause-writes g c =
+    let p = err_from_is_err_and c.from_residual.result c.from_residual.ensures.1 in
+    rw (p.1, p.2) (c.in_err-pass.ensures.writes ∙ ap (writes_at_stop c.in_err-pass.field-0.0) c.loop-step.invariant.writes)
+
+pub returns-in_err-make_change-clause-reads : goal.returns-in_err-make_change-clause-reads
+returns-in_err-make_change-clause-reads g c =
+    let p = err_from_is_err_and c.from_residual-in_err-make_change.result c.from_residual-in_err-make_change.ensures.1 in
+    rw (p.1, p.2) (c.in_err-make_change.ensures.reads ∙ ap (reads_at_stop c.in_err-make_change.field-0.0) (c.in_ok-pass.ensures.reads ∙ c.loop-step.invariant.reads))
+
+pub returns-in_err-make_change-clause-writes : goal.returns-in_err-make_change-clause-writes
+returns-in_err-make_change-clause-writes g c =
+    let p = err_from_is_err_and c.from_residual-in_err-make_change.result c.from_residual-in_err-make_change.ensures.1 in
+    rw (p.1, p.2) (c.in_err-make_change.ensures.writes ∙ ap (writes_at_stop c.in_err-make_change.field-0.0) (c.in_ok-pass.ensures.writes ∙ c.loop-step.invariant.writes))
 
 pub returns-in_err-make_change-clause-kept : goal.returns-in_err-make_change-clause-kept
 returns-in_err-make_change-clause-kept g c =
@@ -62,12 +85,20 @@ loop-step-preserved g c =
     (g.P.Feed.inputs c.args.port.now) (g.P.Feed.inputs c.loop-step.port) (g.P.Feed.inputs c.pass.new.port) (g.P.Drain.outputs c.args.port.now) (g.P.Drain.outputs c.loop-step.port) (g.P.Drain.outputs c.pass.new.port) d c.from.ensures c.in_ok-pass.ensures.ok in
     record {
       capacity = c.in_ok-make_change.ensures.capacity ∙ c.in_ok-pass.ensures.capacity ∙ inv.capacity;
+      reads = c.in_ok-make_change.ensures.reads ∙ c.in_ok-pass.ensures.reads ∙ inv.reads;
+      writes = c.in_ok-make_change.ensures.writes ∙ c.in_ok-pass.ensures.writes ∙ inv.writes;
       kept = g.met.P.Port.kept_join c.args.port.now c.pass.new.port c.make_change.new.port passed c.in_ok-make_change.ensures.kept;
       disturbing = change_done (rows_in steps c.args.bytes.now) c.args.bits c.loop-step.place c.end-place.result c.bytes.result (get_or steps i no_step) (drop (i + 1) steps) c.loop-step.added.now
           (g.P.Feed.inputs c.args.port.now) (g.P.Feed.inputs c.loop-step.port) (g.P.Feed.inputs c.pass.new.port) (g.P.Feed.inputs c.make_change.new.port)
           (g.P.Drain.outputs c.args.port.now) (g.P.Drain.outputs c.loop-step.port) (g.P.Drain.outputs c.pass.new.port) (g.P.Drain.outputs c.make_change.new.port)
           d before c.in_ok-make_change.ensures.ok (c.end-place.ensures c.loop-step.added.now) c.bytes.ensures;
     }
+
+pub returns-clause-reads : goal.returns-clause-reads
+returns-clause-reads g c = c.pass-2.ensures.reads ∙ ap (apply_reads c.pass-2.result) c.loop-step.invariant.reads
+
+pub returns-clause-writes : goal.returns-clause-writes
+returns-clause-writes g c = c.pass-2.ensures.writes ∙ ap (apply_writes c.pass-2.result) c.loop-step.invariant.writes
 
 pub returns-clause-ok : goal.returns-clause-ok
 returns-clause-ok g c =

@@ -28,3 +28,18 @@ text-requires-3 g c =
       c.text.ensures.len,
       ap length c.new-line.ensures,
     )
+
+pub returns-clause-len : goal.returns-clause-len
+returns-clause-len g c =
+    omega (
+      arith,
+      c.text-3.ensures.len,
+      ap length c.number-2.ensures.bytes,
+      length-append c.text-2.new.self (decimal c.carried.result),
+      few_digits c.carried.result c.carried.ensures.few,
+      c.text-2.ensures.len,
+      c.append_controls.ensures.len,
+      c.number.ensures.len,
+      c.text.ensures.len,
+      ap length c.new-line.ensures,
+    )

@@ -23,7 +23,7 @@ loop-trib-init g c = record {
   fills = λ path. passes_none (placed_in g.C.Tx) (held_in g.C.Tx) g.C.Tx.meaning path (plan_of c.args.clock.now) _ _ _ _ _
       (λ (source : Source). HoldsBits g.S.Shape.shape source c.args.frame c.args.slot c.args.len (columns c.args.self.now) 0) (λ source j less. absurd (omega arith));
   rows = λ j less. absurd (omega arith);
-  later = omega arith;
+  unfailed = refl;
   fed = g.met.F.Feed.fed_same _;
   same = refl;
   overhead = refl;
@@ -85,7 +85,7 @@ loop-trib-preserved g c =
           (λ source. HoldsBits s source n t len old i) (λ source. HoldsBitsOf s source n t len new i) (λ source. HoldsBits s source n t len new (suc i))
           (λ supply is was now. holds_more s (source_of path ms supply) n t len i old new ok.earlier was now) (inv.fills path) (subst (P path) inv.same (ok.fills path)));
       rows = subst (λ (k : ℕ). HasRows s t len new k) e (rows_more s t len i old new ok.earlier inv.rows ok.rows);
-      later = (let a = inv.later in let b = ok.cause.later in omega arith);
+      unfailed = ok.cause ∙ inv.unfailed;
       fed = g.met.F.Feed.fed_join _ _ _ inv.fed ok.fed;
       same = ok.same ∙ inv.same;
       overhead = ok.overhead ∙ inv.overhead;

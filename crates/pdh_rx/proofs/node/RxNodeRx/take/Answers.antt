@@ -1,8 +1,10 @@
 use Rattle.std.proofs.Common.{◌+◌, [], ◌++◌, take, drop, refl, sym, ap, ◌∙◌, arith}
 use Rattle.std.proofs.Math.Seq.{take-add}
+use Rattle.std.proofs.lemmas.Result.{err_from_is_err_and}
 use Rattle.pdh_rx.specs.Meaning.{Meaning}
 use Rattle.pdh_rx.specs.laws.NodeLaws.{node_sound}
-use Rattle.pdh_rx.proofs.Gains.{on_err_from, cause_since}
+use Rattle.pdh_edge.proofs.Runs.{cause_since}
+use Rattle.pdh_rx.proofs.Gains.{on_err_from}
 use Rattle.pdh_rx.proofs.NodeSteps.{takes_waiting}
 use Rattle.pdh_rx.proofs.Shares.{bits_rest, bits_all, takes_none, takes_join, takes_part}
 use Rattle.pdh_rx.proofs.node.RxNodeRx.take.Goals as goal
@@ -13,6 +15,7 @@ loop-done-init g c = record {
   taken = takes_waiting g.C.Rx.stands g.C.Rx.meaning g.S.Shape.shape c.args.self.now.path c.args.self.now.children.items c.args.self.now.aligner c.take-done.new.self c.args.self.now.gap c.args.self.now.frames (take c.take-done.result c.args.bits.now.bits) (g.D.Drain.outputs c.args.drain.now)
       c.take-done.ensures.waits;
   same = refl;
+  unfailed = refl;
   drained = g.met.D.Drain.drained_same _;
 }
 
@@ -34,7 +37,7 @@ returns-in_err-done-clause-part g c =
     (takes_part _ _ (take n bits) (drop n bits) bits _ _ _ _ _ sound inv.same (bits_rest n bits) inv.taken c.in_err-done.ensures.part)
 
 pub returns-in_err-done-clause-cause : goal.returns-in_err-done-clause-cause
-returns-in_err-done-clause-cause g c = cause_since c.from_residual.result _ _ _ (g.met.D.Drain.drained_counts _ _ c.loop-done.invariant.drained) c.in_err-done.ensures.cause.later c.in_err-done.ensures.cause.failed
+returns-in_err-done-clause-cause g c = cause_since c.from_residual.result _ _ _ _ (err_from_is_err_and c.from_residual.result c.from_residual.ensures.1).1 c.loop-done.invariant.unfailed c.in_err-done.ensures.cause
 
 pub returns-in_err-done-clause-drained : goal.returns-in_err-done-clause-drained
 returns-in_err-done-clause-drained g c = g.met.D.Drain.drained_join _ _ _ c.loop-done.invariant.drained c.in_err-done.ensures.drained
@@ -56,6 +59,7 @@ loop-done-preserved g c =
       within = omega (arith, c.take.ensures.count);
       taken = takes_join _ _ (take (n + k) bits) (take c.take.result (drop (n + k) bits)) (take (n + k + c.take.result) bits) _ _ _ _ _ _ same (take-add (n + k) c.take.result bits) one rest;
       same = same;
+      unfailed = c.in_ok-done.ensures.cause ∙ inv.unfailed;
       drained = g.met.D.Drain.drained_join _ _ _ inv.drained c.in_ok-done.ensures.drained;
     }
 

@@ -12,6 +12,7 @@ invariant-loop-done g l = record {
       (λ line. NodeStands g.C.Rx.stands g.C.Rx.meaning g.S.Shape.shape l.self.children.items l.self.aligner l.self.gap l.self.frames line)
       (g.D.Drain.outputs l.fn.drain) (g.D.Drain.outputs l.drain);
   same : node_meaning g.S.Shape.shape l.self.path (map g.C.Rx.meaning l.self.children.items) ≡ node_meaning g.S.Shape.shape l.fn.self.path (map g.C.Rx.meaning l.fn.self.children.items);
+  unfailed : g.D.Drain.drain_faults l.drain ≡ g.D.Drain.drain_faults l.fn.drain;
   drained : g.D.Drain.drained l.fn.drain l.drain;
 }
 

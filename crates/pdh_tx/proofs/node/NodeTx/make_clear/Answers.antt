@@ -16,7 +16,7 @@ loop-made-init g c =
       running = c.requires.running;
       same = refl;
       same_says = refl;
-      later = omega arith;
+      unfailed = refl;
       fed = g.met.F.Feed.fed_same _;
       makes = λ x was. all_none _ _ _ _ x (x + 0) (gained c.args.into.now c.args.into.now) _ (omega arith) (gained_none c.args.into.now) was;
     }
@@ -80,7 +80,7 @@ loop-made-preserved g c =
       running = c.piece.ensures.running ∙ inv.running;
       same = c.piece.ensures.same ∙ inv.same;
       same_says = c.piece.ensures.same_says ∙ inv.same_says;
-      later = (let a = inv.later in let b = c.piece.ensures.cause.later in omega arith);
+      unfailed = ok.cause ∙ inv.unfailed;
       fed = g.met.F.Feed.fed_join _ _ _ inv.fed c.piece.ensures.fed;
       makes = λ x was.
           let before = inv.makes x was in

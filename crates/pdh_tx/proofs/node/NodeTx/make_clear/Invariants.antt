@@ -14,7 +14,7 @@ invariant-loop-made g l =
       running : l.self.stopped ≡ false;
       same : meaning_of l.self.tributaries l.self.path ≡ meaning_of l.fn.self.tributaries l.fn.self.path;
       same_says : l.self.next_say ≡ l.fn.self.next_say;
-      later : g.F.Feed.feed_faults l.fn.feed ≤ g.F.Feed.feed_faults l.feed;
+      unfailed : g.F.Feed.feed_faults l.feed ≡ g.F.Feed.feed_faults l.fn.feed;
       fed : g.F.Feed.fed l.fn.feed l.feed;
       makes : (x : ℕ) → IsAt l.fn.self.tributaries l.fn.self.path l.fn.self.at (plan_of l.clock) x
           → MakesAll (meaning_of l.fn.self.tributaries l.fn.self.path) l.fn.self.next_say (IsAt l.self.tributaries l.self.path l.self.at (plan_of l.clock)) (IsFor l.fn.self.tributaries l.fn.self.path l.fn.self.at l.fn.self.say)

@@ -32,7 +32,7 @@ returns-in_err-take_arrivals-clause-err g c =
     (g.F.Feed.inputs c.begin.new.feed) (g.F.Feed.inputs c.take_arrivals.new.feed) (g.F.Feed.feed_faults c.begin.new.feed) (g.F.Feed.feed_faults c.take_arrivals.new.feed) in
     if_err_from c.from_residual-in_err-take_arrivals.result _ c.in_err-take_arrivals.field-0.0 e
     (arrival_stops (placed_in g.C.Tx) (held_in g.C.Tx) (meaning_in g.C.Tx) share_in plan s c.args.path ms c.args.self.now.list.items c.begin.new.self.list.items n t _ _ _ _ _ _ _
-    c.in_ok-begin.ensures.later c.in_ok-begin.ensures.ok (subst P c.in_ok-begin.ensures.same c.in_err-take_arrivals.ensures.err))
+    c.in_ok-begin.ensures.unfailed c.in_ok-begin.ensures.ok (subst P c.in_ok-begin.ensures.same c.in_err-take_arrivals.ensures.err))
 
 pub returns-clause-made : goal.returns-clause-made
 returns-clause-made g c =
@@ -80,8 +80,9 @@ returns-clause-err g c =
     let long : length w ≡ s.tribs = sym (length-map w meaning) ∙ ap length same ∙ all in
     let advance = before_read placed held meaning share_in plan s c.args.path ms u v w n t _ _ _ all long c.in_ok-begin.ensures.ok second in
     let was = transfer_one share_in (λ share j. IsShare s (plan.counts c.args.path j) n share) v w c.in_ok-take_arrivals.ensures.shares c.in_ok-begin.ensures.decided in
+    let unfailed = c.in_ok-take_arrivals.ensures.unfailed ∙ c.in_ok-begin.ensures.unfailed in
     IfErr-weaker c.slot_bit.result _ _
-    (λ stop first. read_stops placed held meaning share_in plan s c.args.path ms u w n t stop _ _ _ _ advance first.0 (first.1 plan was advance.place))
+    (λ stop first. read_stops placed held meaning share_in plan s c.args.path ms u w n t stop _ _ _ _ unfailed advance first.0 (first.1 plan was advance.place))
     c.slot_bit.ensures.stop
 
 pub take_arrivals-requires-clause-fed : goal.take_arrivals-requires-clause-fed

@@ -16,7 +16,7 @@ use Rattle.pdh_tx.proofs.Lists.{transfer_one}
 use Rattle.pdh_tx.proofs.Gaining.{on_err_from}
 use Rattle.pdh_tx.proofs.PassingAll.{rows_all}
 use Rattle.pdh_tx.proofs.PieceSteps.{piece_makes}
-use Rattle.pdh_tx.proofs.Begun.{begun_still, begun_placed, begun_passable, begun_halts, begin_halts, begin_rose}
+use Rattle.pdh_tx.proofs.Begun.{begun_still, begun_placed, begun_passable, begun_halts, begin_halts, begin_failed}
 use Rattle.pdh_tx.proofs.tributaries.Tributaries.make_piece.Goals as goal
 
 pub pass_all-requires-clause-decided : goal.pass_all-requires-clause-decided
@@ -102,7 +102,5 @@ returns-in-Err-clause-halts g c =
     begin_halts g.met.S.Shape.is_frame g.met.S.Shape.has_tributaries g.met.S.Shape.tribs_is c.args.self.now (plan_of c.args.clock.now) c.args.at (omega (arith, c.requires.inside, g.met.S.Shape.len_is)) _ _ _ _ _ c.in-Err.ensures.err (λ child n k. g.met.C.Tx.grows child _ n k)
 
 pub returns-in-Err-clause-cause : goal.returns-in-Err-clause-cause
-returns-in-Err-clause-cause g c = record {
-  later = c.in-Err.ensures.later;
-  failed = begin_rose g.met.S.Shape.is_frame g.met.S.Shape.has_tributaries g.met.S.Shape.tribs_is c.args.self.now (plan_of c.args.clock.now) c.args.at (omega (arith, c.requires.inside, g.met.S.Shape.len_is)) _ _ _ _ _ c.in-Err.ensures.err c.requires.some c.requires.clear;
-}
+returns-in-Err-clause-cause g c =
+    begin_failed g.met.S.Shape.is_frame g.met.S.Shape.has_tributaries g.met.S.Shape.tribs_is c.args.self.now (plan_of c.args.clock.now) c.args.at (omega (arith, c.requires.inside, g.met.S.Shape.len_is)) _ _ _ _ _ c.in-Err.ensures.err c.requires.some c.requires.clear

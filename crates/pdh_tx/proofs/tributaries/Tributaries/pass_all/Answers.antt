@@ -19,7 +19,7 @@ loop-trib-init g c = record {
   passes = passes_none (placed_in g.C.Tx) (held_in g.C.Tx) (meaning_in g.C.Tx) c.args.at.path (plan_of c.args.clock.now) _ _ _ _ _
       (λ (source : Source). HoldsBits g.S.Shape.shape source c.args.at.frame c.args.at.slot c.args.at.len (columns c.args.self.now) 0) (λ source j less. absurd (omega arith));
   rows = λ j less. absurd (omega arith);
-  later = omega arith;
+  unfailed = refl;
   fed = g.met.F.Feed.fed_same _;
   same = refl;
   shares = refl;
@@ -73,7 +73,7 @@ loop-trib-preserved g c =
           (λ source. HoldsBits s source at.frame at.slot at.len old i) (λ source. HoldsBitsOf s source at.frame at.slot at.len new i) (λ source. HoldsBits s source at.frame at.slot at.len new (suc i))
           (λ supply is was now. holds_more s (source_of at.path (meanings c.args.self.now) supply) at.frame at.slot at.len i old new ok.earlier was now) inv.passes (subst P inv.same ok.passes));
       rows = subst (λ (k : ℕ). HasRows s at.slot at.len new k) e (rows_more s at.slot at.len i old new ok.earlier inv.rows ok.rows);
-      later = (let a = inv.later in let b = ok.cause.later in omega arith);
+      unfailed = ok.cause ∙ inv.unfailed;
       fed = g.met.F.Feed.fed_join _ _ _ inv.fed ok.fed;
       same = ok.same ∙ inv.same;
       shares = ok.shares ∙ inv.shares;

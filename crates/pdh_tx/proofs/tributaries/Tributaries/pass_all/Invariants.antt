@@ -11,7 +11,7 @@ invariant-loop-trib g l =
       placed : HavePassed l.self (plan_of l.clock) l.at l.trib;
       passes : PassOn l.fn.self l.self (plan_of l.clock) l.at 0 l.trib (g.F.Feed.inputs l.fn.feed) (g.F.Feed.inputs l.feed) (λ source. HoldsBits g.S.Shape.shape source l.at.frame l.at.slot l.at.len (columns l.self) l.trib);
       rows : HasRows g.S.Shape.shape l.at.slot l.at.len (columns l.self) l.trib;
-      later : g.F.Feed.feed_faults l.fn.feed ≤ g.F.Feed.feed_faults l.feed;
+      unfailed : g.F.Feed.feed_faults l.feed ≡ g.F.Feed.feed_faults l.fn.feed;
       fed : g.F.Feed.fed l.fn.feed l.feed;
       same : meanings l.self ≡ meanings l.fn.self;
       shares : shares l.self ≡ shares l.fn.self;

@@ -16,7 +16,7 @@ use Rattle.pdh_tx.proofs.tributaries.Tributaries.take_arrivals.Goals as goal
 pub loop-trib-init : goal.loop-trib-init
 loop-trib-init g c = record {
   advance = advance_none (placed_in g.C.Tx) (held_in g.C.Tx) (meaning_in g.C.Tx) (plan_of c.args.clock.now) _ _ _ _ _ c.requires.placed;
-  later = omega arith;
+  unfailed = refl;
   fed = g.met.F.Feed.fed_same _;
   same = refl;
   shares = refl;
@@ -37,7 +37,7 @@ returns-in_err-take_arrival-clause-err g c =
     (g.F.Feed.inputs c.loop-trib.feed) (g.F.Feed.inputs c.take_arrival.new.feed) (g.F.Feed.feed_faults c.loop-trib.feed) (g.F.Feed.feed_faults c.take_arrival.new.feed) in
     let inside : i < s.tribs = (let h = c.loop-trib-test.true in let k = g.met.S.Shape.tribs_is in omega arith) in
     if_err_from c.from_residual.result _ c.in_err-take_arrival.field-0.0 e
-    (loop_stop (placed_in g.C.Tx) (held_in g.C.Tx) (meaning_in g.C.Tx) plan ms _ _ _ (came_to s c.args.path plan n t i) _ _ f i s.tribs _ _ _ _ _ _ _ inside inv.later
+    (loop_stop (placed_in g.C.Tx) (held_in g.C.Tx) (meaning_in g.C.Tx) plan ms _ _ _ (came_to s c.args.path plan n t i) _ _ f i s.tribs _ _ _ _ _ _ _ inside inv.unfailed
     inv.advance (subst P inv.same c.in_err-take_arrival.ensures.err))
 
 pub loop-trib-preserved : goal.loop-trib-preserved
@@ -60,7 +60,7 @@ loop-trib-preserved g c =
     (λ size. flat_map (f size) (range_with_len 0 k)) (g.F.Feed.inputs c.args.feed.now) (g.F.Feed.inputs c.take_arrival.new.feed) in
     record {
       advance = subst Q e (loop_step placed held (meaning_in g.C.Tx) plan ms _ _ _ (came_to s c.args.path plan n t 0) (came_to s c.args.path plan n t i) (came_to s c.args.path plan n t (suc i)) _ f i _ _ _ inv.advance (subst P inv.same ok.ok));
-      later = (let a = inv.later in let b = ok.later in omega arith);
+      unfailed = ok.unfailed ∙ inv.unfailed;
       fed = g.met.F.Feed.fed_join _ _ _ inv.fed ok.fed;
       same = ok.same ∙ inv.same;
       shares = ok.shares ∙ inv.shares;

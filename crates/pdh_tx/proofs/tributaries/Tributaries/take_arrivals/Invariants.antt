@@ -12,7 +12,7 @@ invariant-loop-trib g l =
       advance : Advance (placed_in g.C.Tx) (held_in g.C.Tx) (map (meaning_in g.C.Tx) l.fn.self.list.items) (plan_of l.clock) l.fn.self.list.items l.self.list.items
           (came_to g.S.Shape.shape l.path (plan_of l.clock) l.frame l.slot 0) (came_to g.S.Shape.shape l.path (plan_of l.clock) l.frame l.slot l.trib) (read_to g.S.Shape.shape l.path (plan_of l.clock) l.frame l.slot)
           (λ size. flat_map (arrival_at g.S.Shape.shape l.path (plan_of l.clock) (map (meaning_in g.C.Tx) l.fn.self.list.items) size l.frame l.slot) (range_with_len 0 l.trib)) (g.F.Feed.inputs l.fn.feed) (g.F.Feed.inputs l.feed);
-      later : g.F.Feed.feed_faults l.fn.feed ≤ g.F.Feed.feed_faults l.feed;
+      unfailed : g.F.Feed.feed_faults l.feed ≡ g.F.Feed.feed_faults l.fn.feed;
       fed : g.F.Feed.fed l.fn.feed l.feed;
       same : map (meaning_in g.C.Tx) l.self.list.items ≡ map (meaning_in g.C.Tx) l.fn.self.list.items;
       shares : map share_in l.self.list.items ≡ map share_in l.fn.self.list.items;

@@ -15,7 +15,7 @@ use Rattle.pdh_tx.proofs.tributaries.Tributaries.take_leads.Goals as goal
 pub loop-trib-init : goal.loop-trib-init
 loop-trib-init g c = record {
   advance = advance_none (placed_in g.C.Tx) (held_in g.C.Tx) (meaning_in g.C.Tx) (plan_of c.args.clock.now) _ _ _ _ _ c.requires.placed;
-  later = omega arith;
+  unfailed = refl;
   fed = g.met.F.Feed.fed_same _;
   same = refl;
 }
@@ -33,7 +33,7 @@ returns-in_err-take_lead-clause-err g c =
     (g.F.Feed.inputs c.loop-trib.feed) (g.F.Feed.inputs c.take_lead.new.feed) (g.F.Feed.feed_faults c.loop-trib.feed) (g.F.Feed.feed_faults c.take_lead.new.feed) in
     let inside : i < s.tribs = (let h = c.loop-trib-test.true in let k = g.met.S.Shape.tribs_is in omega arith) in
     if_err_from c.from_residual.result _ c.in_err-take_lead.field-0.0 e
-    (loop_stop (placed_in g.C.Tx) (held_in g.C.Tx) (meaning_in g.C.Tx) plan ms _ _ _ (led_to i) _ _ f i s.tribs _ _ _ _ _ _ _ inside inv.later
+    (loop_stop (placed_in g.C.Tx) (held_in g.C.Tx) (meaning_in g.C.Tx) plan ms _ _ _ (led_to i) _ _ f i s.tribs _ _ _ _ _ _ _ inside inv.unfailed
     inv.advance (subst P inv.same c.in_err-take_lead.ensures.err))
 
 pub loop-trib-preserved : goal.loop-trib-preserved
@@ -54,7 +54,7 @@ loop-trib-preserved g c =
     (λ size. flat_map (f size) (range_with_len 0 k)) (g.F.Feed.inputs c.args.feed.now) (g.F.Feed.inputs c.take_lead.new.feed) in
     record {
       advance = subst Q e (loop_step placed held (meaning_in g.C.Tx) plan ms _ _ _ (led_to 0) (led_to i) (led_to (suc i)) _ f i _ _ _ inv.advance (subst P inv.same ok.ok));
-      later = (let a = inv.later in let b = ok.later in omega arith);
+      unfailed = ok.unfailed ∙ inv.unfailed;
       fed = g.met.F.Feed.fed_join _ _ _ inv.fed ok.fed;
       same = ok.same ∙ inv.same;
     }

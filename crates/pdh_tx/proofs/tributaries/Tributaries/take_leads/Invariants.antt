@@ -12,7 +12,7 @@ invariant-loop-trib g l =
     record {
       advance : Advance (placed_in g.C.Tx) (held_in g.C.Tx) (meanings l.fn.self) (plan_of l.clock) l.fn.self.list.items l.self.list.items (led_to 0) (led_to l.trib) (λ j. 0)
           (λ size. flat_map (lead_at (plan_of l.clock) (meanings l.fn.self) size) (range_with_len 0 l.trib)) (g.F.Feed.inputs l.fn.feed) (g.F.Feed.inputs l.feed);
-      later : g.F.Feed.feed_faults l.fn.feed ≤ g.F.Feed.feed_faults l.feed;
+      unfailed : g.F.Feed.feed_faults l.feed ≡ g.F.Feed.feed_faults l.fn.feed;
       fed : g.F.Feed.fed l.fn.feed l.feed;
       same : meanings l.self ≡ meanings l.fn.self;
     }

@@ -10,7 +10,7 @@ loop-taken-init g c = record {
   placed = c.requires.placed;
   gains = gains_none _ _ _ 0 0 _;
   free = λ size fits k h. absurd (omega arith);
-  later = omega arith;
+  unfailed = refl;
   fed = g.met.F.Feed.fed_same _;
   same = refl;
   share = refl;
@@ -40,7 +40,7 @@ returns-in_err-arrive-clause-met g c =
     Met (Fits v plan i (g.F.Feed.inputs c.loop-taken.feed)) (λ size. first_some (arrival v plan c.args.place size i (length c.loop-taken.self.store))) c.in_err-arrive.field-0.0
     (g.F.Feed.feed_faults c.loop-taken.feed) (g.F.Feed.feed_faults c.arrive.new.feed) in
     if_err_from c.from_residual.result _ c.in_err-arrive.field-0.0 e
-    (lead_met m plan c.args.place _ _ i _ c.in_err-arrive.field-0.0 _ _ _ (omega arith) few inv.later
+    (lead_met m plan c.args.place _ _ i _ c.in_err-arrive.field-0.0 _ _ _ (omega arith) few inv.unfailed
     (λ size fits. gains_fit m plan _ _ 0 i 0 _ _ size inv.gains fits) inv.free
     (subst P inv.same (c.in_err-arrive.ensures.met i 0 inv.placed)))
 
@@ -67,7 +67,7 @@ loop-taken-preserved g c =
             (let S : Meaning → Type 0 = λ v. Fits v plan i (g.F.Feed.inputs c.loop-taken.feed) size in subst S (sym inv.same) (gains_fit m plan _ _ 0 i 0 _ _ size inv.gains fits))) in
             ap (m.obstacle plan size) (sym same) ∙ ap (λ v. v.obstacle plan size i) (sym inv.same) ∙ now
       ];
-      later = (let a = inv.later in let b = ok.later in omega arith);
+      unfailed = ok.unfailed ∙ inv.unfailed;
       fed = g.met.F.Feed.fed_join _ _ _ inv.fed ok.fed;
       same = ok.same ∙ inv.same;
       share = ok.share ∙ inv.share;

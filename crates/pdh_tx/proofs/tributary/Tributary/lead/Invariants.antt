@@ -9,7 +9,7 @@ invariant-loop-taken g l =
       placed : Placed g.C.Tx.stands_at g.C.Tx.says g.C.Tx.is_stopped l.self.child l.self.store (plan_of l.clock) l._taken 0;
       gains : Gains (g.C.Tx.meaning l.fn.self.child) (plan_of l.clock) (Held g.C.Tx.stands_for g.C.Tx.meaning l.fn.self.child l.fn.self.store) (Held g.C.Tx.stands_for g.C.Tx.meaning l.self.child l.self.store) 0 l._taken 0 (g.F.Feed.inputs l.fn.feed) (g.F.Feed.inputs l.feed);
       free : (size : ℕ → ℕ) → Fits (g.C.Tx.meaning l.fn.self.child) (plan_of l.clock) 0 (g.F.Feed.inputs l.fn.feed) size → (k : ℕ) → k < l._taken → (g.C.Tx.meaning l.fn.self.child).obstacle (plan_of l.clock) size k ≡ None;
-      later : g.F.Feed.feed_faults l.fn.feed ≤ g.F.Feed.feed_faults l.feed;
+      unfailed : g.F.Feed.feed_faults l.feed ≡ g.F.Feed.feed_faults l.fn.feed;
       fed : g.F.Feed.fed l.fn.feed l.feed;
       same : g.C.Tx.meaning l.self.child ≡ g.C.Tx.meaning l.fn.self.child;
       share : l.self.share ≡ l.fn.self.share;

@@ -1,0 +1,72 @@
+use Rattle.std.proofs.Common.{◌≡◌, ◌<◌, ◌≤◌, [], ◌∷◌, List, Bool, length, take, Some, slice_get, slice_set, refl, ap, sym, subst, arith}
+use Rattle.std.proofs.lemmas.Option.{slice_get_read}
+use Rattle.std.proofs.lemmas.Bool.{ltb-true}
+use Rattle.std.proofs.lemmas.Result.{err_from_is_err_and}
+use Rattle.pdh_edge.specs.Ports.{Takes, for_leaf}
+use Rattle.pdh_blocks.specs.Leaves.{Leaf, after_giving}
+use Rattle.pdh_blocks.specs.State.{PortState, over}
+use Rattle.pdh_blocks.specs.Lists.{inputs_of}
+use Rattle.pdh_blocks.specs.Held.{IsPort}
+use Rattle.pdh_blocks.specs.Kept.{Feeds}
+use Rattle.pdh_blocks.specs.laws.PortLaws.{feeds_join, same_leaves}
+use Rattle.pdh_blocks.proofs.Giving.{takes_none, takes_after, give_port, give_feeds, give_takes}
+use Rattle.pdh_blocks.proofs.shelf_port.ShelfPortFeed.bit.Goals as goal
+
+pub returns-in_err-make_due-clause-err : goal.returns-in_err-make_due-clause-err
+returns-in_err-make_due-clause-err g c =
+    let p = err_from_is_err_and c.from_residual.result c.from_residual.ensures.1 in
+    rw p.1 (takes_none _ _ c.in_err-make_due.ensures.done.inputs)
+
+pub give_bit-requires-clause-some : goal.give_bit-requires-clause-some
+give_bit-requires-clause-some g c =
+    let within : c.args.leaf < length c.make_due.new.self.leaves.items = omega (arith, ltb-true _ _ c.requires, same_leaves c.in_ok-make_due.ensures.done.feeds.keeps) in
+    c.in_ok-make_due.ensures.ok c.index_mut.result.now (slice_get_read _ _ c.args.leaf _ refl within c.index_mut.ensures.value)
+
+pub give_bit-requires-clause-within : goal.give_bit-requires-clause-within
+give_bit-requires-clause-within g c =
+    let a = over (g.S.Shelf.state c.make_due.new.shelf) c.make_due.new.self in
+    let k = c.args.leaf in
+    let old : Leaf = c.index_mut.result.now in
+    let done = c.in_ok-make_due.ensures.done in
+    let within : k < length a.leaves = omega (arith, ltb-true _ _ c.requires, same_leaves done.feeds.keeps) in
+    let at : slice_get a.leaves k ≡ Some old = slice_get_read _ _ k _ refl within c.index_mut.ensures.value in
+    (done.port.blocks.leaves k old at).within
+
+pub invariant_of-self-2 : goal.invariant_of-self-2
+invariant_of-self-2 g c =
+    let a = over (g.S.Shelf.state c.make_due.new.shelf) c.make_due.new.self in
+    let k = c.args.leaf in
+    let old : Leaf = c.index_mut.result.now in
+    let done = c.in_ok-make_due.ensures.done in
+    let within : k < length a.leaves = omega (arith, ltb-true _ _ c.requires, same_leaves done.feeds.keeps) in
+    let at : slice_get a.leaves k ≡ Some old = slice_get_read _ _ k _ refl within c.index_mut.ensures.value in
+    let few : 1 ≤ length old.waiting = c.in_ok-make_due.ensures.ok old at in
+    let now = subst (λ (leaf : Leaf). IsPort (record a { leaves = slice_set a.leaves k leaf })) (sym c.give_bit.ensures.leaf) (give_port a k old 1 done.port at few) in
+    ((c.make_due.new.self.block, tt), (now, tt))
+
+pub returns-clause-ok : goal.returns-clause-ok
+returns-clause-ok g c =
+    let a = over (g.S.Shelf.state c.make_due.new.shelf) c.make_due.new.self in
+    let k = c.args.leaf in
+    let old : Leaf = c.index_mut.result.now in
+    let done = c.in_ok-make_due.ensures.done in
+    let within : k < length a.leaves = omega (arith, ltb-true _ _ c.requires, same_leaves done.feeds.keeps) in
+    let at : slice_get a.leaves k ≡ Some old = slice_get_read _ _ k _ refl within c.index_mut.ensures.value in
+    let few : 1 ≤ length old.waiting = c.in_ok-make_due.ensures.ok old at in
+    let first : take 1 old.waiting ≡ c.give_bit.result ∷ [] = ap (take 1) c.give_bit.ensures.given in
+    let b : PortState = record a { leaves = slice_set a.leaves k (after_giving 1 old) } in
+    let takes = subst (λ (bits : List Bool). Takes (for_leaf k bits) (inputs_of a) (inputs_of b)) first (give_takes a k old 1 done.port at few) in
+    let now = subst (λ (leaf : Leaf). Takes (for_leaf k (c.give_bit.result ∷ [])) (inputs_of a) (inputs_of (record a { leaves = slice_set a.leaves k leaf }))) (sym c.give_bit.ensures.leaf) takes in
+    takes_after _ _ _ _ done.inputs now
+
+pub returns-clause-fed : goal.returns-clause-fed
+returns-clause-fed g c =
+    let a = over (g.S.Shelf.state c.make_due.new.shelf) c.make_due.new.self in
+    let k = c.args.leaf in
+    let old : Leaf = c.index_mut.result.now in
+    let done = c.in_ok-make_due.ensures.done in
+    let within : k < length a.leaves = omega (arith, ltb-true _ _ c.requires, same_leaves done.feeds.keeps) in
+    let at : slice_get a.leaves k ≡ Some old = slice_get_read _ _ k _ refl within c.index_mut.ensures.value in
+    let few : 1 ≤ length old.waiting = c.in_ok-make_due.ensures.ok old at in
+    let now = subst (λ (leaf : Leaf). Feeds a (record a { leaves = slice_set a.leaves k leaf })) (sym c.give_bit.ensures.leaf) (give_feeds a k old 1 done.port at few) in
+    feeds_join done.feeds now

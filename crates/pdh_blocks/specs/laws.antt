@@ -1,0 +1,3 @@
+pub mod Counting
+pub mod PortProps
+pub mod PortLaws

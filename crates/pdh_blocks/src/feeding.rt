@@ -1,0 +1,37 @@
+ghost use Rattle.std.specs.Prelude.{◌≡◌, ◌<◌, length, OnOk, IsErrOf};
+ghost use Rattle.pdh_edge.specs.declared.port.FeedStop.TheVariants.{Ended};
+ghost use Rattle.pdh_edge.specs.Ports.{HasFeedCause};
+
+use crate::blocks::Blocks;
+use pdh_edge::{FeedStop, Shelf};
+
+impl Blocks {
+    ghost use Rattle.pdh_blocks.specs.State.{over};
+    ghost use Rattle.pdh_blocks.specs.Lists.{inputs_of};
+    ghost use Rattle.pdh_blocks.specs.Held.{IsPort};
+    ghost use Rattle.pdh_blocks.specs.Done.{ReadsAtMost, HasWaiting};
+
+    /// Makes a bit of a leaf wait, where one is left.
+    pub(crate) fn make_due<S: Shelf>(&mut self, shelf: &mut S, leaf: u32) -> Result<(), FeedStop>
+        requires port { IsPort (over (S.state shelf.old) self.old) }
+        requires held { leaf < length self.old.leaves.items }
+        ensures done { ReadsAtMost (over (S.state shelf.old) self.old) (over (S.state shelf.new) self.new) }
+        ensures cause { HasFeedCause self.old.feed_faults self.new.feed_faults result }
+        ensures ok { OnOk result (HasWaiting leaf (over (S.state shelf.new) self.new)) }
+        ensures ended { IsErrOf result Ended
+            → (inputs_of (over (S.state shelf.old) self.old)).left leaf ≡ 0 }
+    {
+        let list = &mut self.leaves[leaf as usize];
+        if list.waits() {
+            return Ok(());
+        }
+        if list.left() == 0 {
+            return Err(FeedStop::Ended);
+        }
+        if list.read(shelf, &mut self.buffer).is_ok() {
+            return Ok(());
+        }
+        self.feed_failed(leaf);
+        Err(FeedStop::Failed)
+    }
+}

@@ -1,0 +1,29 @@
+-- The steps of `show`: what each finds.
+use Rattle.std.specs.Prelude.{◌≡◌, ℕ, ◌*◌, ◌/◌, ◌≤◌, take, Some}
+use Rattle.pdh_bits.specs.Bits.{bits_of}
+use Rattle.pdh_edge.specs.Files.{ShelfState}
+use Rattle.pdh_blocks.specs.State.{PortState}
+use Rattle.pdh_blocks.specs.Lists.{inputs_of}
+use Rattle.pdh_chain.specs.declared.chain.Chain.{Chain}
+use Rattle.pdh_chain.specs.Chains.{frame_bytes_of}
+use Rattle.pdh_words.specs.declared.commands.Command.TheVariants.{Show}
+use Rattle.pdh_ops.specs.Names.{line_name}
+use Rattle.pdh_ops.specs.Reading.{HasLength}
+use Rattle.pdh_ops.specs.Schedules.{bytes_in}
+use Rattle.pdh_ops.specs.Inspect.{bytes_upto, frame_shown}
+use Rattle.pdh_ops.specs.Commands.{OfInputs, comes_to}
+use Rattle.pdh_ops.specs.PortFiles.{IsOpenFor}
+use Rattle.pdh_shape.specs.OwnNumbers.{most_frames}
+
+-- the line has no more frames than a line may have, and frame n whole
+pub record HasFrame (chain : Chain) (n : ℕ) (state : ShelfState) : Type 0 where
+  pub bytes : ℕ
+  pub long : HasLength line_name bytes state
+  pub few : bytes / frame_bytes_of chain ≤ most_frames
+  pub enough : bytes_upto chain n ≤ bytes
+
+-- a port is open for `show` of frame n: its list 0 gives the bits of the line up to the end of that frame
+pub record IsShowPort (chain : Chain) (n : ℕ) (old : ShelfState) (port : PortState) : Type 0 where
+  pub open_for : IsOpenFor (Show chain n) old port
+  pub comes : OfInputs (Show chain n) old (λ files. comes_to (Show chain n) files ≡ frame_shown chain n (bytes_in files line_name))
+  pub gives : OfInputs (Show chain n) old (λ files. (inputs_of port).told 0 ≡ Some (take (8 * bytes_upto chain n) (bits_of (bytes_in files line_name))))
