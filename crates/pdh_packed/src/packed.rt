@@ -1,5 +1,5 @@
 ghost use Rattle.std.specs.Prelude.{◌≡◌, ◌+◌, ◌*◌, ◌%◌, ◌==◌, ◌<◌, ◌≤◌, false, not, [], ◌++◌, length, map, max, take, drop, get_or, count_by, vec_capacity, IfOk, OnOk, OnErr};
-ghost use Rattle.pdh_packed.specs.Words.{low_bits};
+ghost use Rattle.pdh_packed.specs.Words.{low_bits, bits_of_words};
 
 use crate::altering::{fill_words, invert_words};
 use crate::word::Word;
@@ -207,6 +207,25 @@ impl Packed {
             done += 64;
         }
         self.append(other.read(place + done, (count - done) as u32));
+    }
+
+    /// Appends all bits of another list, for which there is room.
+    pub fn append_all(&mut self, other: &Packed)
+        requires { length self.old.bits + length other.now.bits ≤ self.old.capacity }
+        ensures { self.new ≡ record self.old { bits = self.old.bits ++ other.now.bits } }
+    {
+        self.append_numbers(&other.words);
+        self.append(other.tail);
+    }
+
+    // Appends the 64 bits of each of the numbers, for which there is room.
+    fn append_numbers(&mut self, numbers: &[u64])
+        requires { length self.old.bits + 64 * length numbers.now ≤ self.old.capacity }
+        ensures { self.new ≡ record self.old { bits = self.old.bits ++ bits_of_words numbers.now } }
+    {
+        for number in numbers {
+            self.append_whole(*number);
+        }
     }
 
     /// How many of the bits are 1, of so many from a place on.
