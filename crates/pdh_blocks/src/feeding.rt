@@ -12,7 +12,26 @@ impl Blocks {
     ghost use Rattle.pdh_blocks.specs.Done.{ReadsAtMost, HasWaiting};
 
     /// Makes a bit of a leaf wait, where one is left.
+    #[inline(always)]
     pub(crate) fn make_due<S: Shelf>(&mut self, shelf: &mut S, leaf: u32) -> Result<(), FeedStop>
+        requires port { IsPort (over (S.state shelf.old) self.old) }
+        requires held { leaf < length self.old.leaves.items }
+        ensures done { ReadsAtMost (over (S.state shelf.old) self.old) (over (S.state shelf.new) self.new) }
+        ensures cause { HasFeedCause self.old.feed_faults self.new.feed_faults result }
+        ensures ok { OnOk result (HasWaiting leaf (over (S.state shelf.new) self.new)) }
+        ensures ended { IsErrOf result Ended
+            → (inputs_of (over (S.state shelf.old) self.old)).left leaf ≡ 0 }
+    {
+        if self.leaves[leaf as usize].waits() {
+            return Ok(());
+        }
+        self.read_due(shelf, leaf)
+    }
+
+    // The same by the next block, where nothing waits.
+    #[cold]
+    #[inline(never)]
+    fn read_due<S: Shelf>(&mut self, shelf: &mut S, leaf: u32) -> Result<(), FeedStop>
         requires port { IsPort (over (S.state shelf.old) self.old) }
         requires held { leaf < length self.old.leaves.items }
         ensures done { ReadsAtMost (over (S.state shelf.old) self.old) (over (S.state shelf.new) self.new) }

@@ -64,6 +64,14 @@ impl OutputBlock {
         self.block.append_from(bits, place, count);
     }
 
+    /// Takes all bits of a list, for which there is room.
+    pub(crate) fn take_all(&mut self, bits: &Packed)
+        requires { length self.old.waiting + length bits.now.bits ≤ 32768 }
+        ensures { self.new ≡ to_wait (self.old.waiting ++ bits.now.bits) self.old }
+    {
+        self.block.append_all(bits);
+    }
+
     /// Takes a bit, for which there is room.
     pub(crate) fn push(&mut self, bit: bool)
         requires { length self.old.waiting < 32768 }

@@ -106,6 +106,23 @@ impl Blocks {
         ensures { PutsBits (for_leaf leaf bits.now.bits)
             (over (S.state shelf.old) self.old) (over (S.state shelf.new) self.new) result }
     {
+        let output = &mut self.outputs[leaf as usize];
+        if bits.len() < BLOCK_BITS - output.len() {
+            output.take_all(bits);
+            return Ok(());
+        }
+        self.put_parts(shelf, leaf, bits)
+    }
+
+    // The same in parts, of which each fills the block at most.
+    #[cold]
+    #[inline(never)]
+    fn put_parts<S: Shelf>(&mut self, shelf: &mut S, leaf: u32, bits: &Packed) -> Result<(), Failed>
+        requires port { IsPort (over (S.state shelf.old) self.old) }
+        requires held { leaf < length self.old.outputs.items }
+        ensures { PutsBits (for_leaf leaf bits.now.bits)
+            (over (S.state shelf.old) self.old) (over (S.state shelf.new) self.new) result }
+    {
         let leaf = leaf as usize;
         let mut place = 0;
         while place < bits.len() {
@@ -129,11 +146,24 @@ impl Blocks {
         ensures { PutsBits (only leaf bit)
             (over (S.state shelf.old) self.old) (over (S.state shelf.new) self.new) result }
     {
-        let leaf = leaf as usize;
-        if self.outputs[leaf].len() + 1 < BLOCK_BITS {
-            self.outputs[leaf].push(bit);
+        let output = &mut self.outputs[leaf as usize];
+        if output.len() + 1 < BLOCK_BITS {
+            output.push(bit);
             return Ok(());
         }
+        self.put_last(shelf, leaf, bit)
+    }
+
+    // The same, and appends what waits then.
+    #[cold]
+    #[inline(never)]
+    fn put_last<S: Shelf>(&mut self, shelf: &mut S, leaf: u32, bit: bool) -> Result<(), Failed>
+        requires port { IsPort (over (S.state shelf.old) self.old) }
+        requires held { leaf < length self.old.outputs.items }
+        ensures { PutsBits (only leaf bit)
+            (over (S.state shelf.old) self.old) (over (S.state shelf.new) self.new) result }
+    {
+        let leaf = leaf as usize;
         self.start_missing(shelf)?;
         self.outputs[leaf].push(bit);
         self.append_waiting(shelf, leaf)

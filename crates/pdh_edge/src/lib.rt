@@ -6,6 +6,7 @@ mod laws;
 mod mem_port;
 mod mem_shelf;
 mod mem_sink;
+mod open_files;
 mod plan;
 mod port;
 #[cfg(test)]

@@ -3,16 +3,20 @@ ghost use Rattle.pdh_edge.specs.declared.shelf.Call.TheVariants.{Size, Read};
 ghost use Rattle.pdh_edge.specs.Files.{Looks, FailsToRead, HasSize, HasRange, Touches, Starts, FailsToStart, Appends, FailsToAppend, Sends, FailsToSend};
 ghost use Rattle.pdh_edge.specs.Untold.{untold_files, folder_state, CountsSize, CountsRead, CountsWrite, untold_output, out_state, CountsSend};
 
+use crate::open_files::OpenFiles;
 use crate::{Failed, Shelf, Sink};
 use std::fs::{self, File, OpenOptions};
 use std::io::{self, ErrorKind, Read, Seek, SeekFrom, Write};
 use std::rt::Files;
 
 /// The files of the current folder, by their paths from there. They tell no contents, and each
-/// range may be read. Where the runtime wants memory in a call and gets none, the call fails.
+/// range may be read. Where the runtime wants memory in a call and gets none, the call fails. A file
+/// that was read or appended to stays open, so what else is done to its name meanwhile isn't seen.
 #[derive(Drop)]
 pub struct Folder<R: Files + Drop> {
     rt: R,
+    reading: OpenFiles<R::File>,
+    appending: OpenFiles<R::File>,
     read_faults: u64,
     write_faults: u64,
     misses: u64,
@@ -25,22 +29,61 @@ impl<R: Files + Drop> Folder<R> {
     {
         Folder {
             rt,
+            reading: OpenFiles::new(),
+            appending: OpenFiles::new(),
             read_faults: 0,
             write_faults: 0,
             misses: 0,
         }
     }
+}
 
-    fn fill(&self, name: &str, at: u64, into: &mut [u8]) -> io::Result<()> {
-        let mut file = File::open(&self.rt, name)?;
+// Makes a file empty, and closes what was open of that name.
+fn create<R: Files + Drop>(
+    rt: &R,
+    reading: &mut OpenFiles<R::File>,
+    appending: &mut OpenFiles<R::File>,
+    name: &str,
+) -> io::Result<()> {
+    reading.close(name);
+    appending.close(name);
+    fs::create(rt, name)?;
+    Ok(())
+}
+
+// Fills the buffer from a place of a file, which stays open.
+fn fill<R: Files + Drop>(
+    rt: &R,
+    open: &mut OpenFiles<R::File>,
+    name: &str,
+    at: u64,
+    into: &mut [u8],
+) -> io::Result<()> {
+    if let Some(file) = open.get(name) {
         file.seek(SeekFrom::Start(at))?;
-        file.read_exact(into)
+        return file.read_exact(into);
     }
+    let mut file = File::open(rt, name)?;
+    file.seek(SeekFrom::Start(at))?;
+    file.read_exact(into)?;
+    open.keep(name, file);
+    Ok(())
+}
 
-    fn add(&self, name: &str, bytes: &[u8]) -> io::Result<()> {
-        let mut file = OpenOptions::new().append(true).open(&self.rt, name)?;
-        file.write_all(bytes)
+// Adds bytes at the end of a file, which stays open.
+fn add<R: Files + Drop>(
+    rt: &R,
+    open: &mut OpenFiles<R::File>,
+    name: &str,
+    bytes: &[u8],
+) -> io::Result<()> {
+    if let Some(file) = open.get(name) {
+        return file.write_all(bytes);
     }
+    let mut file = OpenOptions::new().append(true).open(rt, name)?;
+    file.write_all(bytes)?;
+    open.keep(name, file);
+    Ok(())
 }
 
 impl<R: Files + Drop> Shelf for Folder<R> {
@@ -87,7 +130,7 @@ impl<R: Files + Drop> Shelf for Folder<R> {
             (folder_state self.old) (folder_state self.new)) }
         ensures counts { CountsRead (folder_state self.old) (folder_state self.new) result }
     {
-        if self.fill(name, at, into).is_ok() {
+        if fill(&self.rt, &mut self.reading, name, at, into).is_ok() {
             return Ok(());
         }
         self.read_faults = self.read_faults.saturating_add(1);
@@ -101,7 +144,7 @@ impl<R: Files + Drop> Shelf for Folder<R> {
             (folder_state self.old) (folder_state self.new)) }
         ensures counts { CountsWrite (folder_state self.old) (folder_state self.new) result }
     {
-        if fs::create(&self.rt, name).is_ok() {
+        if create(&self.rt, &mut self.reading, &mut self.appending, name).is_ok() {
             return Ok(());
         }
         self.write_faults = self.write_faults.saturating_add(1);
@@ -116,7 +159,7 @@ impl<R: Files + Drop> Shelf for Folder<R> {
             (folder_state self.old) (folder_state self.new)) }
         ensures counts { CountsWrite (folder_state self.old) (folder_state self.new) result }
     {
-        if self.add(name, bytes).is_ok() {
+        if add(&self.rt, &mut self.appending, name, bytes).is_ok() {
             return Ok(());
         }
         self.write_faults = self.write_faults.saturating_add(1);

@@ -1,5 +1,7 @@
 use super::*;
 use std::alloc::AllocError;
+use std::fs::Files;
+use std::process::Abort;
 use std::{fs, io};
 
 #[test]
@@ -78,10 +80,8 @@ fn sink_in_memory(rt: HostRuntime) -> Result<(), AllocError> {
     Ok(())
 }
 
-#[test]
-fn folder(rt: HostRuntime) -> io::Result<()> {
-    let name = "pdh_edge_test_file";
-    let mut folder = Folder::new(rt.clone()?);
+// What a folder does with one file.
+fn use_file<R: Files + Drop>(rt: &impl Abort, mut folder: Folder<R>, name: &str, below: &str) {
     assert_eq!(rt; folder.size(name), Ok(None));
     assert_eq!(rt; folder.append(name, b"ab"), Err(Failed));
     for piece in ["wrong", "right"] {
@@ -91,16 +91,39 @@ fn folder(rt: HostRuntime) -> io::Result<()> {
     assert_eq!(rt; folder.append(name, b" end"), Ok(()));
     assert_eq!(rt; folder.size(name), Ok(Some(9)));
     // A name below a file isn't a file that is missing.
-    assert_eq!(rt; folder.size("pdh_edge_test_file/below"), Err(Failed));
+    assert_eq!(rt; folder.size(below), Err(Failed));
     let mut buffer = [b'-'; 5];
-    assert_eq!(rt; folder.read_at(name, 3, &mut buffer), Ok(()));
-    assert_eq!(rt; &buffer[..], &b"ht en"[..]);
+    for (at, found) in [(3, b"ht en"), (0, b"right"), (4, b"t end")] {
+        assert_eq!(rt; folder.read_at(name, at, &mut buffer), Ok(()));
+        assert_eq!(rt; &buffer[..], &found[..]);
+    }
     assert_eq!(rt; folder.read_at(name, 5, &mut buffer), Err(Failed));
     assert_eq!(rt;
         (folder.read_faults(), folder.write_faults(), folder.misses()),
         (2, 1, 1)
     );
-    fs::remove_file(&rt, name)
+}
+
+#[test]
+fn folder_of_a_file_that_stays_open(rt: HostRuntime) -> io::Result<()> {
+    use_file(
+        &rt,
+        Folder::new(rt.clone()?),
+        "pdh_edge_file",
+        "pdh_edge_file/below",
+    );
+    fs::remove_file(&rt, "pdh_edge_file")
+}
+
+#[test]
+fn folder_of_a_file_with_a_long_name(rt: HostRuntime) -> io::Result<()> {
+    use_file(
+        &rt,
+        Folder::new(rt.clone()?),
+        "pdh_edge_test_file",
+        "pdh_edge_test_file/below",
+    );
+    fs::remove_file(&rt, "pdh_edge_test_file")
 }
 
 #[test]

@@ -3,7 +3,7 @@ use Rattle.pdh_edge.specs.declared.shelf.Failed.{Failed}
 use Rattle.pdh_edge.specs.Ports.{for_leaf}
 use Rattle.pdh_blocks.specs.State.{over}
 use Rattle.pdh_blocks.specs.Done.{PutsBits}
-use Rattle.pdh_blocks.proofs.blocks.Blocks.put_all.Given as goal
+use Rattle.pdh_blocks.proofs.blocks.Blocks.put_parts.Given as goal
 
 -- the bits so far were put
 abbrev pub invariant-loop-place : goal.invariant-loop-place

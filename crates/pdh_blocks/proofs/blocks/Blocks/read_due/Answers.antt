@@ -8,7 +8,7 @@ use Rattle.pdh_blocks.specs.Done.{ReadsAtMost}
 use Rattle.pdh_blocks.proofs.Results.{at_ok, at_err}
 use Rattle.pdh_blocks.proofs.Places.{get_set_same}
 use Rattle.pdh_blocks.proofs.Reading.{read_done, read_failed, read_leaf, nothing_waits}
-use Rattle.pdh_blocks.proofs.blocks.Blocks.make_due.Goals as goal
+use Rattle.pdh_blocks.proofs.blocks.Blocks.read_due.Goals as goal
 
 pub returns-then-is_ok-clause-done : goal.returns-then-is_ok-clause-done
 returns-then-is_ok-clause-done g c =
