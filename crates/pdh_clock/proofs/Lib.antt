@@ -1,4 +1,5 @@
 pub mod Splits
+pub mod Searches
 pub mod Counting
 pub mod Laws
 pub mod Trees

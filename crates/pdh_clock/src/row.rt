@@ -7,7 +7,7 @@ ghost use Rattle.pdh_clock.specs.Text.{numbers_of};
 ghost use Rattle.pdh_clock.specs.Row.{row_of};
 ghost use Rattle.pdh_clock.specs.Parsed.{Finds, AreCounts, IsRow, left_len, words_left};
 
-use crate::words::{first_word, number, path};
+use crate::words::{first_number, first_path};
 use pdh_levels::MOST_TRIBUTARIES;
 use pdh_shape::Path;
 
@@ -61,8 +61,8 @@ fn counts_in(words: Option<&[u8]>) -> Option<Counts>
     };
     let mut rest = words;
     while let Some(line) = rest {
-        let (word, after) = first_word(line);
-        found.push(number(word)?);
+        let (count, after) = first_number(line);
+        found.push(count?);
         rest = after;
     }
     Some(found)
@@ -74,10 +74,10 @@ pub fn row(line: &[u8]) -> Option<FoundRow>
     ensures small { IfSome result (λ row. row.repeat < 10 ^ 9) }
     ensures lens { IfSome result (λ row. 3 + 2 * row.counts.number ≤ length line.now) }
 {
-    let (path_word, rest) = first_word(line);
-    let path = path(path_word)?;
-    let (repeat_word, rest) = first_word(rest?);
-    let repeat = number(repeat_word)?;
+    let (path, rest) = first_path(line);
+    let path = path?;
+    let (repeat, rest) = first_number(rest?);
+    let repeat = repeat?;
     let counts = counts_in(rest)?;
     (repeat > 0).then_some(FoundRow {
         path,

@@ -1,5 +1,6 @@
-use Rattle.std.proofs.Common.{◌≡◌, ◌+◌, ◌∷◌, ap, sym, ◌∙◌, arith}
+use Rattle.std.proofs.Common.{◌≡◌, ◌+◌, ◌∷◌, ◌==◌, ap, sym, ◌∙◌, arith}
 use Rattle.std.specs.Option.{option_copied}
+use Rattle.std.specs.List.{before_first}
 use Rattle.pdh_clock.specs.Parsed.{left_len, words_left}
 use Rattle.pdh_clock.proofs.Counting.{seen_more}
 use Rattle.pdh_clock.proofs.row.counts_in.Goals as goal
@@ -7,11 +8,11 @@ use Rattle.pdh_clock.proofs.row.counts_in.Goals as goal
 pub loop-rest-preserved : goal.loop-rest-preserved
 loop-rest-preserved c =
     let words : words_left (option_copied c.loop-rest.rest)
-    ≡ c.first_word.result.0.now ∷ words_left (option_copied c.first_word.result.1) =
-    ap (λ o. words_left (option_copied o)) c.in-Some.is ∙ c.first_word.ensures.words in
+    ≡ before_first (λ byte. byte == 32) c.in-Some.line.now ∷ words_left (option_copied c.first_number-count.result.1) =
+    ap (λ o. words_left (option_copied o)) c.in-Some.is ∙ c.first_number-count.ensures.words in
     let lens : left_len (option_copied c.loop-rest.rest) ≡ 1 + _ = ap (λ o. left_len (option_copied o)) c.in-Some.is in (
-      seen_more c.loop-rest.found c.push.new.self c.first_word.result.0.now c.in_ok-number.field-0 _ _
-          (rw words at c.loop-rest.invariant.0) (sym c.in_ok-number.ensures.value) c.push.ensures.counts,
+      seen_more c.loop-rest.found c.push.new.self _ c.in_ok-count.field-0 _ _
+          (rw words at c.loop-rest.invariant.0) (sym c.first_number-count.ensures.value ∙ c.in_ok-count.was) c.push.ensures.counts,
       omega
-          (arith, c.in_ok-number.ensures.some),
+          (arith, (rw c.in_ok-count.was at c.first_number-count.ensures.lens)),
     )
