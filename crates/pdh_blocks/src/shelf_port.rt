@@ -113,11 +113,13 @@ impl<S: Shelf> Feed for ShelfPort<S> {
         self.blocks.feed_faults
     }
 
+    #[inline(always)]
     fn bit(&mut self, leaf: u32) -> Result<bool, FeedStop> {
         self.blocks.make_due(&mut self.shelf, leaf)?;
         Ok(self.blocks.leaves[leaf as usize].give_bit())
     }
 
+    #[inline(always)]
     fn bits(&mut self, leaf: u32, most: usize, into: &mut Packed) -> Result<usize, FeedStop> {
         self.blocks.make_due(&mut self.shelf, leaf)?;
         Ok(self.blocks.leaves[leaf as usize].give(most, into))
