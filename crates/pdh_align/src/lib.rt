@@ -8,8 +8,6 @@ mod search;
 mod signals;
 mod starts;
 mod step;
-#[cfg(test)]
-mod tests;
 
 pub use aligner::Aligner;
 pub use step::Step;

@@ -7,6 +7,3 @@ mod table;
 
 pub use bit_out::{BitOut, Full};
 pub use bits::{bits_of, bytes_of};
-
-#[cfg(test)]
-mod tests;

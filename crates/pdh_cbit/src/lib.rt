@@ -9,6 +9,3 @@ mod laws;
 pub use feac::{FeacReceiver, FeacSender};
 pub use fields::Fields;
 pub use laws::answered_codes;
-
-#[cfg(test)]
-mod tests;

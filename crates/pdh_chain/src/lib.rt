@@ -11,11 +11,7 @@ mod multiplexer;
 mod receiving;
 mod saying;
 mod sending;
-#[cfg(test)]
-mod sending_tests;
 mod stop;
-#[cfg(test)]
-mod tests;
 mod trees;
 
 pub use by_chain::{demux, mux};

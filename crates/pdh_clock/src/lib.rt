@@ -26,8 +26,6 @@ mod made;
 mod reading;
 mod row;
 mod schedule;
-#[cfg(test)]
-mod tests;
 mod tree;
 mod words;
 mod writing;

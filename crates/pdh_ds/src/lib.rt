@@ -7,8 +7,6 @@ mod blocks;
 mod loss;
 mod ones;
 mod plans;
-#[cfg(test)]
-mod tests;
 
 pub use block_frame::{BlockFrame, Ds2, Ds3, Ds3C};
 pub use block_plan::{BlockPlan, InBlocks};

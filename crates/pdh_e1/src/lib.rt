@@ -8,8 +8,6 @@ mod codec;
 mod crc;
 mod fault;
 mod multiframe;
-#[cfg(test)]
-mod tests;
 
 pub use codec::{pack, packed_is_given_back, unpack};
 pub use crc::crc4;

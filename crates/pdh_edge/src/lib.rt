@@ -9,13 +9,9 @@ mod mem_sink;
 mod open_files;
 mod plan;
 mod port;
-#[cfg(test)]
-mod port_tests;
 mod real;
 mod shelf;
 mod sink;
-#[cfg(test)]
-mod tests;
 
 pub use laws::no_put_into_room_fails;
 pub use mem_port::MemPort;

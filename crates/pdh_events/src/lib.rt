@@ -9,8 +9,6 @@ mod codes;
 mod duties;
 mod note;
 mod teller;
-#[cfg(test)]
-mod tests;
 
 pub use ais::AisRun;
 pub use note::{note_change, note_kind};

@@ -8,7 +8,5 @@ mod held;
 mod payload;
 mod stage;
 mod tell;
-#[cfg(test)]
-mod tests;
 
 pub use align::E1Align;

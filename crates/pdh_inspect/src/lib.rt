@@ -6,8 +6,6 @@ mod framed;
 mod line;
 mod line_port;
 mod seen;
-#[cfg(test)]
-mod tests;
 
 pub use framed::{FramedSeen, inspect_framed};
 pub use line::{LineSeen, inspect_line};

@@ -8,8 +8,6 @@ mod pattern;
 mod receiving;
 mod report;
 mod sending;
-#[cfg(test)]
-mod tests;
 
 pub use drilling::drill;
 pub use laws::drills_are_in_time;

@@ -2,15 +2,15 @@
 use Rattle.std.proofs.Common.{◌≡◌, ◌⊎◌, ℕ, List, Option, None, Some, Ok, Err, refl, ap, subst, inl, inr, arith}
 use Rattle.pdh_edge.specs.Counts.{one_more}
 use Rattle.pdh_edge.specs.Files.{ShelfState, Counts, SinkState, Looks, Rose}
-use Rattle.pdh_ops.specs.Answer.{Answer}
+use Rattle.pdh_answers.specs.Answer.{Answer}
 use Rattle.pdh_ops.specs.Schedules.{Files}
 use Rattle.pdh_ops.specs.Commands.{AreTold, IsOutput, comes_to, outputs}
 use Rattle.pdh_watch.specs.Monitors.{State}
-use Rattle.pdh_ops.specs.Lines.{IsTold}
+use Rattle.pdh_answers.specs.Lines.{IsTold}
 use Rattle.pdh_ops.specs.Run.{HasCause, ChangesOnly, IsCounted, Performs, Runs, Completes}
 use Rattle.pdh_words.specs.declared.commands.Command.{Command}
-use Rattle.pdh_ops.specs.declared.answer.Done.{Done}
-use Rattle.pdh_ops.specs.declared.answer.Stop.TheVariants.{Memory, Usage, Read, Write, Missing, LongSchedule, BadRow, UnknownNode, CountOver, ShortNode, Short, Overflow, Underflow, ManyFrames, NoAlignment, NotWhole, LongScript, BadScriptRow, PastEnd}
+use Rattle.pdh_answers.specs.declared.answer.Done.{Done}
+use Rattle.pdh_answers.specs.declared.answer.Stop.TheVariants.{Memory, Usage, Read, Write, Missing, LongSchedule, BadRow, UnknownNode, CountOver, ShortNode, Short, Overflow, Underflow, ManyFrames, NoAlignment, NotWhole, LongScript, BadScriptRow, PastEnd}
 use Rattle.pdh_ops.proofs.Touching.{looks_same}
 
 pub looks_others : (P : List ℕ → Type 0) (a b : ShelfState) → Looks a b → ChangesOnly P a b

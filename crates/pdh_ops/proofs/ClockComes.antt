@@ -19,8 +19,8 @@ use Rattle.pdh_clock.specs.Written.{text_of, text_with}
 use Rattle.pdh_rows.specs.Outside.{Run}
 use Rattle.pdh_ops.specs.Writing.{IsStartStop, IsAppendStop}
 use Rattle.pdh_words.specs.declared.commands.Command.TheVariants.{ClockCheck, ClockMake}
-use Rattle.pdh_ops.specs.Names.{schedule_name}
-use Rattle.pdh_ops.specs.Answer.{Answer, and_then}
+use Rattle.pdh_answers.specs.Names.{schedule_name}
+use Rattle.pdh_answers.specs.Answer.{Answer, and_then}
 use Rattle.pdh_ops.specs.Reading.{HasLength, IsSizeStop}
 use Rattle.pdh_ops.specs.Schedules.{Files, rows_of, contents_of}
 use Rattle.pdh_ops.specs.Clock.{run_outside, outside_at, outside_of, first_outside_of, first_of, checked, made_text, rows_in_text, clock_made}
@@ -28,11 +28,11 @@ use Rattle.pdh_ops.specs.Commands.{AreTold, IsOutput, comes_to, reaches_outputs}
 use Rattle.pdh_ops.specs.Run.{with_stop, Performs, GoesOn}
 use Rattle.pdh_ops.specs.Refusing.{Refuses}
 use Rattle.pdh_ops.specs.ScheduleSteps.{RowsAre, IsScheduleStop}
-use Rattle.pdh_ops.specs.declared.file.File.TheVariants.{Schedule}
-use Rattle.pdh_ops.specs.declared.answer.Done.TheVariants.{ClockInside, ClockOutside, ClockMade}
-use Rattle.pdh_ops.specs.declared.answer.OutOfTolerance.{OutOfTolerance}
-use Rattle.pdh_ops.specs.declared.answer.Stop.{Stop}
-use Rattle.pdh_ops.specs.declared.answer.Stop.TheVariants.{Memory, Missing, ManyFrames}
+use Rattle.pdh_answers.specs.declared.file.File.TheVariants.{Schedule}
+use Rattle.pdh_answers.specs.declared.answer.Done.TheVariants.{ClockInside, ClockOutside, ClockMade}
+use Rattle.pdh_answers.specs.declared.answer.OutOfTolerance.{OutOfTolerance}
+use Rattle.pdh_answers.specs.declared.answer.Stop.{Stop}
+use Rattle.pdh_answers.specs.declared.answer.Stop.TheVariants.{Memory, Missing, ManyFrames}
 use Rattle.pdh_ops.proofs.Touching.{looks_then, looks_none, counted_since}
 use Rattle.pdh_ops.proofs.Causes.{looks_others}
 use Rattle.pdh_ops.proofs.Refusing.{refuses_since, refuses_performs, size_refuses}

@@ -19,16 +19,16 @@ use Rattle.pdh_blocks.specs.Held.{AllDiffer}
 use Rattle.pdh_words.specs.declared.commands.Bits.{Bits}
 use Rattle.pdh_words.specs.declared.commands.Bits.TheVariants.{Line as Recorded, Bent as Disturbed}
 use Rattle.pdh_words.specs.declared.commands.Command.TheVariants.{Demux}
-use Rattle.pdh_ops.specs.Names.{name_of, line_file, output_name}
-use Rattle.pdh_ops.specs.Answer.{and_then}
+use Rattle.pdh_answers.specs.Names.{name_of, line_file, output_name}
+use Rattle.pdh_answers.specs.Answer.{and_then}
 use Rattle.pdh_ops.specs.Demux.{line_of, frames_of, demuxed}
 use Rattle.pdh_ops.specs.Schedules.{Files, bytes_in}
 use Rattle.pdh_ops.specs.Commands.{AreTold, OfInputs, comes_to, reaches_outputs, IsReadDue}
 use Rattle.pdh_ops.specs.Run.{GoesOn}
 use Rattle.pdh_ops.specs.PortFiles.{HasBits, AreFiles, AreRead, opened_for, input_name}
 use Rattle.pdh_ops.specs.Steps.{IsLine, HasLine, AreLeafOutputs, IsDemuxPort}
-use Rattle.pdh_ops.specs.declared.file.File.{File}
-use Rattle.pdh_ops.specs.declared.file.File.TheVariants.{Output}
+use Rattle.pdh_answers.specs.declared.file.File.{File}
+use Rattle.pdh_answers.specs.declared.file.File.TheVariants.{Output}
 use Rattle.pdh_ops.specs.declared.port.Input.{Input}
 use Rattle.pdh_ops.proofs.LineStops.{line_due}
 use Rattle.pdh_ops.proofs.OneInput.{BeginsWith, held_of}

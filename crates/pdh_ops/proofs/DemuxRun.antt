@@ -20,7 +20,7 @@ use Rattle.pdh_blocks.specs.Held.{IsPort}
 use Rattle.pdh_blocks.specs.laws.PortLaws.{left_is}
 use Rattle.pdh_words.specs.declared.commands.Bits.{Bits}
 use Rattle.pdh_words.specs.declared.commands.Command.TheVariants.{Demux}
-use Rattle.pdh_ops.specs.Names.{name_of}
+use Rattle.pdh_answers.specs.Names.{name_of}
 use Rattle.pdh_ops.specs.Demux.{frames_received, output_of}
 use Rattle.pdh_ops.specs.Schedules.{Files, bytes_in}
 use Rattle.pdh_ops.specs.Commands.{AreTold, output_bytes}
@@ -28,8 +28,8 @@ use Rattle.pdh_ops.specs.Run.{Comes}
 use Rattle.pdh_ops.specs.Steps.{HasLine, IsDemuxPort}
 use Rattle.pdh_ops.specs.PortFiles.{PutsAll, PutsFront}
 use Rattle.pdh_ops.specs.declared.port.Input.{Input}
-use Rattle.pdh_ops.specs.declared.answer.Done.TheVariants.{Demuxed}
-use Rattle.pdh_ops.specs.declared.answer.Stop.TheVariants.{NoAlignment}
+use Rattle.pdh_answers.specs.declared.answer.Done.TheVariants.{Demuxed}
+use Rattle.pdh_answers.specs.declared.answer.Stop.TheVariants.{NoAlignment}
 use Rattle.pdh_ops.proofs.LineComes.{demuxed_none, demuxed_some}
 use Rattle.pdh_ops.proofs.PortRun.{given_begins, all_given, prefix_join, put_is, put_begins}
 

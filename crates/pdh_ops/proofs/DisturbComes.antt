@@ -9,11 +9,11 @@ use Rattle.pdh_script.specs.declared.fault.ScriptFault.TheVariants.{TooLong, Bad
 use Rattle.pdh_script.specs.Scripts.{Row}
 use Rattle.pdh_script.specs.ScriptText.{most_script_bytes, script_of, Fails}
 use Rattle.pdh_words.specs.declared.commands.Command.TheVariants.{Disturb}
-use Rattle.pdh_ops.specs.Names.{line_name, script_name}
-use Rattle.pdh_ops.specs.Answer.{Answer, and_then}
+use Rattle.pdh_answers.specs.Names.{line_name, script_name}
+use Rattle.pdh_answers.specs.Answer.{Answer, and_then, stop_of_script}
 use Rattle.pdh_ops.specs.Demux.{line_of, frames_of}
 use Rattle.pdh_ops.specs.Mux.{all_held}
-use Rattle.pdh_ops.specs.Disturb.{disturb_inputs, stop_of_script, script_or_stop, script_rows, bent}
+use Rattle.pdh_ops.specs.Disturb.{disturb_inputs, script_or_stop, script_rows, bent}
 use Rattle.pdh_ops.specs.DisturbSteps.{HasSizes, ScriptIs}
 use Rattle.pdh_ops.specs.Reading.{HasLength, IsSizeStop, IsReadStop}
 use Rattle.pdh_ops.specs.Schedules.{Files, bytes_in}
@@ -21,9 +21,9 @@ use Rattle.pdh_ops.specs.Commands.{AreTold, OfInputs, comes_to, AreHeld, IsReadD
 use Rattle.pdh_ops.specs.Run.{Comes}
 use Rattle.pdh_ops.specs.Refusing.{Refuses}
 use Rattle.pdh_ops.specs.declared.disturb.Sizes.{Sizes}
-use Rattle.pdh_ops.specs.declared.file.File.TheVariants.{Line, Script}
-use Rattle.pdh_ops.specs.declared.answer.Stop.{Stop}
-use Rattle.pdh_ops.specs.declared.answer.Stop.TheVariants.{Missing, LongScript, ManyFrames}
+use Rattle.pdh_answers.specs.declared.file.File.TheVariants.{Line, Script}
+use Rattle.pdh_answers.specs.declared.answer.Stop.{Stop}
+use Rattle.pdh_answers.specs.declared.answer.Stop.TheVariants.{Missing, LongScript, ManyFrames}
 use Rattle.pdh_ops.proofs.Touching.{has_length_still, looks_then}
 use Rattle.pdh_ops.proofs.Refusing.{size_refuses, read_refuses, refuses_since}
 use Rattle.pdh_ops.proofs.MuxComes.{is_held, length_is}

@@ -12,7 +12,7 @@ use Rattle.pdh_chain.specs.declared.chain.Chain.{Chain}
 use Rattle.pdh_blocks.specs.Lists.{inputs_of, outputs_of}
 use Rattle.pdh_blocks.specs.Held.{AllDiffer}
 use Rattle.pdh_words.specs.declared.commands.Command.TheVariants.{Disturb}
-use Rattle.pdh_ops.specs.Names.{name_of, line_name, bent_name, script_name}
+use Rattle.pdh_answers.specs.Names.{name_of, line_name, bent_name, script_name}
 use Rattle.pdh_ops.specs.Disturb.{script_rows, bent}
 use Rattle.pdh_ops.specs.Schedules.{Files, bytes_in}
 use Rattle.pdh_ops.specs.Commands.{AreTold, OfInputs, comes_to, reaches_outputs, IsReadDue}
@@ -21,8 +21,8 @@ use Rattle.pdh_ops.specs.PortFiles.{HasBits, AreFiles, AreRead, opened_for, inpu
 use Rattle.pdh_ops.specs.Steps.{HasLine}
 use Rattle.pdh_ops.specs.DisturbSteps.{IsBendPlan, IsBendPort}
 use Rattle.pdh_ops.specs.declared.disturb.Plan.{Plan}
-use Rattle.pdh_ops.specs.declared.file.File.{File}
-use Rattle.pdh_ops.specs.declared.file.File.TheVariants.{Line, Bent}
+use Rattle.pdh_answers.specs.declared.file.File.{File}
+use Rattle.pdh_answers.specs.declared.file.File.TheVariants.{Line, Bent}
 use Rattle.pdh_ops.specs.declared.port.Input.{Input}
 use Rattle.pdh_ops.proofs.DisturbComes.{ready, script_found, line_told}
 use Rattle.pdh_ops.proofs.MuxComes.{length_is}

@@ -11,14 +11,14 @@ use Rattle.pdh_blocks.specs.Lists.{inputs_of, outputs_of}
 use Rattle.pdh_blocks.specs.Held.{IsPort}
 use Rattle.pdh_blocks.specs.laws.PortLaws.{left_is}
 use Rattle.pdh_words.specs.declared.commands.Command.TheVariants.{Disturb}
-use Rattle.pdh_ops.specs.Names.{line_name}
+use Rattle.pdh_answers.specs.Names.{line_name}
 use Rattle.pdh_ops.specs.Disturb.{bent_bits, bent_bytes}
 use Rattle.pdh_ops.specs.Schedules.{Files, bytes_in}
 use Rattle.pdh_ops.specs.Commands.{AreTold, output_bytes}
 use Rattle.pdh_ops.specs.Run.{Comes}
 use Rattle.pdh_ops.specs.Steps.{HasLine}
 use Rattle.pdh_ops.specs.DisturbSteps.{IsBendPort}
-use Rattle.pdh_ops.specs.declared.answer.Done.TheVariants.{Disturbed}
+use Rattle.pdh_answers.specs.declared.answer.Done.TheVariants.{Disturbed}
 use Rattle.pdh_ops.specs.PortFiles.{PutsAll, PutsFront}
 use Rattle.pdh_ops.proofs.PortRun.{given_begins, all_given, put_is, put_begins}
 

@@ -10,14 +10,14 @@ use Rattle.pdh_lab.specs.Drill.{drill_of}
 use Rattle.pdh_lab.proofs.InTime.{in_time}
 use Rattle.pdh_words.specs.declared.commands.Command.{Command}
 use Rattle.pdh_words.specs.declared.commands.Command.TheVariants.{Demux, Mux, ClockCheck, ClockMake, Inspect, InspectE1, Show, E1Pack, E1Unpack, Disturb, Drill}
-use Rattle.pdh_ops.specs.Answer.{Answer}
+use Rattle.pdh_answers.specs.Answer.{Answer}
 use Rattle.pdh_ops.specs.Drill.{drilled}
 use Rattle.pdh_ops.specs.InTime.{AreInTime}
-use Rattle.pdh_ops.specs.Lines.{IsTold}
+use Rattle.pdh_answers.specs.Lines.{IsTold}
 use Rattle.pdh_ops.specs.Commands.{IsOutput}
 use Rattle.pdh_ops.specs.Run.{Performs, Runs}
-use Rattle.pdh_ops.specs.declared.answer.Done.TheVariants.{Drilled}
-use Rattle.pdh_ops.specs.declared.answer.Stop.TheVariants.{ManyFrames}
+use Rattle.pdh_answers.specs.declared.answer.Done.TheVariants.{Drilled}
+use Rattle.pdh_answers.specs.declared.answer.Stop.TheVariants.{ManyFrames}
 use Rattle.pdh_ops.proofs.Causes.{did, looks_others}
 use Rattle.pdh_ops.proofs.MuxGivesBack.{stop_status}
 use Rattle.pdh_ops.proofs.Touching.{looks_none}

@@ -9,24 +9,24 @@ use Rattle.pdh_g706.specs.Tracking.{multiframes_in, counted}
 use Rattle.pdh_edge.specs.Files.{ShelfState, Looks, Touches, Starts, Appends, Holds, SinkState}
 use Rattle.pdh_words.specs.declared.commands.Command.{Command}
 use Rattle.pdh_words.specs.declared.commands.Command.TheVariants.{Demux, Mux, ClockCheck, ClockMake, Inspect, InspectE1, Show, E1Pack, E1Unpack, Disturb, Drill}
-use Rattle.pdh_ops.specs.Names.{payload_name, e1_name, payload_out_name}
+use Rattle.pdh_answers.specs.Names.{payload_name, e1_name, payload_out_name}
 use Rattle.pdh_ops.specs.E1.{payload_of, e1_packed, packed_line, frames_filled, framed_of, frames_framed, e1_unpacked, unpacked_payload, counts_of}
 use Rattle.pdh_ops.specs.Reading.{HasLength, IsSizeStop, IsReadStop}
 use Rattle.pdh_ops.specs.Schedules.{bytes_in}
 use Rattle.pdh_ops.specs.Writing.{IsStartStop, IsAppendStop}
 use Rattle.pdh_ops.specs.Commands.{reaches_outputs}
 use Rattle.pdh_watch.specs.Monitors.{State}
-use Rattle.pdh_ops.specs.Lines.{IsTold}
+use Rattle.pdh_answers.specs.Lines.{IsTold}
 use Rattle.pdh_ops.specs.Run.{Performs, Runs}
 use Rattle.pdh_ops.specs.Refusing.{Refuses}
-use Rattle.pdh_ops.specs.Answer.{Answer, and_then}
+use Rattle.pdh_answers.specs.Answer.{Answer, and_then}
 use Rattle.pdh_ops.specs.Packs.{Packs}
-use Rattle.pdh_ops.specs.declared.file.File.TheVariants.{Payload, E1Line, PayloadOut}
-use Rattle.pdh_ops.specs.declared.answer.Done.TheVariants.{E1Packed, E1Unpacked}
-use Rattle.pdh_ops.specs.declared.answer.E1Counts.{E1Counts}
-use Rattle.pdh_ops.specs.declared.answer.Done.{Done}
-use Rattle.pdh_ops.specs.declared.answer.Stop.{Stop}
-use Rattle.pdh_ops.specs.declared.answer.Stop.TheVariants.{ManyFrames, NoAlignment, NotWhole}
+use Rattle.pdh_answers.specs.declared.file.File.TheVariants.{Payload, E1Line, PayloadOut}
+use Rattle.pdh_answers.specs.declared.answer.Done.TheVariants.{E1Packed, E1Unpacked}
+use Rattle.pdh_answers.specs.declared.answer.E1Counts.{E1Counts}
+use Rattle.pdh_answers.specs.declared.answer.Done.{Done}
+use Rattle.pdh_answers.specs.declared.answer.Stop.{Stop}
+use Rattle.pdh_answers.specs.declared.answer.Stop.TheVariants.{ManyFrames, NoAlignment, NotWhole}
 use Rattle.pdh_ops.proofs.Refusing.{refuses_since}
 use Rattle.pdh_ops.proofs.OneInput.{BeginsWith, RefusesAll, ServesAll, missing_refuses, length_refuses, reading_refuses, comes_of_bytes, goes_on_by_bytes, bytes_are}
 use Rattle.pdh_ops.proofs.OneOutput.{HasOutput, Writes, start_refused, append_refused, writing_done, whole, others, touches_again}

@@ -4,15 +4,15 @@ use Rattle.pdh_edge.specs.Files.{ShelfState, Looks}
 use Rattle.pdh_chain.specs.declared.chain.Chain.{Chain}
 use Rattle.pdh_words.specs.declared.commands.Bits.{Bits}
 use Rattle.pdh_words.specs.declared.commands.Command.TheVariants.{Inspect, InspectE1}
-use Rattle.pdh_ops.specs.Names.{line_file, e1_name}
+use Rattle.pdh_answers.specs.Names.{line_file, e1_name}
 use Rattle.pdh_ops.specs.Demux.{line_of}
 use Rattle.pdh_ops.specs.E1.{framed_of}
 use Rattle.pdh_ops.specs.Inspect.{inspected, e1_inspected}
 use Rattle.pdh_ops.specs.Reading.{HasLength, IsSizeStop}
 use Rattle.pdh_ops.specs.Refusing.{Refuses, RefusesFramed}
-use Rattle.pdh_ops.specs.declared.file.File.TheVariants.{E1Line}
-use Rattle.pdh_ops.specs.declared.answer.Stop.{Stop}
-use Rattle.pdh_ops.specs.declared.answer.Stop.TheVariants.{ManyFrames}
+use Rattle.pdh_answers.specs.declared.file.File.TheVariants.{E1Line}
+use Rattle.pdh_answers.specs.declared.answer.Stop.{Stop}
+use Rattle.pdh_answers.specs.declared.answer.Stop.TheVariants.{ManyFrames}
 use Rattle.pdh_ops.proofs.LineStops.{line_due}
 use Rattle.pdh_ops.proofs.Refusing.{refuses_since}
 use Rattle.pdh_ops.proofs.OneInput.{BeginsWith, missing_refuses, length_refuses}

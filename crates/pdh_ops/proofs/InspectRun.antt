@@ -19,18 +19,18 @@ use Rattle.pdh_blocks.specs.Kept.{Feeds}
 use Rattle.pdh_watch.specs.declared.event.Event.{Event}
 use Rattle.pdh_watch.specs.Monitors.{State, SawEach}
 use Rattle.pdh_words.specs.declared.commands.Command.{Command}
-use Rattle.pdh_ops.specs.Names.{name_of}
-use Rattle.pdh_ops.specs.Answer.{Answer}
+use Rattle.pdh_answers.specs.Names.{name_of}
+use Rattle.pdh_answers.specs.Answer.{Answer}
 use Rattle.pdh_ops.specs.Reading.{HasLength}
 use Rattle.pdh_ops.specs.Schedules.{Files, bytes_in}
 use Rattle.pdh_ops.specs.Commands.{AreTold, OfInputs, outputs, comes_to, reaches_outputs, IsReadDue}
 use Rattle.pdh_ops.specs.Run.{GoesOn, is_read_in_run, Performs, SeeEvents, SeeFirst}
 use Rattle.pdh_ops.specs.PortFiles.{AreRead, HasFiles, IsOpenFor, IsStopOf, opened_for}
-use Rattle.pdh_ops.specs.declared.file.File.{File}
+use Rattle.pdh_answers.specs.declared.file.File.{File}
 use Rattle.pdh_ops.specs.declared.port.Input.{Input}
-use Rattle.pdh_ops.specs.declared.answer.Done.{Done}
-use Rattle.pdh_ops.specs.declared.answer.Stop.{Stop}
-use Rattle.pdh_ops.specs.declared.answer.Stop.TheVariants.{Read}
+use Rattle.pdh_answers.specs.declared.answer.Done.{Done}
+use Rattle.pdh_answers.specs.declared.answer.Stop.{Stop}
+use Rattle.pdh_answers.specs.declared.answer.Stop.TheVariants.{Read}
 use Rattle.pdh_ops.proofs.OneInput.{BeginsWith, Judge, ServesAll, file_told, held_of, comes_on}
 use Rattle.pdh_ops.proofs.PortOpen.{open_for, has_files, told_read}
 use Rattle.pdh_ops.proofs.PortRun.{given_begins, all_given}

@@ -19,7 +19,7 @@ use Rattle.pdh_blocks.specs.Kept.{Feeds}
 use Rattle.pdh_watch.specs.Monitors.{State, SawEach}
 use Rattle.pdh_words.specs.declared.commands.Bits.{Bits}
 use Rattle.pdh_words.specs.declared.commands.Command.TheVariants.{Inspect, InspectE1}
-use Rattle.pdh_ops.specs.Names.{name_of, line_file}
+use Rattle.pdh_answers.specs.Names.{name_of, line_file}
 use Rattle.pdh_ops.specs.Demux.{frames_of, line_of, frames_received}
 use Rattle.pdh_ops.specs.E1.{framed_of}
 use Rattle.pdh_ops.specs.E1Steps.{IsFramedLine}
@@ -28,11 +28,11 @@ use Rattle.pdh_ops.specs.Reading.{HasLength}
 use Rattle.pdh_ops.specs.Run.{Performs, Watches}
 use Rattle.pdh_ops.specs.Steps.{IsLine}
 use Rattle.pdh_ops.specs.PortFiles.{IsStopOf, opened_for}
-use Rattle.pdh_ops.specs.declared.file.File.{File}
-use Rattle.pdh_ops.specs.declared.file.File.TheVariants.{E1Line}
+use Rattle.pdh_answers.specs.declared.file.File.{File}
+use Rattle.pdh_answers.specs.declared.file.File.TheVariants.{E1Line}
 use Rattle.pdh_ops.specs.declared.port.Input.{Input}
-use Rattle.pdh_ops.specs.declared.answer.Done.TheVariants.{Inspected, E1Inspected}
-use Rattle.pdh_ops.specs.declared.answer.Stop.{Stop}
+use Rattle.pdh_answers.specs.declared.answer.Done.TheVariants.{Inspected, E1Inspected}
+use Rattle.pdh_answers.specs.declared.answer.Stop.{Stop}
 use Rattle.pdh_ops.proofs.E1Files.{whole_framed}
 use Rattle.pdh_ops.proofs.InspectFiles.{inspect_begins, framed_begins}
 use Rattle.pdh_ops.proofs.InspectRun.{ReadsWhole, IsLinePort, line_port, given_all, all_seen, first_seen, run_done, run_stops, run_failed}

@@ -29,7 +29,6 @@ pub mod OneInput
 pub mod E1Packing
 pub mod E1Files
 pub mod E1Unpacking
-pub mod Lines
 pub mod InspectFiles
 pub mod DisturbComes
 pub mod DisturbFiles

@@ -5,13 +5,13 @@ use Rattle.std.proofs.lemmas.Bool.{cases_eq}
 use Rattle.std.proofs.lemmas.Bool.Decides.{nat_tests}
 use Rattle.std.specs.Option.{option_map}
 use Rattle.pdh_edge.specs.Files.{IsRangeOf}
-use Rattle.pdh_ops.specs.Answer.{Answer, and_then}
+use Rattle.pdh_answers.specs.Answer.{Answer, and_then}
 use Rattle.pdh_ops.specs.Demux.{line_of, frames_received, demuxed}
 use Rattle.pdh_ops.specs.Commands.{reaches_outputs}
-use Rattle.pdh_ops.specs.declared.file.File.{File}
-use Rattle.pdh_ops.specs.declared.answer.Stop.{Stop}
-use Rattle.pdh_ops.specs.declared.answer.Done.TheVariants.{Demuxed}
-use Rattle.pdh_ops.specs.declared.answer.Stop.TheVariants.{NoAlignment}
+use Rattle.pdh_answers.specs.declared.file.File.{File}
+use Rattle.pdh_answers.specs.declared.answer.Stop.{Stop}
+use Rattle.pdh_answers.specs.declared.answer.Done.TheVariants.{Demuxed}
+use Rattle.pdh_answers.specs.declared.answer.Stop.TheVariants.{NoAlignment}
 use Rattle.pdh_chain.specs.declared.chain.Chain.{Chain}
 
 -- the buffer that a whole file was read into holds the file

@@ -4,8 +4,8 @@ use Rattle.pdh_edge.specs.declared.shelf.Call.TheVariants.{Size as SizeCall}
 use Rattle.pdh_edge.specs.Files.{ShelfState, WhereTold, FailsToRead}
 use Rattle.pdh_edge.specs.Files.Told.{Known}
 use Rattle.pdh_words.specs.declared.commands.Command.{Command}
-use Rattle.pdh_ops.specs.Names.{name_of, line_file}
-use Rattle.pdh_ops.specs.Answer.{Answer, and_then}
+use Rattle.pdh_answers.specs.Names.{name_of, line_file}
+use Rattle.pdh_answers.specs.Answer.{Answer, and_then}
 use Rattle.pdh_ops.specs.Demux.{line_of}
 use Rattle.pdh_ops.specs.Reading.{IsSizeStop}
 use Rattle.pdh_ops.specs.Schedules.{Files}
@@ -15,9 +15,9 @@ use Rattle.pdh_ops.specs.Commands.{AreTold, comes_to, reaches_outputs, IsReadDue
 use Rattle.pdh_ops.specs.Run.{FailsInTurn, FailsEarly}
 use Rattle.pdh_ops.specs.Refusing.{Refuses}
 use Rattle.pdh_ops.specs.Steps.{IsLineCause}
-use Rattle.pdh_ops.specs.declared.file.File.{File}
-use Rattle.pdh_ops.specs.declared.answer.Stop.{Stop}
-use Rattle.pdh_ops.specs.declared.answer.Stop.TheVariants.{Memory, Usage, Read, Write, Missing, LongSchedule, BadRow, UnknownNode, CountOver, ShortNode, Short, Overflow, Underflow, ManyFrames, NoAlignment, NotWhole, LongScript, BadScriptRow, PastEnd}
+use Rattle.pdh_answers.specs.declared.file.File.{File}
+use Rattle.pdh_answers.specs.declared.answer.Stop.{Stop}
+use Rattle.pdh_answers.specs.declared.answer.Stop.TheVariants.{Memory, Usage, Read, Write, Missing, LongSchedule, BadRow, UnknownNode, CountOver, ShortNode, Short, Overflow, Underflow, ManyFrames, NoAlignment, NotWhole, LongScript, BadScriptRow, PastEnd}
 use Rattle.pdh_ops.proofs.Refusing.{size_stop}
 use Rattle.pdh_ops.proofs.OneInput.{BeginsWith}
 use Rattle.pdh_chain.specs.declared.chain.Chain.{Chain}

@@ -11,8 +11,8 @@ use Rattle.pdh_clock.specs.Row.{Row}
 use Rattle.pdh_shape.specs.declared.place.Path.{Path}
 use Rattle.pdh_clock.specs.Begun.{Shortage}
 use Rattle.pdh_chain.specs.Chains.{leaves_of}
-use Rattle.pdh_ops.specs.Names.{schedule_name, leaf_name, name_of}
-use Rattle.pdh_ops.specs.Answer.{Answer, and_then}
+use Rattle.pdh_answers.specs.Names.{schedule_name, leaf_name, name_of}
+use Rattle.pdh_answers.specs.Answer.{Answer, and_then}
 use Rattle.pdh_ops.specs.Reading.{HasLength, IsSizeStop}
 use Rattle.pdh_ops.specs.Schedules.{Files, bytes_in, rows_of, frames_in}
 use Rattle.pdh_ops.specs.Mux.{mux_inputs, all_held, leaf_bits, bits_held, bits_needed, short_node, stop_of_shortage, short_leaf, muxed}
@@ -25,11 +25,11 @@ use Rattle.pdh_ops.proofs.Refusing.{size_refuses}
 use Rattle.pdh_ops.proofs.ScheduleComes.{Begins, HasSchedule}
 use Rattle.pdh_ops.specs.MuxSteps.{AreSizes, AllHeld, HasRows, IsLong, IsShortNode, IsShort, IsEnoughStop}
 use Rattle.pdh_words.specs.declared.commands.Command.TheVariants.{Mux}
-use Rattle.pdh_ops.specs.declared.file.File.{File}
-use Rattle.pdh_ops.specs.declared.file.File.TheVariants.{Line, Bent, Schedule, Script, Leaf, Output, Payload, E1Line, PayloadOut}
+use Rattle.pdh_answers.specs.declared.file.File.{File}
+use Rattle.pdh_answers.specs.declared.file.File.TheVariants.{Line, Bent, Schedule, Script, Leaf, Output, Payload, E1Line, PayloadOut}
 use Rattle.pdh_ops.specs.declared.mux.InputSizes.{InputSizes}
-use Rattle.pdh_ops.specs.declared.answer.Stop.{Stop}
-use Rattle.pdh_ops.specs.declared.answer.Stop.TheVariants.{Memory, Usage, Read, Write, Missing, LongSchedule, BadRow, UnknownNode, CountOver, ShortNode, Short, Overflow, Underflow, ManyFrames, NoAlignment, NotWhole, LongScript, BadScriptRow, PastEnd}
+use Rattle.pdh_answers.specs.declared.answer.Stop.{Stop}
+use Rattle.pdh_answers.specs.declared.answer.Stop.TheVariants.{Memory, Usage, Read, Write, Missing, LongSchedule, BadRow, UnknownNode, CountOver, ShortNode, Short, Overflow, Underflow, ManyFrames, NoAlignment, NotWhole, LongScript, BadScriptRow, PastEnd}
 use Rattle.pdh_ops.proofs.Touching.{has_length_still}
 use Rattle.pdh_chain.specs.declared.chain.Chain.{Chain}
 use Rattle.pdh_shape.specs.OwnNumbers.{most_frames}

@@ -22,19 +22,19 @@ use Rattle.pdh_blocks.specs.Lists.{inputs_of}
 use Rattle.pdh_blocks.specs.Held.{AllDiffer}
 use Rattle.pdh_blocks.specs.Opened.{HasBytesFor}
 use Rattle.pdh_words.specs.declared.commands.Command.TheVariants.{Mux}
-use Rattle.pdh_ops.specs.Names.{leaf_name, line_name, schedule_name, name_of}
+use Rattle.pdh_answers.specs.Names.{leaf_name, line_name, schedule_name, name_of}
 use Rattle.pdh_ops.specs.Schedules.{Files, bytes_in, rows_of, frames_in}
 use Rattle.pdh_ops.specs.Mux.{short_node, bits_held, bits_needed, stop_of_kind, stop_of_event, event_of, muxed}
 use Rattle.pdh_ops.specs.Commands.{AreTold, OfInputs, comes_to, reaches_outputs, IsReadDue}
 use Rattle.pdh_ops.specs.Run.{GoesOn, is_read_in_run}
 use Rattle.pdh_ops.specs.PortFiles.{HasBits, AreFiles, AreRead, opened_for, input_name}
 use Rattle.pdh_ops.specs.MuxSteps.{AreSizes, AllHeld, HasRows, AreEnough, IsPlanned, AreLeafInputs, CanSend, IsMuxPort, run_answer, entering}
-use Rattle.pdh_ops.specs.declared.file.File.{File}
-use Rattle.pdh_ops.specs.declared.file.File.TheVariants.{Line, Leaf as LeafFile}
+use Rattle.pdh_answers.specs.declared.file.File.{File}
+use Rattle.pdh_answers.specs.declared.file.File.TheVariants.{Line, Leaf as LeafFile}
 use Rattle.pdh_ops.specs.declared.mux.InputSizes.{InputSizes}
 use Rattle.pdh_ops.specs.declared.mux.Plan.{Plan}
 use Rattle.pdh_ops.specs.declared.port.Input.{Input}
-use Rattle.pdh_ops.specs.declared.answer.Done.TheVariants.{Muxed}
+use Rattle.pdh_answers.specs.declared.answer.Done.TheVariants.{Muxed}
 use Rattle.pdh_ops.proofs.MuxComes.{comes_muxed, no_short_leaf, leaf_told}
 use Rattle.pdh_ops.proofs.OutputNames.{numbered, numbered_at, numbered_differ, last_differs, same_leaf, leaf_is_not_line}
 use Rattle.pdh_ops.proofs.PortOpen.{open_for, long_has, told_read, left_read, holds_read}

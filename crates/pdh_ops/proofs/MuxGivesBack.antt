@@ -26,23 +26,23 @@ use Rattle.pdh_chain.specs.Saying.{says_of}
 use Rattle.pdh_chain.specs.declared.chain.Chain.{Chain}
 use Rattle.pdh_chain.specs.Chains.{shapes_of, levels_of, leaves_of, frame_bytes_of}
 use Rattle.pdh_chain.proofs.ChainLaws.{are_frames, some_bits, whole_bytes}
-use Rattle.pdh_ops.specs.Names.{schedule_name, leaf_name}
-use Rattle.pdh_ops.specs.Answer.{Answer, and_then, status_of}
+use Rattle.pdh_answers.specs.Names.{schedule_name, leaf_name}
+use Rattle.pdh_answers.specs.Answer.{Answer, and_then, status_of}
 use Rattle.pdh_ops.specs.Schedules.{Files, bytes_in, rows_of, rows_or_stop, rows_in, frames_in}
 use Rattle.pdh_ops.specs.Mux.{mux_inputs, all_held, line_len, short_node, leaf_bits, bits_held, bits_needed, short_leaf, event_of, stop_of_event, stop_of_shortage, muxed, frames_made, mux_line, line_bytes}
 use Rattle.pdh_ops.specs.Commands.{comes_to}
 use Rattle.pdh_watch.specs.Monitors.{State}
-use Rattle.pdh_ops.specs.Lines.{IsTold}
+use Rattle.pdh_answers.specs.Lines.{IsTold}
 use Rattle.pdh_ops.specs.Run.{Performs, Runs}
 use Rattle.pdh_edge.specs.Ports.{IsPrefix}
 use Rattle.pdh_ops.specs.GivesBack.{GivesBack}
 use Rattle.pdh_words.specs.declared.commands.Command.{Command}
 use Rattle.pdh_words.specs.declared.commands.Command.TheVariants.{Demux, Mux, ClockCheck, ClockMake, Inspect, InspectE1, Show, E1Pack, E1Unpack, Disturb, Drill}
-use Rattle.pdh_ops.specs.declared.answer.Done.{Done}
-use Rattle.pdh_ops.specs.declared.answer.Done.TheVariants.{Muxed}
-use Rattle.pdh_ops.specs.declared.answer.Stop.{Stop}
-use Rattle.pdh_ops.specs.declared.answer.Stop.TheVariants.{Memory, Usage, Read, Write, Missing, LongSchedule, BadRow, UnknownNode, CountOver, ShortNode, Short, Overflow, Underflow, ManyFrames, NoAlignment, NotWhole, LongScript, BadScriptRow, PastEnd}
-use Rattle.pdh_ops.specs.declared.file.File.TheVariants.{Leaf}
+use Rattle.pdh_answers.specs.declared.answer.Done.{Done}
+use Rattle.pdh_answers.specs.declared.answer.Done.TheVariants.{Muxed}
+use Rattle.pdh_answers.specs.declared.answer.Stop.{Stop}
+use Rattle.pdh_answers.specs.declared.answer.Stop.TheVariants.{Memory, Usage, Read, Write, Missing, LongSchedule, BadRow, UnknownNode, CountOver, ShortNode, Short, Overflow, Underflow, ManyFrames, NoAlignment, NotWhole, LongScript, BadScriptRow, PastEnd}
+use Rattle.pdh_answers.specs.declared.file.File.TheVariants.{Leaf}
 use Rattle.pdh_chain.proofs.Scheduled.{arrive_singly}
 use Rattle.pdh_ops.proofs.MuxComes.{each_long}
 use Rattle.pdh_ops.proofs.MuxMade.{all_made}

@@ -26,7 +26,7 @@ use Rattle.pdh_chain.proofs.Stops.{Tells}
 use Rattle.pdh_chain.proofs.SenderStops.{Other, chain_tells}
 use Rattle.pdh_ops.specs.Schedules.{frames_in}
 use Rattle.pdh_ops.specs.Mux.{line_len, has_event, frames_made, stop_of_kind}
-use Rattle.pdh_ops.specs.declared.answer.Stop.TheVariants.{Overflow, Underflow}
+use Rattle.pdh_answers.specs.declared.answer.Stop.TheVariants.{Overflow, Underflow}
 
 -- a list that gave bits began with them
 pub begins : (rest : Option (List Bool)) (given bits : List Bool) → Some bits ≡ before given rest → (i : ℕ) → i < length given → slice_index_or given i false ≡ slice_index_or bits i false

@@ -29,9 +29,9 @@ use Rattle.pdh_ops.specs.Commands.{AreTold, output_bytes}
 use Rattle.pdh_ops.specs.Run.{Comes, Performs}
 use Rattle.pdh_ops.specs.MuxSteps.{IsMuxPort, entering}
 use Rattle.pdh_ops.specs.PortFiles.{PutsAll, PutsFront}
-use Rattle.pdh_ops.specs.declared.answer.Done.TheVariants.{Muxed}
-use Rattle.pdh_ops.specs.declared.answer.Stop.{Stop}
-use Rattle.pdh_ops.specs.declared.answer.Stop.TheVariants.{Overflow, Underflow}
+use Rattle.pdh_answers.specs.declared.answer.Done.TheVariants.{Muxed}
+use Rattle.pdh_answers.specs.declared.answer.Stop.{Stop}
+use Rattle.pdh_answers.specs.declared.answer.Stop.TheVariants.{Overflow, Underflow}
 use Rattle.pdh_ops.proofs.MuxMade.{begins, clear_before, all_made, frames_before, kind_ends}
 use Rattle.pdh_ops.proofs.PortEnds.{EndsWhole, overflow, underflow}
 use Rattle.pdh_ops.proofs.PortRun.{prefix_join, put_is, put_begins}

@@ -5,16 +5,16 @@ use Rattle.std.specs.Option.{option_map}
 use Rattle.pdh_edge.specs.Files.{ShelfState, Holds}
 use Rattle.pdh_edge.specs.Files.Told.{Known}
 use Rattle.pdh_words.specs.declared.commands.Command.{Command}
-use Rattle.pdh_ops.specs.Names.{name_of}
-use Rattle.pdh_ops.specs.Answer.{Answer, and_then}
+use Rattle.pdh_answers.specs.Names.{name_of}
+use Rattle.pdh_answers.specs.Answer.{Answer, and_then}
 use Rattle.pdh_ops.specs.Reading.{HasLength, IsSizeStop, IsReadStop}
 use Rattle.pdh_ops.specs.Schedules.{Files}
 use Rattle.pdh_ops.specs.Commands.{AreTold, OfInputs, inputs, comes_to, reaches_outputs, IsReadDue}
 use Rattle.pdh_ops.specs.Run.{Comes, GoesOn, is_read_in_run}
 use Rattle.pdh_ops.specs.Refusing.{Refuses}
-use Rattle.pdh_ops.specs.declared.file.File.{File}
-use Rattle.pdh_ops.specs.declared.answer.Stop.{Stop}
-use Rattle.pdh_ops.specs.declared.answer.Stop.TheVariants.{Missing}
+use Rattle.pdh_answers.specs.declared.file.File.{File}
+use Rattle.pdh_answers.specs.declared.answer.Stop.{Stop}
+use Rattle.pdh_answers.specs.declared.answer.Stop.TheVariants.{Missing}
 use Rattle.pdh_ops.proofs.Refusing.{size_refuses, read_refuses}
 
 -- the bytes that are held, or why they are refused

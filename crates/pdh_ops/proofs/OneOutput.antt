@@ -4,14 +4,14 @@ use Rattle.pdh_edge.specs.declared.shelf.Call.TheVariants.{Start as StartCall, A
 use Rattle.pdh_edge.specs.Files.{ShelfState, Told, Looks, Touches, Holds, HoldsPrefix, Starts, Appends, FailsToWrite, Grows, GrowsInPart, with_write_fault, told_empty}
 use Rattle.pdh_edge.specs.Files.Told.{Untold, Known}
 use Rattle.pdh_words.specs.declared.commands.Command.{Command}
-use Rattle.pdh_ops.specs.Names.{name_of}
+use Rattle.pdh_answers.specs.Names.{name_of}
 use Rattle.pdh_ops.specs.Writing.{IsStartStop, IsAppendStop}
 use Rattle.pdh_ops.specs.Schedules.{Files}
 use Rattle.pdh_ops.specs.Commands.{IsOutput, AreTold, outputs, output_bytes}
 use Rattle.pdh_ops.specs.Run.{Comes, AreWhole, ChangesOnly, Performs, GoesOn}
-use Rattle.pdh_ops.specs.declared.file.File.{File}
-use Rattle.pdh_ops.specs.declared.answer.Done.{Done}
-use Rattle.pdh_ops.specs.declared.answer.Stop.{Stop}
+use Rattle.pdh_answers.specs.declared.file.File.{File}
+use Rattle.pdh_answers.specs.declared.answer.Done.{Done}
+use Rattle.pdh_answers.specs.declared.answer.Stop.{Stop}
 use Rattle.pdh_ops.proofs.Touching.{write_fails_since, touches_then, started_holds}
 
 -- ---- one file

@@ -3,7 +3,7 @@ use Rattle.std.proofs.Common.{◌≡◌, ◌≢◌, ◌⊎◌, ℕ, zero, suc, �
 use Rattle.std.specs.List.{range_with_len}
 use Rattle.std.proofs.lemmas.Option.{none-some, same_Some}
 use Rattle.pdh_blocks.specs.Held.{AllDiffer}
-use Rattle.pdh_ops.specs.Names.{leaf_name, output_name, numbered_name, line_name, bent_name}
+use Rattle.pdh_answers.specs.Names.{leaf_name, output_name, numbered_name, line_name, bent_name}
 
 -- ---- numbers in names
 

@@ -17,11 +17,11 @@ use Rattle.pdh_words.specs.declared.commands.Command.{Command}
 use Rattle.pdh_ops.specs.Commands.{outputs, IsOutput}
 use Rattle.pdh_ops.specs.Run.{Comes, AreWhole, ChangesOnly, Performs}
 use Rattle.pdh_ops.specs.PortFiles.{HasFiles, IsStopOf, AreRead, IsOpenFor, PutsAll, PutsFront, input_name}
-use Rattle.pdh_ops.specs.declared.file.File.{File}
+use Rattle.pdh_answers.specs.declared.file.File.{File}
 use Rattle.pdh_ops.specs.declared.port.Input.{Input}
-use Rattle.pdh_ops.specs.declared.answer.Done.{Done}
-use Rattle.pdh_ops.specs.declared.answer.Stop.{Stop}
-use Rattle.pdh_ops.specs.declared.answer.Stop.TheVariants.{Memory, Read, Overflow, Underflow, NoAlignment}
+use Rattle.pdh_answers.specs.declared.answer.Done.{Done}
+use Rattle.pdh_answers.specs.declared.answer.Stop.{Stop}
+use Rattle.pdh_answers.specs.declared.answer.Stop.TheVariants.{Memory, Read, Overflow, Underflow, NoAlignment}
 use Rattle.pdh_ops.proofs.PortRun.{others, unfailed, whole, begun, out_of_memory, read_failed, reading_stops, writing_stops, front_still, all_still}
 
 -- ---- files

@@ -19,12 +19,12 @@ use Rattle.pdh_blocks.specs.Lists.{inputs_of, outputs_of, rest_in, rest_of, left
 use Rattle.pdh_blocks.specs.Held.{AllDiffer}
 use Rattle.pdh_blocks.specs.Opened.{CanOpen, IsSource, HasBytesFor, opened, source_name, unread_leaf, unwritten}
 use Rattle.pdh_words.specs.declared.commands.Command.{Command}
-use Rattle.pdh_ops.specs.Names.{name_of}
+use Rattle.pdh_answers.specs.Names.{name_of}
 use Rattle.pdh_ops.specs.Reading.{HasLength}
 use Rattle.pdh_ops.specs.Commands.{outputs}
 use Rattle.pdh_ops.specs.Run.{GoesOn}
 use Rattle.pdh_ops.specs.PortFiles.{HasBits, AreFiles, AreSources, HasFiles, IsOpenFor, opened_for, unread_file, unwritten_file, input_name}
-use Rattle.pdh_ops.specs.declared.file.File.{File}
+use Rattle.pdh_answers.specs.declared.file.File.{File}
 use Rattle.pdh_ops.specs.declared.port.Input.{Input}
 
 -- ---- mapped lists

@@ -22,14 +22,14 @@ use Rattle.pdh_blocks.proofs.FileLaws.{whole_file, front_of_file, fresh_files}
 use Rattle.pdh_blocks.proofs.Names.{output_at}
 use Rattle.pdh_blocks.proofs.Places.{get_left}
 use Rattle.pdh_words.specs.declared.commands.Command.{Command}
-use Rattle.pdh_ops.specs.Names.{name_of}
+use Rattle.pdh_answers.specs.Names.{name_of}
 use Rattle.pdh_ops.specs.Commands.{outputs, output_bytes, IsOutput}
 use Rattle.pdh_ops.specs.Run.{AreWhole, AreBegun, StopsAtStart, StopsAtAppend, ChangesOnly, Performs}
 use Rattle.pdh_ops.specs.PortFiles.{HasFiles, IsStopAt, IsStopOf, AreRead, IsOpenFor, PutsAll, PutsFront, IsFrontOf, input_name}
-use Rattle.pdh_ops.specs.declared.file.File.{File}
+use Rattle.pdh_answers.specs.declared.file.File.{File}
 use Rattle.pdh_ops.specs.declared.port.Input.{Input}
-use Rattle.pdh_ops.specs.declared.answer.Stop.{Stop}
-use Rattle.pdh_ops.specs.declared.answer.Stop.TheVariants.{Memory, Read}
+use Rattle.pdh_answers.specs.declared.answer.Stop.{Stop}
+use Rattle.pdh_answers.specs.declared.answer.Stop.TheVariants.{Memory, Read}
 
 -- ---- equal parts
 

@@ -3,16 +3,16 @@ use Rattle.std.proofs.Common.{◌≡◌, ◌⊎◌, ℕ, ◌<◌, false, List, N
 use Rattle.pdh_edge.specs.declared.shelf.Call.TheVariants.{Size as SizeCall, Read as ReadCall}
 use Rattle.pdh_edge.specs.Files.{ShelfState, Told, Looks, WhereTold, FailsToRead}
 use Rattle.pdh_words.specs.declared.commands.Command.{Command}
-use Rattle.pdh_ops.specs.Names.{name_of}
-use Rattle.pdh_ops.specs.Answer.{Answer}
+use Rattle.pdh_answers.specs.Names.{name_of}
+use Rattle.pdh_answers.specs.Answer.{Answer}
 use Rattle.pdh_ops.specs.Reading.{IsSizeStop, IsReadStop}
 use Rattle.pdh_ops.specs.Schedules.{Files}
 use Rattle.pdh_ops.specs.Commands.{AreTold, OfInputs, inputs, comes_to, IsOutput, AreHeld, IsReadDue}
 use Rattle.pdh_ops.specs.Run.{Comes, FailsInTurn, FailsEarly, is_read_in_run, with_stop, Performs}
 use Rattle.pdh_ops.specs.Refusing.{Refuses}
-use Rattle.pdh_ops.specs.declared.file.File.{File}
-use Rattle.pdh_ops.specs.declared.answer.Stop.{Stop}
-use Rattle.pdh_ops.specs.declared.answer.Stop.TheVariants.{Memory, Usage, Read, Write, Missing, LongSchedule, BadRow, UnknownNode, CountOver, ShortNode, Short, Overflow, Underflow, ManyFrames, NoAlignment, NotWhole, LongScript, BadScriptRow, PastEnd}
+use Rattle.pdh_answers.specs.declared.file.File.{File}
+use Rattle.pdh_answers.specs.declared.answer.Stop.{Stop}
+use Rattle.pdh_answers.specs.declared.answer.Stop.TheVariants.{Memory, Usage, Read, Write, Missing, LongSchedule, BadRow, UnknownNode, CountOver, ShortNode, Short, Overflow, Underflow, ManyFrames, NoAlignment, NotWhole, LongScript, BadScriptRow, PastEnd}
 use Rattle.pdh_ops.proofs.Touching.{read_fails_since}
 use Rattle.pdh_ops.proofs.Causes.{looks_others}
 

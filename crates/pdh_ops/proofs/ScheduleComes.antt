@@ -11,18 +11,18 @@ use Rattle.pdh_clock.specs.Judged.{schedule_of, Fails}
 use Rattle.pdh_clock.specs.declared.fault.ScheduleFault.{ScheduleFault}
 use Rattle.pdh_clock.specs.declared.fault.ScheduleFault.TheVariants.{TooLong, BadRow as RowIsBad, UnknownNode as NodeIsUnknown, CountOver as CountIsOver, Memory as NoMemory}
 use Rattle.pdh_words.specs.declared.commands.Command.{Command}
-use Rattle.pdh_ops.specs.Names.{schedule_name}
-use Rattle.pdh_ops.specs.Answer.{Answer, and_then}
+use Rattle.pdh_answers.specs.Names.{schedule_name}
+use Rattle.pdh_answers.specs.Answer.{Answer, and_then, stop_of_fault}
 use Rattle.pdh_ops.specs.Reading.{HasLength, IsReadStop}
-use Rattle.pdh_ops.specs.Schedules.{Files, rows_of, rows_or_stop, stop_of_fault}
+use Rattle.pdh_ops.specs.Schedules.{Files, rows_of, rows_or_stop}
 use Rattle.pdh_ops.specs.Commands.{AreTold, OfInputs, inputs, comes_to, AreHeld}
 use Rattle.pdh_ops.specs.Run.{Comes, FailsInTurn, FailsEarly, is_read_in_run}
 use Rattle.pdh_ops.proofs.Refusing.{read_stop}
 use Rattle.pdh_ops.specs.Refusing.{Refuses}
 use Rattle.pdh_ops.specs.ScheduleSteps.{RowsAre, IsScheduleStop}
-use Rattle.pdh_ops.specs.declared.file.File.TheVariants.{Schedule}
-use Rattle.pdh_ops.specs.declared.answer.Stop.{Stop}
-use Rattle.pdh_ops.specs.declared.answer.Stop.TheVariants.{Memory, Usage, Read, Write, Missing, LongSchedule, BadRow, UnknownNode, CountOver, ShortNode, Short, Overflow, Underflow, ManyFrames, NoAlignment, NotWhole, LongScript, BadScriptRow, PastEnd}
+use Rattle.pdh_answers.specs.declared.file.File.TheVariants.{Schedule}
+use Rattle.pdh_answers.specs.declared.answer.Stop.{Stop}
+use Rattle.pdh_answers.specs.declared.answer.Stop.TheVariants.{Memory, Usage, Read, Write, Missing, LongSchedule, BadRow, UnknownNode, CountOver, ShortNode, Short, Overflow, Underflow, ManyFrames, NoAlignment, NotWhole, LongScript, BadScriptRow, PastEnd}
 use Rattle.pdh_chain.specs.declared.chain.Chain.{Chain}
 use Rattle.pdh_chain.specs.Chains.{levels_of}
 use Rattle.pdh_shape.specs.OwnNumbers.{most_bytes}

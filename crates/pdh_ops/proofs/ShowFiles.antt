@@ -11,8 +11,8 @@ use Rattle.pdh_chain.specs.declared.chain.Chain.{Chain}
 use Rattle.pdh_blocks.specs.Lists.{inputs_of}
 use Rattle.pdh_blocks.specs.Held.{AllDiffer}
 use Rattle.pdh_words.specs.declared.commands.Command.TheVariants.{Show}
-use Rattle.pdh_ops.specs.Names.{name_of, line_name}
-use Rattle.pdh_ops.specs.Answer.{and_then}
+use Rattle.pdh_answers.specs.Names.{name_of, line_name}
+use Rattle.pdh_answers.specs.Answer.{and_then}
 use Rattle.pdh_ops.specs.Demux.{frames_of}
 use Rattle.pdh_ops.specs.Inspect.{bytes_upto, line_to_show, frame_shown}
 use Rattle.pdh_ops.specs.Reading.{HasLength, IsSizeStop}
@@ -23,11 +23,11 @@ use Rattle.pdh_ops.specs.Run.{GoesOn}
 use Rattle.pdh_ops.specs.PortFiles.{HasBits, AreFiles, AreRead, opened_for, input_name}
 use Rattle.pdh_ops.specs.Steps.{HasLine}
 use Rattle.pdh_ops.specs.ShowSteps.{HasFrame, IsShowPort}
-use Rattle.pdh_ops.specs.declared.file.File.{File}
-use Rattle.pdh_ops.specs.declared.file.File.TheVariants.{Line}
+use Rattle.pdh_answers.specs.declared.file.File.{File}
+use Rattle.pdh_answers.specs.declared.file.File.TheVariants.{Line}
 use Rattle.pdh_ops.specs.declared.port.Input.{Input}
-use Rattle.pdh_ops.specs.declared.answer.Stop.{Stop}
-use Rattle.pdh_ops.specs.declared.answer.Stop.TheVariants.{ManyFrames, Short}
+use Rattle.pdh_answers.specs.declared.answer.Stop.{Stop}
+use Rattle.pdh_answers.specs.declared.answer.Stop.TheVariants.{ManyFrames, Short}
 use Rattle.pdh_ops.proofs.Refusing.{refuses_since}
 use Rattle.pdh_ops.proofs.OneInput.{BeginsWith, RefusesAll, missing_refuses, length_refuses, held_of}
 use Rattle.pdh_ops.proofs.OutputNames.{none_differ, one_more_differs}

@@ -12,14 +12,14 @@ use Rattle.pdh_blocks.specs.laws.PortLaws.{left_is}
 use Rattle.pdh_show.specs.Shown.{shown}
 use Rattle.pdh_show.specs.Showing.{Shows}
 use Rattle.pdh_words.specs.declared.commands.Command.TheVariants.{Show}
-use Rattle.pdh_ops.specs.Names.{line_name}
+use Rattle.pdh_answers.specs.Names.{line_name}
 use Rattle.pdh_ops.specs.Inspect.{bytes_upto, frame_shown}
 use Rattle.pdh_ops.specs.Schedules.{Files, bytes_in}
 use Rattle.pdh_ops.specs.Commands.{AreTold}
 use Rattle.pdh_ops.specs.Run.{Comes}
 use Rattle.pdh_ops.specs.Steps.{HasLine}
 use Rattle.pdh_ops.specs.ShowSteps.{IsShowPort}
-use Rattle.pdh_ops.specs.declared.answer.Done.TheVariants.{Shown}
+use Rattle.pdh_answers.specs.declared.answer.Done.TheVariants.{Shown}
 use Rattle.pdh_ops.proofs.PortRun.{all_given}
 
 -- a frame's bits, counted either way

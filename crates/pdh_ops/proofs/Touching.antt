@@ -7,7 +7,7 @@ use Rattle.pdh_edge.specs.Files.Told.{Untold, Known}
 use Rattle.pdh_words.specs.declared.commands.Command.{Command}
 use Rattle.pdh_ops.specs.Commands.{outputs}
 use Rattle.pdh_ops.specs.Run.{with_stop, StopsAtStart}
-use Rattle.pdh_ops.specs.declared.answer.Stop.{Stop}
+use Rattle.pdh_answers.specs.declared.answer.Stop.{Stop}
 use Rattle.pdh_ops.specs.Reading.{HasLength}
 
 pub touches_none : (P : List ℕ → Type 0) (a : ShelfState) → TouchesOnly P a a

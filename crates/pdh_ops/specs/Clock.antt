@@ -13,13 +13,13 @@ use Rattle.pdh_rows.specs.Outside.{Run, first_outside}
 use Rattle.pdh_clock.specs.Made.{made}
 use Rattle.pdh_clock.specs.Written.{text_with}
 use Rattle.pdh_ops.specs.Schedules.{contents_of}
-use Rattle.pdh_ops.specs.Answer.{Answer}
-use Rattle.pdh_ops.specs.declared.file.File.{File}
-use Rattle.pdh_ops.specs.declared.file.File.TheVariants.{Schedule}
-use Rattle.pdh_ops.specs.declared.answer.OutOfTolerance.{OutOfTolerance}
-use Rattle.pdh_ops.specs.declared.answer.Done.{Done}
-use Rattle.pdh_ops.specs.declared.answer.Done.TheVariants.{ClockInside, ClockOutside, ClockMade}
-use Rattle.pdh_ops.specs.declared.answer.Stop.TheVariants.{ManyFrames}
+use Rattle.pdh_answers.specs.Answer.{Answer}
+use Rattle.pdh_answers.specs.declared.file.File.{File}
+use Rattle.pdh_answers.specs.declared.file.File.TheVariants.{Schedule}
+use Rattle.pdh_answers.specs.declared.answer.OutOfTolerance.{OutOfTolerance}
+use Rattle.pdh_answers.specs.declared.answer.Done.{Done}
+use Rattle.pdh_answers.specs.declared.answer.Done.TheVariants.{ClockInside, ClockOutside, ClockMade}
+use Rattle.pdh_answers.specs.declared.answer.Stop.TheVariants.{ManyFrames}
 use Rattle.pdh_shape.specs.OwnNumbers.{most_frames}
 
 -- ---- `clock check`

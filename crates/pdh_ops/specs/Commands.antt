@@ -4,8 +4,8 @@ use Rattle.std.specs.Prelude.{◌≡◌, ℕ, zero, suc, ◌<◌, ◌≤◌, Lis
 use Rattle.pdh_edge.specs.Files.{Told, ShelfState}
 use Rattle.pdh_edge.specs.Files.Told.{Known}
 use Rattle.pdh_chain.specs.Chains.{leaves_of}
-use Rattle.pdh_ops.specs.Names.{name_of, line_file, line_name, bent_name, schedule_name, script_name, leaf_name, output_name, payload_name, e1_name, payload_out_name}
-use Rattle.pdh_ops.specs.Answer.{Answer, and_then}
+use Rattle.pdh_answers.specs.Names.{name_of, line_file, line_name, bent_name, schedule_name, script_name, leaf_name, output_name, payload_name, e1_name, payload_out_name}
+use Rattle.pdh_answers.specs.Answer.{Answer, and_then}
 use Rattle.pdh_ops.specs.Demux.{frames_of, line_of, demuxed, output_of}
 use Rattle.pdh_ops.specs.Schedules.{Files, bytes_in, rows_of, rows_in}
 use Rattle.pdh_ops.specs.Mux.{mux_inputs, all_held, muxed, line_bytes}
@@ -17,9 +17,9 @@ use Rattle.pdh_ops.specs.Drill.{drilled}
 use Rattle.pdh_script.specs.ScriptText.{most_script_bytes}
 use Rattle.pdh_words.specs.declared.commands.Command.{Command}
 use Rattle.pdh_words.specs.declared.commands.Command.TheVariants.{Demux, Mux, ClockCheck, ClockMake, Inspect, InspectE1, Show, E1Pack, E1Unpack, Disturb, Drill}
-use Rattle.pdh_ops.specs.declared.file.File.{File}
-use Rattle.pdh_ops.specs.declared.file.File.TheVariants.{Line, Schedule, Script}
-use Rattle.pdh_ops.specs.declared.answer.Stop.TheVariants.{Overflow, Underflow, NoAlignment}
+use Rattle.pdh_answers.specs.declared.file.File.{File}
+use Rattle.pdh_answers.specs.declared.file.File.TheVariants.{Line, Schedule, Script}
+use Rattle.pdh_answers.specs.declared.answer.Stop.TheVariants.{Overflow, Underflow, NoAlignment}
 use Rattle.pdh_shape.specs.OwnNumbers.{most_bytes, most_frames}
 
 -- so many names, in order

@@ -5,11 +5,11 @@ use Rattle.pdh_chain.specs.Chains.{shapes_of, frame_bytes_of}
 use Rattle.pdh_chain.specs.Demuxes.{top_delivered}
 use Rattle.pdh_chain.specs.declared.chain.Chain.{Chain}
 use Rattle.pdh_nesting.specs.Receiving.{far}
-use Rattle.pdh_ops.specs.Answer.{Answer}
-use Rattle.pdh_ops.specs.declared.file.File.{File}
-use Rattle.pdh_ops.specs.declared.answer.Done.TheVariants.{Demuxed}
-use Rattle.pdh_ops.specs.declared.answer.Stop.{Stop}
-use Rattle.pdh_ops.specs.declared.answer.Stop.TheVariants.{Missing, ManyFrames, NoAlignment}
+use Rattle.pdh_answers.specs.Answer.{Answer}
+use Rattle.pdh_answers.specs.declared.file.File.{File}
+use Rattle.pdh_answers.specs.declared.answer.Done.TheVariants.{Demuxed}
+use Rattle.pdh_answers.specs.declared.answer.Stop.{Stop}
+use Rattle.pdh_answers.specs.declared.answer.Stop.TheVariants.{Missing, ManyFrames, NoAlignment}
 use Rattle.pdh_shape.specs.OwnNumbers.{most_frames}
 
 -- how many whole frames a line holds

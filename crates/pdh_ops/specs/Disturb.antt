@@ -4,28 +4,19 @@ use Rattle.std.specs.Result.{result_unwrap_or}
 use Rattle.pdh_bits.specs.Bits.{bits_of, bytes_of}
 use Rattle.pdh_chain.specs.declared.chain.Chain.{Chain}
 use Rattle.pdh_script.specs.declared.fault.ScriptFault.{ScriptFault}
-use Rattle.pdh_script.specs.declared.fault.ScriptFault.TheVariants.{TooLong, BadRow as RowIsBad, PastEnd as EndIsPast, Memory as NoMemory}
 use Rattle.pdh_script.specs.Scripts.{Row, disturbed}
 use Rattle.pdh_script.specs.ScriptText.{script_of}
-use Rattle.pdh_ops.specs.Names.{line_name, script_name}
-use Rattle.pdh_ops.specs.Answer.{Answer}
+use Rattle.pdh_answers.specs.Names.{line_name, script_name}
+use Rattle.pdh_answers.specs.Answer.{Answer, stop_of_script}
 use Rattle.pdh_ops.specs.Schedules.{Files, bytes_in}
-use Rattle.pdh_ops.specs.declared.file.File.{File}
-use Rattle.pdh_ops.specs.declared.file.File.TheVariants.{Line, Script}
-use Rattle.pdh_ops.specs.declared.answer.Done.TheVariants.{Disturbed}
-use Rattle.pdh_ops.specs.declared.answer.Stop.{Stop}
-use Rattle.pdh_ops.specs.declared.answer.Stop.TheVariants.{LongScript, BadScriptRow, PastEnd, Memory}
+use Rattle.pdh_answers.specs.declared.file.File.{File}
+use Rattle.pdh_answers.specs.declared.file.File.TheVariants.{Line, Script}
+use Rattle.pdh_answers.specs.declared.answer.Done.TheVariants.{Disturbed}
+use Rattle.pdh_answers.specs.declared.answer.Stop.{Stop}
 
 -- the files that it reads, in order
 abbrev pub disturb_inputs : List File
 disturb_inputs = Line ∷ Script ∷ []
-
--- how a fault of the script's text ends the command
-abbrev pub stop_of_script : ScriptFault → Stop
-stop_of_script (TooLong len) = LongScript
-stop_of_script (RowIsBad line) = BadScriptRow line
-stop_of_script (EndIsPast line) = PastEnd line
-stop_of_script NoMemory = Memory
 
 abbrev pub script_or_stop : Result (List Row) ScriptFault → Result (List Row) Stop
 script_or_stop (Ok rows) = Ok rows

@@ -9,7 +9,7 @@ use Rattle.pdh_chain.specs.declared.chain.Chain.{Chain}
 use Rattle.pdh_chain.specs.Chains.{frame_bytes_of}
 use Rattle.pdh_script.specs.Scripts.{Row, FitIn}
 use Rattle.pdh_words.specs.declared.commands.Command.TheVariants.{Disturb}
-use Rattle.pdh_ops.specs.Names.{line_name, script_name}
+use Rattle.pdh_answers.specs.Names.{line_name, script_name}
 use Rattle.pdh_ops.specs.Reading.{HasLength}
 use Rattle.pdh_ops.specs.Schedules.{bytes_in}
 use Rattle.pdh_ops.specs.Disturb.{script_rows, script_in, bent}
@@ -17,7 +17,7 @@ use Rattle.pdh_ops.specs.Commands.{OfInputs, comes_to}
 use Rattle.pdh_ops.specs.PortFiles.{IsOpenFor}
 use Rattle.pdh_ops.specs.declared.disturb.Sizes.{Sizes}
 use Rattle.pdh_ops.specs.declared.disturb.Plan.{Plan}
-use Rattle.pdh_ops.specs.declared.answer.Stop.{Stop}
+use Rattle.pdh_answers.specs.declared.answer.Stop.{Stop}
 use Rattle.pdh_shape.specs.OwnNumbers.{most_frames}
 
 -- the sizes of the inputs are these, and the line has no more frames than a line may have

@@ -2,9 +2,9 @@
 use Rattle.std.specs.Prelude.{ℕ, nat_lt, Ok, Err, if◌then◌else◌}
 use Rattle.pdh_chain.specs.declared.chain.Chain.{Chain}
 use Rattle.pdh_lab.specs.Drill.{drill_of}
-use Rattle.pdh_ops.specs.Answer.{Answer}
-use Rattle.pdh_ops.specs.declared.answer.Done.TheVariants.{Drilled}
-use Rattle.pdh_ops.specs.declared.answer.Stop.TheVariants.{ManyFrames}
+use Rattle.pdh_answers.specs.Answer.{Answer}
+use Rattle.pdh_answers.specs.declared.answer.Done.TheVariants.{Drilled}
+use Rattle.pdh_answers.specs.declared.answer.Stop.TheVariants.{ManyFrames}
 use Rattle.pdh_shape.specs.OwnNumbers.{most_frames}
 
 -- the report on so many frames, or too many frames

@@ -4,12 +4,12 @@ use Rattle.std.specs.List.{slice_range}
 use Rattle.pdh_bits.specs.Bits.{bits_of, bytes_of}
 use Rattle.pdh_e1.specs.Multiframe.{packed_octet, sent_word}
 use Rattle.pdh_g706.specs.Tracking.{e1_far, multiframes_in, blocks_in, errors_in, counted}
-use Rattle.pdh_ops.specs.Answer.{Answer}
-use Rattle.pdh_ops.specs.declared.file.File.TheVariants.{Payload, E1Line}
-use Rattle.pdh_ops.specs.declared.answer.Done.TheVariants.{E1Packed, E1Unpacked}
-use Rattle.pdh_ops.specs.declared.answer.E1Counts.{E1Counts}
-use Rattle.pdh_ops.specs.declared.answer.Stop.{Stop}
-use Rattle.pdh_ops.specs.declared.answer.Stop.TheVariants.{Missing, ManyFrames, NoAlignment, NotWhole}
+use Rattle.pdh_answers.specs.Answer.{Answer}
+use Rattle.pdh_answers.specs.declared.file.File.TheVariants.{Payload, E1Line}
+use Rattle.pdh_answers.specs.declared.answer.Done.TheVariants.{E1Packed, E1Unpacked}
+use Rattle.pdh_answers.specs.declared.answer.E1Counts.{E1Counts}
+use Rattle.pdh_answers.specs.declared.answer.Stop.{Stop}
+use Rattle.pdh_answers.specs.declared.answer.Stop.TheVariants.{Missing, ManyFrames, NoAlignment, NotWhole}
 use Rattle.pdh_shape.specs.OwnNumbers.{most_frames}
 
 -- ---- `e1pack`

@@ -1,9 +1,9 @@
 -- The steps of `e1unpack` and of `inspect e1`: what each finds or makes.
 use Rattle.std.specs.Prelude.{◌≡◌, ℕ, ◌*◌, ◌/◌, ◌≤◌, List}
 use Rattle.pdh_edge.specs.Files.{ShelfState}
-use Rattle.pdh_ops.specs.Names.{e1_name}
+use Rattle.pdh_answers.specs.Names.{e1_name}
 use Rattle.pdh_ops.specs.Reading.{HasLength}
-use Rattle.pdh_ops.specs.declared.file.File.TheVariants.{E1Line}
+use Rattle.pdh_answers.specs.declared.file.File.TheVariants.{E1Line}
 use Rattle.pdh_ops.specs.declared.port.Input.{Input}
 use Rattle.pdh_shape.specs.OwnNumbers.{most_frames}
 use Rattle.pdh_ops.specs.E1.{unpacked_payload, counts_of}

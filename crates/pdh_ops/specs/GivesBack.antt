@@ -7,7 +7,7 @@ use Rattle.pdh_edge.specs.Ports.{IsPrefix}
 use Rattle.pdh_nesting.specs.Chains.{top_len}
 use Rattle.pdh_nesting.specs.Receiving.{far}
 use Rattle.pdh_chain.specs.Chains.{shapes_of, leaves_of}
-use Rattle.pdh_ops.specs.Names.{line_name}
+use Rattle.pdh_answers.specs.Names.{line_name}
 use Rattle.pdh_ops.specs.Schedules.{Files}
 use Rattle.pdh_ops.specs.Mux.{leaf_bits}
 use Rattle.pdh_ops.specs.Commands.{AreTold}

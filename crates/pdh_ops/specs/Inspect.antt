@@ -6,12 +6,12 @@ use Rattle.pdh_chain.specs.declared.chain.Chain.{Chain}
 use Rattle.pdh_g706.specs.Tracking.{multiframes_in, counted}
 use Rattle.pdh_inspect.specs.Seen.{line_events, framed_events, events_counted}
 use Rattle.pdh_show.specs.Shown.{shown}
-use Rattle.pdh_ops.specs.Answer.{Answer, and_then}
+use Rattle.pdh_answers.specs.Answer.{Answer, and_then}
 use Rattle.pdh_ops.specs.Demux.{line_of, frames_received}
-use Rattle.pdh_ops.specs.declared.file.File.TheVariants.{Line}
-use Rattle.pdh_ops.specs.declared.answer.Done.TheVariants.{Inspected, E1Inspected, Shown}
-use Rattle.pdh_ops.specs.declared.answer.Stop.{Stop}
-use Rattle.pdh_ops.specs.declared.answer.Stop.TheVariants.{Short}
+use Rattle.pdh_answers.specs.declared.file.File.TheVariants.{Line}
+use Rattle.pdh_answers.specs.declared.answer.Done.TheVariants.{Inspected, E1Inspected, Shown}
+use Rattle.pdh_answers.specs.declared.answer.Stop.{Stop}
+use Rattle.pdh_answers.specs.declared.answer.Stop.TheVariants.{Short}
 
 -- ---- `inspect`
 

@@ -1,5 +1,3 @@
-pub mod Names
-pub mod Answer
 pub mod Demux
 pub mod Schedules
 pub mod Mux
@@ -9,7 +7,6 @@ pub mod Inspect
 pub mod Disturb
 pub mod Drill
 pub mod Commands
-pub mod Lines
 pub mod Run
 pub mod Reading
 pub mod Refusing

@@ -19,14 +19,14 @@ use Rattle.pdh_line.specs.Paths.{path_of}
 use Rattle.pdh_chain.specs.Saying.{says_of}
 use Rattle.pdh_chain.specs.Muxes.{place_of}
 use Rattle.pdh_chain.specs.declared.chain.Chain.{Chain}
-use Rattle.pdh_ops.specs.Names.{leaf_name, name_of}
+use Rattle.pdh_answers.specs.Names.{leaf_name, name_of}
 use Rattle.pdh_ops.specs.Schedules.{Files, bytes_in, contents_of, frames_in}
-use Rattle.pdh_ops.specs.Answer.{Answer}
-use Rattle.pdh_ops.specs.declared.file.File.{File}
-use Rattle.pdh_ops.specs.declared.file.File.TheVariants.{Schedule, Leaf}
-use Rattle.pdh_ops.specs.declared.answer.Done.TheVariants.{Muxed}
-use Rattle.pdh_ops.specs.declared.answer.Stop.{Stop}
-use Rattle.pdh_ops.specs.declared.answer.Stop.TheVariants.{Missing, ShortNode, Short, Overflow, Underflow, ManyFrames}
+use Rattle.pdh_answers.specs.Answer.{Answer}
+use Rattle.pdh_answers.specs.declared.file.File.{File}
+use Rattle.pdh_answers.specs.declared.file.File.TheVariants.{Schedule, Leaf}
+use Rattle.pdh_answers.specs.declared.answer.Done.TheVariants.{Muxed}
+use Rattle.pdh_answers.specs.declared.answer.Stop.{Stop}
+use Rattle.pdh_answers.specs.declared.answer.Stop.TheVariants.{Missing, ShortNode, Short, Overflow, Underflow, ManyFrames}
 use Rattle.pdh_shape.specs.OwnNumbers.{most_frames}
 
 -- ---- the inputs

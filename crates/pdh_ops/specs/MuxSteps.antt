@@ -11,21 +11,21 @@ use Rattle.pdh_chain.specs.Chains.{leaves_of, levels_of}
 use Rattle.pdh_chain.specs.declared.chain.Chain.{Chain}
 use Rattle.pdh_clock.specs.Row.{Row}
 use Rattle.pdh_clock.specs.Contents.{IsRowOf}
-use Rattle.pdh_ops.specs.Names.{schedule_name, leaf_name}
-use Rattle.pdh_ops.specs.Answer.{Answer}
+use Rattle.pdh_answers.specs.Names.{schedule_name, leaf_name}
+use Rattle.pdh_answers.specs.Answer.{Answer}
 use Rattle.pdh_ops.specs.Reading.{HasLength}
 use Rattle.pdh_ops.specs.Schedules.{Files, bytes_in, rows_of, frames_in}
 use Rattle.pdh_ops.specs.Mux.{mux_inputs, all_held, leaf_bits, short_node, stop_of_shortage, bits_needed, event_of, stop_of_event}
 use Rattle.pdh_ops.specs.Commands.{OfInputs, comes_to}
 use Rattle.pdh_ops.specs.PortFiles.{HasBits, IsOpenFor}
 use Rattle.pdh_words.specs.declared.commands.Command.TheVariants.{Mux}
-use Rattle.pdh_ops.specs.declared.file.File.TheVariants.{Leaf}
+use Rattle.pdh_answers.specs.declared.file.File.TheVariants.{Leaf}
 use Rattle.pdh_ops.specs.declared.mux.InputSizes.{InputSizes}
 use Rattle.pdh_ops.specs.declared.mux.Plan.{Plan}
 use Rattle.pdh_ops.specs.declared.port.Input.{Input}
-use Rattle.pdh_ops.specs.declared.answer.Done.TheVariants.{Muxed}
-use Rattle.pdh_ops.specs.declared.answer.Stop.{Stop}
-use Rattle.pdh_ops.specs.declared.answer.Stop.TheVariants.{ShortNode, Short, ManyFrames}
+use Rattle.pdh_answers.specs.declared.answer.Done.TheVariants.{Muxed}
+use Rattle.pdh_answers.specs.declared.answer.Stop.{Stop}
+use Rattle.pdh_answers.specs.declared.answer.Stop.TheVariants.{ShortNode, Short, ManyFrames}
 use Rattle.pdh_shape.specs.OwnNumbers.{most_frames}
 
 -- the sizes of the inputs

@@ -3,7 +3,7 @@ use Rattle.std.specs.Prelude.{◌≡◌, ℕ, List, ⊤, Option, Some}
 use Rattle.pdh_e1.specs.Codec.{IsPacked}
 use Rattle.pdh_edge.specs.Files.{ShelfState}
 use Rattle.pdh_edge.specs.Files.Told.{Known}
-use Rattle.pdh_ops.specs.Names.{payload_name, e1_name}
+use Rattle.pdh_answers.specs.Names.{payload_name, e1_name}
 use Rattle.pdh_ops.specs.Schedules.{Files, bytes_in}
 use Rattle.pdh_ops.specs.Commands.{AreTold}
 use Rattle.pdh_words.specs.declared.commands.Command.{Command}

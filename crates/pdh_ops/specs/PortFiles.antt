@@ -10,13 +10,13 @@ use Rattle.pdh_blocks.specs.Held.{AllDiffer}
 use Rattle.pdh_blocks.specs.declared.source.Source.{Source}
 use Rattle.pdh_blocks.specs.Opened.{HasBytesFor, unread_leaf}
 use Rattle.pdh_words.specs.declared.commands.Command.{Command}
-use Rattle.pdh_ops.specs.Names.{name_of}
+use Rattle.pdh_answers.specs.Names.{name_of}
 use Rattle.pdh_ops.specs.Commands.{inputs, outputs, output_bytes, OfInputs, IsReadDue}
 use Rattle.pdh_ops.specs.Run.{GoesOn, is_read_in_run}
-use Rattle.pdh_ops.specs.declared.file.File.{File}
+use Rattle.pdh_answers.specs.declared.file.File.{File}
 use Rattle.pdh_ops.specs.declared.port.Input.{Input}
-use Rattle.pdh_ops.specs.declared.answer.Stop.{Stop}
-use Rattle.pdh_ops.specs.declared.answer.Stop.TheVariants.{Read, Write}
+use Rattle.pdh_answers.specs.declared.answer.Stop.{Stop}
+use Rattle.pdh_answers.specs.declared.answer.Stop.TheVariants.{Read, Write}
 
 -- ---- opening
 

@@ -4,8 +4,8 @@ use Rattle.pdh_edge.specs.Files.{ShelfState}
 use Rattle.pdh_words.specs.declared.commands.Command.{Command}
 use Rattle.pdh_words.specs.declared.commands.Command.TheVariants.{InspectE1, E1Unpack}
 use Rattle.pdh_ops.specs.Run.{Comes, FailsInTurn, FailsEarly}
-use Rattle.pdh_ops.specs.declared.answer.Stop.{Stop}
-use Rattle.pdh_ops.specs.declared.answer.Stop.TheVariants.{Memory, Usage, Read, Write, Overflow, Underflow, NoAlignment}
+use Rattle.pdh_answers.specs.declared.answer.Stop.{Stop}
+use Rattle.pdh_answers.specs.declared.answer.Stop.TheVariants.{Memory, Usage, Read, Write, Overflow, Underflow, NoAlignment}
 
 -- memory is wanting, a call failed to read in its turn and before the run, or the inputs come to this stop
 abbrev pub Refuses : Command → ShelfState → ShelfState → Stop → Type 0

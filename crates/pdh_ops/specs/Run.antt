@@ -9,17 +9,17 @@ use Rattle.pdh_events.specs.Chain.{chain_events}
 use Rattle.pdh_chain.specs.Chains.{shapes_of}
 use Rattle.pdh_g706.specs.Events.{e1_events}
 use Rattle.pdh_inspect.specs.Seen.{line_events, framed_events}
-use Rattle.pdh_ops.specs.Names.{name_of, line_file, e1_name}
+use Rattle.pdh_answers.specs.Names.{name_of, line_file, e1_name}
 use Rattle.pdh_ops.specs.Schedules.{Files, bytes_in}
-use Rattle.pdh_ops.specs.Answer.{Answer}
-use Rattle.pdh_ops.specs.Lines.{IsTold}
+use Rattle.pdh_answers.specs.Answer.{Answer}
+use Rattle.pdh_answers.specs.Lines.{IsTold}
 use Rattle.pdh_ops.specs.Commands.{inputs, outputs, output_bytes, comes_to, AreTold, OfInputs, IsOutput, reaches_outputs, AreHeld, IsReadDue}
 use Rattle.pdh_words.specs.declared.commands.Command.{Command}
 use Rattle.pdh_words.specs.declared.commands.Command.TheVariants.{Demux, Mux, Inspect, InspectE1, Show, Disturb}
-use Rattle.pdh_ops.specs.declared.file.File.{File}
-use Rattle.pdh_ops.specs.declared.file.File.TheVariants.{Line, Leaf}
-use Rattle.pdh_ops.specs.declared.answer.Stop.{Stop}
-use Rattle.pdh_ops.specs.declared.answer.Stop.TheVariants.{Memory, Usage, Read, Write, Missing, Overflow, Underflow, NoAlignment}
+use Rattle.pdh_answers.specs.declared.file.File.{File}
+use Rattle.pdh_answers.specs.declared.file.File.TheVariants.{Line, Leaf}
+use Rattle.pdh_answers.specs.declared.answer.Stop.{Stop}
+use Rattle.pdh_answers.specs.declared.answer.Stop.TheVariants.{Memory, Usage, Read, Write, Missing, Overflow, Underflow, NoAlignment}
 
 -- ---- why a command answers
 

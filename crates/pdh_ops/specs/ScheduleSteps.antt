@@ -5,11 +5,11 @@ use Rattle.pdh_edge.specs.declared.shelf.Call.TheVariants.{Read as ReadCall}
 use Rattle.pdh_edge.specs.Files.Told.{Known}
 use Rattle.pdh_clock.specs.Row.{Row}
 use Rattle.pdh_chain.specs.declared.chain.Chain.{Chain}
-use Rattle.pdh_ops.specs.Names.{schedule_name}
+use Rattle.pdh_answers.specs.Names.{schedule_name}
 use Rattle.pdh_ops.specs.Schedules.{rows_of}
-use Rattle.pdh_ops.specs.declared.file.File.TheVariants.{Schedule}
-use Rattle.pdh_ops.specs.declared.answer.Stop.{Stop}
-use Rattle.pdh_ops.specs.declared.answer.Stop.TheVariants.{Memory, Read, LongSchedule, BadRow, UnknownNode, CountOver}
+use Rattle.pdh_answers.specs.declared.file.File.TheVariants.{Schedule}
+use Rattle.pdh_answers.specs.declared.answer.Stop.{Stop}
+use Rattle.pdh_answers.specs.declared.answer.Stop.TheVariants.{Memory, Read, LongSchedule, BadRow, UnknownNode, CountOver}
 use Rattle.pdh_shape.specs.OwnNumbers.{most_bytes}
 
 -- where the schedule's text is told, it has these rows, or is refused so

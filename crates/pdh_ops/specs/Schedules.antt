@@ -4,13 +4,12 @@ use Rattle.std.specs.Result.{result_unwrap_or}
 use Rattle.pdh_chain.specs.Chains.{levels_of}
 use Rattle.pdh_chain.specs.declared.chain.Chain.{Chain}
 use Rattle.pdh_clock.specs.declared.fault.ScheduleFault.{ScheduleFault}
-use Rattle.pdh_clock.specs.declared.fault.ScheduleFault.TheVariants.{TooLong, BadRow as RowIsBad, UnknownNode as NodeIsUnknown, CountOver as CountIsOver, Memory as NoMemory}
 use Rattle.pdh_clock.specs.Row.{Row}
 use Rattle.pdh_clock.specs.Judged.{schedule_of}
 use Rattle.pdh_clock.specs.Contents.{Contents, frame_count}
-use Rattle.pdh_ops.specs.Names.{schedule_name}
-use Rattle.pdh_ops.specs.declared.answer.Stop.{Stop}
-use Rattle.pdh_ops.specs.declared.answer.Stop.TheVariants.{LongSchedule, BadRow, UnknownNode, CountOver, Memory}
+use Rattle.pdh_answers.specs.Names.{schedule_name}
+use Rattle.pdh_answers.specs.Answer.{stop_of_fault}
+use Rattle.pdh_answers.specs.declared.answer.Stop.{Stop}
 
 -- the bytes of each file that is held
 abbrev pub Files : Type 0
@@ -19,14 +18,6 @@ Files = List ℕ → Option (List ℕ)
 -- the bytes of a file, or none
 abbrev pub bytes_in : Files → List ℕ → List ℕ
 bytes_in files name = unwrap_or (files name) []
-
--- how a fault of the schedule's text ends the command
-abbrev pub stop_of_fault : ScheduleFault → Stop
-stop_of_fault (TooLong len) = LongSchedule
-stop_of_fault (RowIsBad line) = BadRow line
-stop_of_fault (NodeIsUnknown line) = UnknownNode line
-stop_of_fault (CountIsOver line count most) = CountOver line count most
-stop_of_fault NoMemory = Memory
 
 -- the rows of a schedule's text, or why it is refused
 abbrev pub rows_or_stop : Result (List Row) ScheduleFault → Result (List Row) Stop

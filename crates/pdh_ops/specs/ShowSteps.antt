@@ -7,7 +7,7 @@ use Rattle.pdh_blocks.specs.Lists.{inputs_of}
 use Rattle.pdh_chain.specs.declared.chain.Chain.{Chain}
 use Rattle.pdh_chain.specs.Chains.{frame_bytes_of}
 use Rattle.pdh_words.specs.declared.commands.Command.TheVariants.{Show}
-use Rattle.pdh_ops.specs.Names.{line_name}
+use Rattle.pdh_answers.specs.Names.{line_name}
 use Rattle.pdh_ops.specs.Reading.{HasLength}
 use Rattle.pdh_ops.specs.Schedules.{bytes_in}
 use Rattle.pdh_ops.specs.Inspect.{bytes_upto, frame_shown}

@@ -11,17 +11,17 @@ use Rattle.pdh_chain.specs.Chains.{leaves_of, frame_bytes_of}
 use Rattle.pdh_chain.specs.declared.chain.Chain.{Chain}
 use Rattle.pdh_words.specs.declared.commands.Bits.{Bits}
 use Rattle.pdh_words.specs.declared.commands.Command.TheVariants.{Demux}
-use Rattle.pdh_ops.specs.Names.{name_of, line_file}
+use Rattle.pdh_answers.specs.Names.{name_of, line_file}
 use Rattle.pdh_ops.specs.Reading.{HasLength}
 use Rattle.pdh_ops.specs.Schedules.{bytes_in}
 use Rattle.pdh_ops.specs.Demux.{line_of, demuxed}
 use Rattle.pdh_ops.specs.Commands.{OfInputs, comes_to}
 use Rattle.pdh_ops.specs.PortFiles.{IsOpenFor}
-use Rattle.pdh_ops.specs.declared.file.File.{File}
-use Rattle.pdh_ops.specs.declared.file.File.TheVariants.{Output}
+use Rattle.pdh_answers.specs.declared.file.File.{File}
+use Rattle.pdh_answers.specs.declared.file.File.TheVariants.{Output}
 use Rattle.pdh_ops.specs.declared.port.Input.{Input}
-use Rattle.pdh_ops.specs.declared.answer.Stop.{Stop}
-use Rattle.pdh_ops.specs.declared.answer.Stop.TheVariants.{Read, Missing, ManyFrames}
+use Rattle.pdh_answers.specs.declared.answer.Stop.{Stop}
+use Rattle.pdh_answers.specs.declared.answer.Stop.TheVariants.{Read, Missing, ManyFrames}
 use Rattle.pdh_shape.specs.OwnNumbers.{most_frames}
 
 -- why the line of a file can't be read

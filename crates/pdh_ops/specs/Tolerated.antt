@@ -9,7 +9,7 @@ use Rattle.pdh_nesting.specs.Receiving.{far}
 use Rattle.pdh_clock.specs.Contents.{counts, frame_count}
 use Rattle.pdh_chain.specs.Chains.{shapes_of, leaves_of, delay_of}
 use Rattle.pdh_chain.specs.declared.chain.Chain.{Chain}
-use Rattle.pdh_ops.specs.Names.{line_name}
+use Rattle.pdh_answers.specs.Names.{line_name}
 use Rattle.pdh_ops.specs.Schedules.{Files, rows_in}
 use Rattle.pdh_ops.specs.Commands.{AreTold}
 use Rattle.pdh_words.specs.declared.commands.Command.{Command}

@@ -1,10 +1,10 @@
 -- The steps that write an output: why they stop.
 use Rattle.std.specs.Prelude.{◌≡◌, ℕ, List}
 use Rattle.pdh_edge.specs.Files.{ShelfState, FailsToStart, FailsToAppend}
-use Rattle.pdh_ops.specs.Names.{name_of}
-use Rattle.pdh_ops.specs.declared.file.File.{File}
-use Rattle.pdh_ops.specs.declared.answer.Stop.{Stop}
-use Rattle.pdh_ops.specs.declared.answer.Stop.TheVariants.{Write}
+use Rattle.pdh_answers.specs.Names.{name_of}
+use Rattle.pdh_answers.specs.declared.file.File.{File}
+use Rattle.pdh_answers.specs.declared.answer.Stop.{Stop}
+use Rattle.pdh_answers.specs.declared.answer.Stop.TheVariants.{Write}
 
 -- the start of the file failed
 abbrev pub IsStartStop : File → ShelfState → ShelfState → Stop → Type 0

@@ -5,13 +5,12 @@ ghost use Rattle.pdh_line.specs.Paths.{steps_of, path_of};
 ghost use Rattle.pdh_chain.specs.Chains.{levels_of};
 ghost use Rattle.pdh_ops.specs.Clock.{first_outside_of, checked as checked_rows, made_text as text_made, rows_in_text};
 ghost use Rattle.pdh_ops.specs.Run.{Performs};
-ghost use Rattle.pdh_ops.specs.declared.answer.Stop.TheVariants.{Memory};
+ghost use Rattle.pdh_answers.specs.declared.answer.Stop.TheVariants.{Memory};
 ghost use Rattle.pdh_shape.specs.OwnNumbers.{most_frames};
 
-use crate::answer::{Done, OutOfTolerance, Stop};
-use crate::file::File;
 use crate::files::{append, size, start};
 use crate::schedule::read_schedule;
+use pdh_answers::{Done, File, OutOfTolerance, Stop};
 use pdh_chain::Chain;
 use pdh_clock::{Bias, Schedule};
 use pdh_edge::Shelf;

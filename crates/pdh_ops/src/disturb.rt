@@ -8,13 +8,12 @@ ghost use Rattle.pdh_ops.specs.PortFiles.{HasFiles};
 ghost use Rattle.pdh_ops.specs.DisturbSteps.{HasSizes, ScriptIs, IsBendPlan, IsBendPort};
 ghost use Rattle.pdh_ops.specs.Refusing.{Refuses};
 ghost use Rattle.pdh_ops.specs.Run.{Performs, IsCounted};
-ghost use Rattle.pdh_ops.specs.declared.file.File.TheVariants.{Line};
+ghost use Rattle.pdh_answers.specs.declared.file.File.TheVariants.{Line};
 ghost use Rattle.pdh_words.specs.declared.commands.Command.TheVariants.{Disturb};
 
-use crate::answer::{Done, Stop};
-use crate::file::File;
 use crate::files::{read, size};
 use crate::port::{Ended, Input, PortFiles};
+use pdh_answers::{Done, File, Stop};
 use pdh_blocks::ShelfPort;
 use pdh_chain::{Chain, frame_bytes};
 use pdh_edge::Shelf;

@@ -3,7 +3,7 @@ ghost use Rattle.pdh_edge.specs.Files.{ShelfState};
 ghost use Rattle.pdh_words.specs.declared.commands.Command.TheVariants.{Drill};
 ghost use Rattle.pdh_ops.specs.Run.{Performs};
 
-use crate::answer::{Done, Stop};
+use pdh_answers::{Done, Stop};
 use pdh_chain::Chain;
 use pdh_shape::MOST_FRAMES;
 use std::alloc::Global;

@@ -1,12 +1,11 @@
 ghost use Rattle.std.specs.Prelude.{◌≡◌, length, IfOk, OnOk, IfErr};
 ghost use Rattle.pdh_edge.specs.Files.{Looks, Touches, Starts, FailsToStart, Appends, FailsToAppend, Holds};
-ghost use Rattle.pdh_ops.specs.Names.{name_of};
+ghost use Rattle.pdh_answers.specs.Names.{name_of};
 ghost use Rattle.pdh_ops.specs.Reading.{HasLength, IsSizeStop, IsReadStop};
 ghost use Rattle.pdh_ops.specs.Run.{IsCounted};
 ghost use Rattle.pdh_ops.specs.Writing.{IsStartStop, IsAppendStop};
 
-use crate::answer::Stop;
-use crate::file::File;
+use pdh_answers::{File, Stop};
 use pdh_edge::Shelf;
 use std::alloc::Global;
 

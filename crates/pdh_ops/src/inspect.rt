@@ -1,16 +1,15 @@
 ghost use Rattle.std.specs.Prelude.{◌≡◌, map, Some};
 ghost use Rattle.pdh_edge.specs.Files.{ShelfState, Looks};
-ghost use Rattle.pdh_ops.specs.Names.{line_file};
+ghost use Rattle.pdh_answers.specs.Names.{line_file};
 ghost use Rattle.pdh_ops.specs.Run.{Performs, Watches};
 ghost use Rattle.pdh_ops.specs.Steps.{IsLine};
 ghost use Rattle.pdh_ops.specs.E1Steps.{IsFramedLine};
 ghost use Rattle.pdh_words.specs.declared.commands.Command.TheVariants.{Inspect, InspectE1};
 
-use crate::answer::{Done, Stop};
 use crate::e1::framed_line;
-use crate::file::File;
 use crate::line::line_of;
 use crate::port::{Ended, Input, PortFiles};
+use pdh_answers::{Done, File, Stop};
 use pdh_chain::Chain;
 use pdh_edge::Shelf;
 use pdh_inspect::{LineStop, inspect_framed, inspect_line};

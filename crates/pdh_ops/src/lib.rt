@@ -1,13 +1,11 @@
 //! The top call: it does all that the program does.
 #![tactic(auto)]
 
-mod answer;
 mod clock;
 mod demux;
 mod disturb;
 mod drill;
 mod e1;
-mod file;
 mod files;
 mod inspect;
 mod leaf;
@@ -15,7 +13,6 @@ mod line;
 mod mux;
 mod port;
 mod program;
-mod report;
 mod schedule;
 mod show;
 

@@ -3,10 +3,9 @@ ghost use Rattle.pdh_edge.specs.Files.{Looks};
 ghost use Rattle.pdh_ops.specs.Steps.{IsLine, IsLineCause};
 ghost use Rattle.pdh_ops.specs.Run.{IsCounted};
 
-use crate::answer::Stop;
-use crate::file::File;
 use crate::files::size;
 use crate::port::Input;
+use pdh_answers::{File, Stop};
 use pdh_chain::{Chain, frame_bytes};
 use pdh_edge::Shelf;
 use pdh_shape::MOST_FRAMES;

@@ -6,11 +6,10 @@ ghost use Rattle.pdh_blocks.specs.State.{over};
 ghost use Rattle.pdh_blocks.specs.Lists.{outputs_of};
 ghost use Rattle.pdh_blocks.specs.Kept.{Drains};
 ghost use Rattle.pdh_blocks.specs.Opened.{IsWritten};
-ghost use Rattle.pdh_ops.specs.Names.{name_of};
+ghost use Rattle.pdh_answers.specs.Names.{name_of};
 ghost use Rattle.pdh_ops.specs.PortFiles.{AreFiles, AreSources, opened_for, HasFiles, IsStopAt, IsStopOf};
 
-use crate::answer::{Done, Stop};
-use crate::file::File;
+use pdh_answers::{Done, File, Stop};
 use pdh_blocks::{NoPort, ShelfPort, Source};
 use pdh_edge::Shelf;
 use std::alloc::{AllocError, Global};

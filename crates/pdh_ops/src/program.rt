@@ -7,7 +7,6 @@ ghost use Rattle.pdh_ops.specs.Packs.{Packs};
 ghost use Rattle.pdh_ops.specs.Tolerated.{HasNoEvent, IsDelayed};
 ghost use Rattle.pdh_ops.specs.InTime.{AreInTime};
 
-use crate::answer::{Done, Stop};
 use crate::clock::{check, make};
 use crate::demux::demux;
 use crate::disturb::disturb;
@@ -16,8 +15,8 @@ use crate::e1::{e1pack, e1unpack};
 use crate::inspect::{inspect, inspect_e1};
 use crate::mux::mux;
 use crate::port::Ended;
-use crate::report::report;
 use crate::show::show;
+use pdh_answers::{Done, Stop, report};
 use pdh_edge::{Shelf, Sink};
 use pdh_watch::Monitor;
 use pdh_words::{Command, command};

@@ -1,15 +1,14 @@
 ghost use Rattle.std.specs.Prelude.{◌≡◌, Ok, All, IfOk, IfErr};
 ghost use Rattle.pdh_edge.specs.Files.{Looks};
 ghost use Rattle.pdh_clock.specs.Contents.{IsRowOf};
-ghost use Rattle.pdh_ops.specs.Names.{schedule_name};
+ghost use Rattle.pdh_answers.specs.Names.{schedule_name};
 ghost use Rattle.pdh_ops.specs.Reading.{HasLength};
 ghost use Rattle.pdh_ops.specs.Run.{IsCounted};
 ghost use Rattle.pdh_chain.specs.Chains.{levels_of};
 ghost use Rattle.pdh_ops.specs.ScheduleSteps.{RowsAre, IsScheduleStop};
 
-use crate::answer::Stop;
-use crate::file::File;
 use crate::files::read;
+use pdh_answers::{File, Stop};
 use pdh_chain::Chain;
 use pdh_clock::Schedule;
 use pdh_edge::Shelf;

@@ -9,12 +9,11 @@ ghost use Rattle.pdh_ops.specs.Steps.{HasLine};
 ghost use Rattle.pdh_ops.specs.ShowSteps.{HasFrame, IsShowPort};
 ghost use Rattle.pdh_ops.specs.Refusing.{Refuses};
 ghost use Rattle.pdh_ops.specs.Run.{IsCounted, Performs};
-ghost use Rattle.pdh_ops.specs.declared.file.File.TheVariants.{Line};
+ghost use Rattle.pdh_answers.specs.declared.file.File.TheVariants.{Line};
 
-use crate::answer::{Done, FrameText, Stop};
-use crate::file::File;
 use crate::files::size;
 use crate::port::{Ended, Input, PortFiles};
+use pdh_answers::{Done, File, FrameText, Stop};
 use pdh_blocks::ShelfPort;
 use pdh_chain::{Chain, frame_bytes};
 use pdh_edge::Shelf;

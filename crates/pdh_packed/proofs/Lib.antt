@@ -4,10 +4,6 @@ pub mod BoundedLaws
 pub mod GainingLaws
 pub mod OnesLaws
 pub mod ByteLaws
-pub mod InterleavingLaws
-pub mod TurnLaws
-pub mod DealtLaws
-pub mod RowLaws
 pub mod BitwiseLaws
 pub mod ArrayLaws
 pub mod PlacesLaws

@@ -1,5 +1,4 @@
 pub mod Words
 pub mod WordLaws
-pub mod Interleaving
 pub mod Gaining
 pub mod Places

@@ -113,9 +113,9 @@ impl Packed {
         first.across(self.word_at(index + 1), offset, count)
     }
 
-    // Appends the 64 bits of a number, for which there is room.
+    /// Appends the 64 bits of a number, for which there is room.
     #[inline(always)]
-    pub(crate) fn append_whole(&mut self, number: u64)
+    pub fn append_whole(&mut self, number: u64)
         requires { length self.old.bits + 64 ≤ self.old.capacity }
         ensures { self.new ≡ record self.old { bits = self.old.bits ++ low_bits 64 number } }
     {
@@ -123,9 +123,9 @@ impl Packed {
         self.words.push_reserved(full);
     }
 
-    // The number that the 64 bits from a place on write.
+    /// The number that the 64 bits from a place on write.
     #[inline(always)]
-    pub(crate) fn read_whole(&self, place: usize) -> u64
+    pub fn read_whole(&self, place: usize) -> u64
         requires { place + 64 ≤ length self.now.bits }
         ensures { low_bits 64 result ≡ take 64 (drop place self.now.bits) }
     {
@@ -149,9 +149,9 @@ impl Packed {
         self.read(place, 64).number()
     }
 
-    // A number of 64 bits that begin with the bits from a place on, so many.
+    /// A number of 64 bits that begin with the bits from a place on, so many.
     #[inline(always)]
-    pub(crate) fn read_left(&self, place: usize, count: u32) -> u64
+    pub fn read_left(&self, place: usize, count: u32) -> u64
         requires few { count ≤ 64 }
         requires within { place + count ≤ length self.now.bits }
         ensures { take count (low_bits 64 result) ≡ take count (drop place self.now.bits) }

@@ -6,8 +6,6 @@ pub mod laws;
 mod phases;
 mod planes;
 mod signal;
-#[cfg(test)]
-mod tests;
 
 pub use phases::Phases;
 pub use signal::signal_number;

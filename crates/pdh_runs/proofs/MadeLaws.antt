@@ -9,9 +9,9 @@ use Rattle.std.proofs.lemmas.List.Sums.{sum_by_push}
 use Rattle.std.proofs.lemmas.Nat.{div-add-mod', mod_below, div-mul-add, mod-mul-add, mul-add-lt}
 use Rattle.pdh_bits.specs.BitOut.{BoundedBits}
 use Rattle.pdh_packed.specs.Words.{bounded}
-use Rattle.pdh_packed.specs.Interleaving.{interleaved, bit_in_turn}
+use Rattle.pdh_interleaving.specs.Interleaving.{interleaved, bit_in_turn}
 use Rattle.pdh_packed.proofs.BoundedLaws.{bits_grow}
-use Rattle.pdh_packed.proofs.TurnLaws.{length-interleaved, get_or-interleaved}
+use Rattle.pdh_interleaving.proofs.TurnLaws.{length-interleaved, get_or-interleaved}
 use Rattle.pdh_line.proofs.Ranges.{range_append, range_push, map-range_same_on}
 use Rattle.pdh_shape.specs.Frame.{FrameShape}
 use Rattle.pdh_shape.specs.Tributary.{reads_from}

@@ -6,8 +6,8 @@ use Rattle.std.proofs.lemmas.List.{map-append, take-map, drop-map, append-nil, l
 use Rattle.std.proofs.lemmas.Simd.{map-map}
 use Rattle.pdh_bits.specs.BitOut.{BoundedBits}
 use Rattle.pdh_packed.specs.Words.{bounded}
-use Rattle.pdh_packed.specs.Interleaving.{dealt, column}
-use Rattle.pdh_packed.proofs.DealtLaws.{dealt_is, length-dealt, get_or-appended_to_each}
+use Rattle.pdh_interleaving.specs.Interleaving.{dealt, column}
+use Rattle.pdh_interleaving.proofs.DealtLaws.{dealt_is, length-dealt, get_or-appended_to_each}
 use Rattle.pdh_shape.specs.declared.role.Role.TheVariants.{Just}
 use Rattle.pdh_shape.specs.Frame.{FrameShape}
 use Rattle.pdh_shape.specs.Tributary.{reads_from, reads_below, turned, bits_read, HasTributaries}

@@ -9,8 +9,6 @@ mod receiving;
 mod run;
 mod sending;
 mod tables;
-#[cfg(test)]
-mod tests;
 mod turns;
 
 pub use layout::Layout;

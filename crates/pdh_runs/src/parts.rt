@@ -4,7 +4,8 @@ ghost use Rattle.pdh_runs.specs.Taking.{emptied, HasColumns};
 
 use crate::layout::Layout;
 use crate::turns::{append_turned, append_without};
-use pdh_packed::{Packed, deal};
+use pdh_interleaving::deal;
+use pdh_packed::Packed;
 use pdh_shape::Shape;
 use std::alloc::{AllocError, Global};
 use std::marker::Model;

@@ -7,7 +7,8 @@ ghost use Rattle.pdh_runs.specs.Pieces.{turn, overhead_before, rows, slot_bits, 
 
 use crate::layout::Layout;
 use crate::turns::append_turns;
-use pdh_packed::{Packed, interleave};
+use pdh_interleaving::interleave;
+use pdh_packed::Packed;
 use pdh_shape::Shape;
 
 // Appends a zero where a list has one bit fewer than these.

@@ -9,4 +9,3 @@ pub mod StepActs
 pub mod NodeSteps
 pub mod NodePlays
 mod Shares
-mod FourTails

@@ -10,8 +10,6 @@ mod rx;
 mod slots;
 mod strip;
 mod tail;
-#[cfg(test)]
-mod tests;
 
 pub use node::RxNode;
 pub use rx::Rx;

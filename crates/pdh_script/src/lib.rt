@@ -25,8 +25,6 @@ mod row;
 mod script;
 mod step;
 mod stop;
-#[cfg(test)]
-mod tests;
 
 pub use fault::ScriptFault;
 pub use script::{MOST_SCRIPT_BYTES, Script};

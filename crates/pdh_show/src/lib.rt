@@ -7,8 +7,6 @@ mod lines;
 mod reading;
 mod signal;
 mod stop;
-#[cfg(test)]
-mod tests;
 mod text;
 
 pub use by_chain::show;

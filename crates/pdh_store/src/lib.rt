@@ -5,6 +5,3 @@ pub mod laws;
 mod store;
 
 pub use store::{Overflow, Store, Underflow};
-
-#[cfg(test)]
-mod tests;

@@ -1,8 +1,9 @@
 //! The running of the program over files in memory.
 
 use crate::watched::Watched;
-use pdh_case::{Files, Given, Kind, Outcome, Run, content_of, known_names};
+use pdh_case::{Given, Kind, Run};
 use pdh_edge::{Call, MemShelf, MemSink, Shelf, Sink};
+use pdh_judging::{Files, Outcome, content_of, known_names};
 use pdh_main::run_with_monitors;
 use pdh_ops::Ran;
 use std::alloc::{AllocError, Global};

@@ -1,7 +1,8 @@
 //! Files of cases, from the folder in which the program runs.
 
 use crate::trial::judge_case;
-use pdh_case::{Case, CaseFault, read, show};
+use pdh_case::{Case, CaseFault, read};
+use pdh_judging::show;
 use std::alloc::AllocError;
 use std::rt::{Env, Files};
 use std::{env, fs, io};

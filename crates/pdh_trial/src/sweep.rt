@@ -1,7 +1,8 @@
 //! A run again and again: with each call failing, and with each front of a file.
 
 use crate::running::run_over;
-use pdh_case::{Cut, Files, Findings, Kind, Outcome, Run, Sweep, judge, judge_failed};
+use pdh_case::{Cut, Kind, Run, Sweep};
+use pdh_judging::{Files, Findings, Outcome, judge, judge_failed};
 use std::alloc::{AllocError, Global};
 
 // The most calls of a kind.

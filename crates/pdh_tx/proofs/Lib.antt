@@ -14,7 +14,6 @@ pub mod Saying
 pub mod NodeSteps
 mod Fills
 pub mod Opening
-mod Worked
 mod Feeding
 pub mod Passing
 pub mod PassingAll

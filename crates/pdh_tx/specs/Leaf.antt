@@ -1,5 +1,5 @@
 -- A leaf passes its list.
-use Rattle.std.specs.Prelude.{ℕ, ◌≤◌, Bool, ◌==◌, nat_le, if◌then◌else◌, List, [], ◌∷◌, length, map, Some, None}
+use Rattle.std.specs.Prelude.{ℕ, ◌≤◌, Bool, ◌==◌, nat_le, if◌then◌else◌, List, [], length, Some, None}
 use Rattle.pdh_edge.specs.Ports.{Inputs, Takes, for_leaf}
 use Rattle.pdh_tx.specs.declared.tx.TxStop.TheVariants.{Ended}
 use Rattle.pdh_tx.specs.Meaning.{Meaning}
@@ -19,7 +19,3 @@ pub record TakesUpTo (leaf most : ℕ) (old new : Inputs) : Type 0 where
   pub bits : List Bool
   pub few : length bits ≤ most
   pub takes : Takes (for_leaf leaf bits) old new
-
--- the leaves 0 to 3
-abbrev pub four_leaves : List Meaning
-four_leaves = map leaf_meaning (0 ∷ 1 ∷ 2 ∷ 3 ∷ [])

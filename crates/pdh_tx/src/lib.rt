@@ -11,8 +11,6 @@ mod pieces;
 mod position;
 mod scratch;
 mod slots;
-#[cfg(test)]
-mod tests;
 mod tributaries;
 mod tributary;
 mod tx;

@@ -39,6 +39,7 @@ pub struct Tributary<C: Tx> {
 
 impl<C: Tx> Tributary<C> {
     /// Takes the child's next bit into the store.
+    #[inline(always)]
     pub fn arrive<F: Feed>(
         &mut self,
         place: Place,

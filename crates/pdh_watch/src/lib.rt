@@ -7,8 +7,6 @@ mod members;
 mod monitor;
 mod monitors;
 mod names;
-#[cfg(test)]
-mod tests;
 mod watch;
 
 pub use event::Event;

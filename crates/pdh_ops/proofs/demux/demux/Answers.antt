@@ -1,6 +1,6 @@
 use Rattle.std.proofs.Common.{◌∙◌}
 use Rattle.pdh_words.specs.declared.commands.Command.TheVariants.{Demux}
-use Rattle.pdh_ops.specs.Names.{line_file}
+use Rattle.pdh_answers.specs.Names.{line_file}
 use Rattle.pdh_ops.specs.Demux.{demuxed}
 use Rattle.pdh_ops.proofs.LineStops.{line_refuses}
 use Rattle.pdh_ops.proofs.Refusing.{refuses_performs}

@@ -1,7 +1,7 @@
 use Rattle.std.proofs.Common.{◌∙◌, sym, ap, [], ◌∷◌, ◌++◌, List, arith}
 use Rattle.std.proofs.lemmas.List.FromFn.{map-range_with_len_more}
-use Rattle.pdh_ops.specs.declared.file.File.{File}
-use Rattle.pdh_ops.specs.declared.file.File.TheVariants.{Output}
+use Rattle.pdh_answers.specs.declared.file.File.{File}
+use Rattle.pdh_answers.specs.declared.file.File.TheVariants.{Output}
 use Rattle.pdh_ops.proofs.demux.port_files.Goals as goal
 
 pub loop-leaf-preserved : goal.loop-leaf-preserved

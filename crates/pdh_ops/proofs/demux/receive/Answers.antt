@@ -3,7 +3,7 @@ use Rattle.std.proofs.lemmas.Result.{err_from_is_err_and}
 use Rattle.pdh_words.specs.declared.commands.Command.TheVariants.{Demux}
 use Rattle.pdh_blocks.specs.Lists.{outputs_of}
 use Rattle.pdh_blocks.specs.State.{over}
-use Rattle.pdh_ops.specs.declared.answer.Done.TheVariants.{Demuxed}
+use Rattle.pdh_answers.specs.declared.answer.Done.TheVariants.{Demuxed}
 use Rattle.pdh_ops.proofs.DemuxFiles.{demux_reads}
 use Rattle.pdh_ops.proofs.DemuxRun.{long, received_all, received_front, received_part, comes_some, comes_none}
 use Rattle.pdh_ops.proofs.PortRun.{front_of_all}

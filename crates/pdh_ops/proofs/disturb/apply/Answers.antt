@@ -2,7 +2,7 @@ use Rattle.std.proofs.lemmas.Result.{err_from_is_err_and}
 use Rattle.pdh_blocks.specs.State.{over}
 use Rattle.pdh_blocks.specs.Lists.{outputs_of}
 use Rattle.pdh_words.specs.declared.commands.Command.TheVariants.{Disturb}
-use Rattle.pdh_ops.specs.declared.answer.Done.TheVariants.{Disturbed}
+use Rattle.pdh_answers.specs.declared.answer.Done.TheVariants.{Disturbed}
 use Rattle.pdh_ops.proofs.DisturbFiles.{bend_reads}
 use Rattle.pdh_ops.proofs.DisturbRun.{long, bent_all, bent_comes, bent_front}
 use Rattle.pdh_ops.proofs.PortRun.{front_of_all}

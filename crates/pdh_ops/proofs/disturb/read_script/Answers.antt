@@ -1,7 +1,7 @@
 use Rattle.std.proofs.Common.{sym, subst, arith}
 use Rattle.std.proofs.lemmas.Result.{err_from_is_err_and}
 use Rattle.pdh_edge.specs.Files.{Holds}
-use Rattle.pdh_ops.specs.Names.{script_name}
+use Rattle.pdh_answers.specs.Names.{script_name}
 use Rattle.pdh_ops.proofs.DisturbComes.{long_refused, text_unread, fault_refuses, rows_read}
 use Rattle.pdh_ops.proofs.disturb.read_script.Goals as goal
 

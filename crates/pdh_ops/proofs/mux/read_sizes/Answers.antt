@@ -3,7 +3,7 @@ use Rattle.std.specs.Prelude.{slice_index}
 use Rattle.std.proofs.lemmas.Result.{err_from_is_err_and}
 use Rattle.std.proofs.lemmas.List.{get_or-set_same, get_or-set_other, length-set}
 use Rattle.pdh_chain.specs.Chains.{leaves_of}
-use Rattle.pdh_ops.specs.Names.{schedule_name, leaf_name}
+use Rattle.pdh_answers.specs.Names.{schedule_name, leaf_name}
 use Rattle.pdh_ops.specs.Reading.{HasLength}
 use Rattle.pdh_words.specs.declared.commands.Command.TheVariants.{Mux}
 use Rattle.pdh_ops.proofs.Touching.{has_length_still, looks_then, looks_none, counted_since}

@@ -1,7 +1,7 @@
 use Rattle.std.proofs.Common.{◌≡◌, ℕ, ◌<◌, length}
 use Rattle.std.specs.Prelude.{slice_index}
 use Rattle.pdh_edge.specs.Files.{Looks}
-use Rattle.pdh_ops.specs.Names.{schedule_name, leaf_name}
+use Rattle.pdh_answers.specs.Names.{schedule_name, leaf_name}
 use Rattle.pdh_ops.specs.Reading.{HasLength}
 use Rattle.pdh_ops.proofs.mux.read_sizes.Given as goal
 

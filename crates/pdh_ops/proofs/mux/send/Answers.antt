@@ -5,8 +5,8 @@ use Rattle.pdh_blocks.specs.Lists.{outputs_of}
 use Rattle.pdh_chain.specs.Muxes.{place_of}
 use Rattle.pdh_words.specs.declared.commands.Command.TheVariants.{Mux}
 use Rattle.pdh_ops.specs.Run.{Performs}
-use Rattle.pdh_ops.specs.declared.answer.Done.TheVariants.{Muxed}
-use Rattle.pdh_ops.specs.declared.answer.Stop.{Stop}
+use Rattle.pdh_answers.specs.declared.answer.Done.TheVariants.{Muxed}
+use Rattle.pdh_answers.specs.declared.answer.Stop.{Stop}
 use Rattle.pdh_ops.proofs.MuxFiles.{mux_reads}
 use Rattle.pdh_ops.proofs.MuxSent.{has_frames, has_bits}
 use Rattle.pdh_ops.proofs.MuxRun.{muxed_all, muxed_comes, event_all, event_comes, event_stop, event_ends, fewer_front, prefix_front}

@@ -1,6 +1,6 @@
 use Rattle.std.proofs.Common.{◌≡◌, map, take}
 use Rattle.std.specs.String.{string_bytes}
-use Rattle.pdh_ops.specs.Names.{name_of}
+use Rattle.pdh_answers.specs.Names.{name_of}
 use Rattle.pdh_ops.proofs.port.names.Given as goal
 
 abbrev pub invariant-loop-file : goal.invariant-loop-file

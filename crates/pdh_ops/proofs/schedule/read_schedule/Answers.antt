@@ -1,7 +1,7 @@
 use Rattle.std.proofs.Common.{sym, subst, arith}
 use Rattle.std.proofs.lemmas.Result.{err_from_is_err_and}
 use Rattle.pdh_edge.specs.Files.{Holds}
-use Rattle.pdh_ops.specs.Names.{schedule_name}
+use Rattle.pdh_answers.specs.Names.{schedule_name}
 use Rattle.pdh_ops.proofs.ScheduleComes.{long_stops, read_stops, fault_stops, rows_read}
 use Rattle.pdh_ops.proofs.schedule.read_schedule.Goals as goal
 

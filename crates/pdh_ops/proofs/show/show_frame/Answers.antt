@@ -2,7 +2,7 @@ use Rattle.std.proofs.Common.{◌≡◌, suc, ◌+◌, ◌*◌, [], ◌∷◌, �
 use Rattle.pdh_chain.specs.Chains.{frame_bytes_of}
 use Rattle.pdh_ops.specs.Inspect.{bytes_upto}
 use Rattle.pdh_ops.specs.ShowSteps.{IsShowPort}
-use Rattle.pdh_ops.specs.declared.file.File.TheVariants.{Line}
+use Rattle.pdh_answers.specs.declared.file.File.TheVariants.{Line}
 use Rattle.pdh_ops.proofs.ShowFiles.{show_port}
 use Rattle.pdh_ops.proofs.show.show_frame.Goals as goal
 

@@ -1,7 +1,7 @@
 use Rattle.std.proofs.Common.{refl}
 use Rattle.pdh_blocks.specs.State.{over}
 use Rattle.pdh_words.specs.declared.commands.Command.TheVariants.{Show}
-use Rattle.pdh_ops.specs.declared.answer.Done.TheVariants.{Shown}
+use Rattle.pdh_answers.specs.declared.answer.Done.TheVariants.{Shown}
 use Rattle.pdh_ops.proofs.ShowFiles.{show_reads}
 use Rattle.pdh_ops.proofs.ShowRun.{shown_comes}
 use Rattle.pdh_ops.proofs.PortEnds.{files_kept, done, fed_ends, fed_stops}

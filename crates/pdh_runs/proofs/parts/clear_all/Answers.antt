@@ -2,7 +2,7 @@ use Rattle.std.proofs.Common.{◌≡◌, ◌<◌, ◌++◌, List, [], length, ta
 use Rattle.std.proofs.lemmas.List.{length-map, get_or-map}
 use Rattle.pdh_bits.specs.BitOut.{BoundedBits}
 use Rattle.pdh_packed.specs.Words.{bounded}
-use Rattle.pdh_packed.proofs.DealtLaws.{one_written, not_yet_written, all_written}
+use Rattle.pdh_interleaving.proofs.DealtLaws.{one_written, not_yet_written, all_written}
 use Rattle.pdh_runs.specs.Taking.{emptied}
 use Rattle.pdh_runs.proofs.parts.clear_all.Goals as goal
 

@@ -2,7 +2,7 @@ use Rattle.std.proofs.Common.{◌≡◌, ◌<◌, ◌+◌, ◌*◌, ◌++◌, su
 use Rattle.std.proofs.lemmas.List.{length-map}
 use Rattle.pdh_bits.specs.BitOut.{BoundedBits}
 use Rattle.pdh_packed.specs.Words.{bounded}
-use Rattle.pdh_packed.specs.Interleaving.{dealt}
+use Rattle.pdh_interleaving.specs.Interleaving.{dealt}
 use Rattle.pdh_runs.specs.Columns.{payload_bits}
 use Rattle.pdh_runs.proofs.TakingLaws.{length-payload_bits, emptied_at, dealt_columns}
 use Rattle.pdh_runs.proofs.parts.take_apart.Goals as goal

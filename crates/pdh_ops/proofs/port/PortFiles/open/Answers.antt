@@ -2,7 +2,7 @@ use Rattle.std.proofs.Common.{◌≡◌, List, map, sym, ap, ◌∙◌, subst}
 use Rattle.std.specs.Prelude.{IfOk}
 use Rattle.std.specs.String.{string_bytes}
 use Rattle.pdh_blocks.specs.State.{PortState, over}
-use Rattle.pdh_ops.specs.Names.{name_of}
+use Rattle.pdh_answers.specs.Names.{name_of}
 use Rattle.pdh_ops.specs.PortFiles.{AreSources}
 use Rattle.pdh_ops.specs.declared.port.Input.{Input}
 use Rattle.pdh_ops.proofs.PortOpen.{can_open, same_port}

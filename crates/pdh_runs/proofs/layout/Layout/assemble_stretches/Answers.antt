@@ -4,7 +4,7 @@ use Rattle.std.proofs.lemmas.List.{length-map}
 use Rattle.std.proofs.lemmas.List.FromFn.{length-map-range_with_len}
 use Rattle.std.proofs.Math.Nat.{mul-le-mul_right}
 use Rattle.pdh_bits.specs.BitOut.{BoundedBits}
-use Rattle.pdh_packed.specs.Interleaving.{interleaved}
+use Rattle.pdh_interleaving.specs.Interleaving.{interleaved}
 use Rattle.pdh_packed.proofs.GainingLaws.{grown_parts}
 use Rattle.pdh_shape.specs.Payload.{payload_before, payload_ones}
 use Rattle.pdh_runs.specs.Pieces.{turn, rows, slot_bit, slot_bits, Assembled}

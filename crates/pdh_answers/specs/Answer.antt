@@ -1,0 +1,118 @@
+-- What a command answers: its status and its text.
+use Rattle.std.specs.Prelude.{ℕ, List, ◌++◌, codes, decimal, Result, Ok, Err}
+use Rattle.pdh_shape.specs.declared.place.Place.{Place}
+use Rattle.pdh_line.specs.Paths.{steps_of, path_text}
+use Rattle.pdh_chain.specs.Chains.{name_of as name_of_chain}
+use Rattle.pdh_clock.specs.declared.fault.ScheduleFault.{ScheduleFault}
+use Rattle.pdh_clock.specs.declared.fault.ScheduleFault.TheVariants.{TooLong as LongText, BadRow as RowIsBad, UnknownNode as NodeIsUnknown, CountOver as CountIsOver, Memory as NoMemory}
+use Rattle.pdh_script.specs.declared.fault.ScriptFault.{ScriptFault}
+use Rattle.pdh_script.specs.declared.fault.ScriptFault.TheVariants.{TooLong as LongScriptText, BadRow as ScriptRowIsBad, PastEnd as EndIsPast, Memory as NoScriptMemory}
+use Rattle.pdh_lab.specs.declared.report.Drill.{Drill}
+use Rattle.pdh_answers.specs.Names.{name_of}
+use Rattle.pdh_answers.specs.declared.answer.Done.{Done}
+use Rattle.pdh_answers.specs.declared.answer.Done.TheVariants.{Demuxed, Muxed, ClockInside, ClockOutside, ClockMade, E1Packed, E1Unpacked, Inspected, E1Inspected, Shown, Disturbed, Drilled}
+use Rattle.pdh_answers.specs.declared.answer.E1Counts.{E1Counts}
+use Rattle.pdh_answers.specs.declared.answer.OutOfTolerance.{OutOfTolerance}
+use Rattle.pdh_answers.specs.declared.answer.Stop.{Stop}
+use Rattle.pdh_answers.specs.declared.answer.Stop.TheVariants.{Memory, Usage, Read, Write, Missing, LongSchedule, BadRow, UnknownNode, CountOver, ShortNode, Short, Overflow, Underflow, ManyFrames, NoAlignment, NotWhole, LongScript, BadScriptRow, PastEnd}
+
+-- what was done, or why not
+abbrev pub Answer : Type 0
+Answer = Result Done Stop
+
+-- how a fault of the schedule's text ends the command
+abbrev pub stop_of_fault : ScheduleFault → Stop
+stop_of_fault (LongText len) = LongSchedule
+stop_of_fault (RowIsBad line) = BadRow line
+stop_of_fault (NodeIsUnknown line) = UnknownNode line
+stop_of_fault (CountIsOver line count most) = CountOver line count most
+stop_of_fault NoMemory = Memory
+
+-- how a fault of the script's text ends the command
+abbrev pub stop_of_script : ScriptFault → Stop
+stop_of_script (LongScriptText len) = LongScript
+stop_of_script (ScriptRowIsBad line) = BadScriptRow line
+stop_of_script (EndIsPast line) = PastEnd line
+stop_of_script NoScriptMemory = Memory
+
+-- the next step, unless an earlier one refused
+abbrev pub and_then : {A B : Type 0} → Result A Stop → (A → Result B Stop) → Result B Stop
+and_then (Ok x) next = next x
+and_then (Err stop) next = Err stop
+
+abbrev pub status_of : Stop → ℕ
+status_of Memory = 1
+status_of Usage = 2
+status_of (Read file) = 3
+status_of (Write file) = 4
+status_of (Missing file) = 5
+status_of LongSchedule = 6
+status_of (BadRow line) = 6
+status_of (UnknownNode line) = 6
+status_of (CountOver line count most) = 6
+status_of (ShortNode node have need) = 7
+status_of (Short file have need) = 7
+status_of (Overflow place) = 8
+status_of (Underflow place) = 8
+status_of LongScript = 9
+status_of (BadScriptRow line) = 9
+status_of (PastEnd line) = 9
+status_of (ManyFrames frames) = 10
+status_of (NoAlignment bits) = 11
+status_of (NotWhole octets) = 12
+
+-- a place as texts have it: tributaries are counted from 1, frames and slots from 0
+abbrev pub place_text : Place → List ℕ
+place_text place =
+    path_text (steps_of place.path) ++ codes " tributary " ++ decimal place.trib ++ codes " frame " ++ decimal place.frame ++ codes " slot " ++ decimal place.slot
+
+-- a tributary that isn't within the tolerance, and the run of frames that shows it: the frame behind the run is named
+abbrev pub outside_text : OutOfTolerance → List ℕ
+outside_text out =
+    path_text (steps_of out.node) ++ codes " tributary " ++ decimal out.trib ++ codes " frames " ++ decimal out.run.from ++ codes " to " ++ decimal out.run.to ++ codes " sum " ++ decimal out.run.sum
+
+-- what was found in a framed 2048 kbit/s line
+abbrev pub counts_text : E1Counts → List ℕ
+counts_text found = decimal found.multiframes ++ codes " blocks " ++ decimal found.blocks ++ codes " errored " ++ decimal found.errored
+
+-- the report of a drill
+abbrev pub drill_text : Drill → List ℕ
+drill_text drill =
+    decimal drill.leaves ++ codes " in " ++ decimal drill.entered ++ codes " out " ++ decimal drill.out ++ codes " equal " ++ decimal drill.equal ++ codes " late " ++ decimal drill.late
+
+-- Each text is one line, but for that of a frame. What an inspection did stands behind the lines of the monitors.
+abbrev pub done_text : Done → List ℕ
+done_text (Demuxed chain frames) = codes "demux " ++ name_of_chain chain ++ codes ": frames " ++ decimal frames ++ codes "\n"
+done_text (Muxed chain frames) = codes "mux " ++ name_of_chain chain ++ codes ": frames " ++ decimal frames ++ codes "\n"
+done_text (ClockInside chain) = codes "clock " ++ name_of_chain chain ++ codes ": inside\n"
+done_text (ClockOutside chain out) = codes "clock " ++ name_of_chain chain ++ codes ": outside " ++ outside_text out ++ codes "\n"
+done_text (ClockMade chain rows) = codes "clock " ++ name_of_chain chain ++ codes ": rows " ++ decimal rows ++ codes "\n"
+done_text (E1Packed multiframes) = codes "e1pack: multiframes " ++ decimal multiframes ++ codes "\n"
+done_text (E1Unpacked found) = codes "e1unpack: multiframes " ++ counts_text found ++ codes "\n"
+done_text (Inspected chain frames events) = codes "inspect " ++ name_of_chain chain ++ codes ": frames " ++ decimal frames ++ codes " events " ++ decimal events ++ codes "\n"
+done_text (E1Inspected multiframes events) = codes "inspect e1: multiframes " ++ decimal multiframes ++ codes " events " ++ decimal events ++ codes "\n"
+done_text (Shown text) = text
+done_text (Disturbed chain bits) = codes "disturb " ++ name_of_chain chain ++ codes ": bits " ++ decimal bits ++ codes "\n"
+done_text (Drilled chain seed frames drill) =
+    codes "drill " ++ name_of_chain chain ++ codes " seed " ++ decimal seed ++ codes " frames " ++ decimal frames ++ codes ": leaves " ++ drill_text drill ++ codes "\n"
+
+abbrev pub stop_text : Stop → List ℕ
+stop_text Memory = codes "memory\n"
+stop_text Usage = codes "usage: pdh mux demux clock inspect show e1pack e1unpack disturb drill\n"
+stop_text (Read file) = codes "read fault: " ++ name_of file ++ codes "\n"
+stop_text (Write file) = codes "write fault: " ++ name_of file ++ codes "\n"
+stop_text (Missing file) = codes "missing: " ++ name_of file ++ codes "\n"
+stop_text LongSchedule = codes "schedule: too long\n"
+stop_text (BadRow line) = codes "schedule: line " ++ decimal line ++ codes ": bad row\n"
+stop_text (UnknownNode line) = codes "schedule: line " ++ decimal line ++ codes ": unknown node\n"
+stop_text (CountOver line count most) = codes "schedule: line " ++ decimal line ++ codes ": count " ++ decimal count ++ codes " over " ++ decimal most ++ codes "\n"
+stop_text (ShortNode node have need) = codes "short: " ++ path_text (steps_of node) ++ codes ": have " ++ decimal have ++ codes " frames, need " ++ decimal need ++ codes "\n"
+stop_text (Short file have need) = codes "short: " ++ name_of file ++ codes ": have " ++ decimal have ++ codes " bits, need " ++ decimal need ++ codes "\n"
+stop_text (Overflow place) = codes "overflow: " ++ place_text place ++ codes "\n"
+stop_text (Underflow place) = codes "underflow: " ++ place_text place ++ codes "\n"
+stop_text LongScript = codes "script: too long\n"
+stop_text (BadScriptRow line) = codes "script: line " ++ decimal line ++ codes ": bad row\n"
+stop_text (PastEnd line) = codes "script: line " ++ decimal line ++ codes ": past the end\n"
+stop_text (ManyFrames frames) = codes "too many frames: " ++ decimal frames ++ codes "\n"
+stop_text (NoAlignment bits) = codes "no alignment: " ++ decimal bits ++ codes " bits\n"
+stop_text (NotWhole octets) = codes "not a whole multiframe: " ++ decimal octets ++ codes " octets\n"

@@ -1,0 +1,210 @@
+use crate::file::File;
+use pdh_chain::Chain;
+use pdh_clock::{Outside, ScheduleFault};
+use pdh_lab::Drill;
+use pdh_script::ScriptFault;
+use pdh_shape::{Path, Place};
+use std::alloc::AllocError;
+use std::marker::Model;
+
+/// A tributary that isn't within the tolerance.
+#[derive(Clone, Copy, Debug, PartialEq, Eq)]
+pub struct OutOfTolerance {
+    /// Its node.
+    pub node: Path,
+    /// Its number, from 1.
+    pub trib: u8,
+    /// The first run of frames that breaks the tolerance.
+    pub run: Outside,
+}
+
+/// What was found in a framed 2048 kbit/s line.
+#[derive(Clone, Copy, Debug, PartialEq, Eq)]
+pub struct E1Counts {
+    /// The delivered multiframes.
+    pub multiframes: u64,
+    /// The judged blocks.
+    pub blocks: u64,
+    /// The errored ones among them.
+    pub errored: u64,
+}
+
+/// The text that shows a frame.
+#[derive(Drop)]
+pub struct FrameText {
+    bytes: Vec<u8>,
+}
+
+impl Model for FrameText {
+    ghost use Rattle.std.specs.Prelude.{List, ℕ};
+
+    ghost Value = { List ℕ };
+
+    ghost view = { λ t. t.bytes.items };
+}
+
+impl FrameText {
+    ghost use Rattle.std.specs.Prelude.{◌≡◌};
+
+    /// Of these bytes.
+    pub fn new(bytes: Vec<u8>) -> FrameText
+        ensures { result ≡ bytes.items }
+    {
+        FrameText { bytes }
+    }
+
+    /// Its bytes.
+    pub fn bytes(&self) -> &[u8]
+        ensures { result.now ≡ self.now }
+    {
+        &self.bytes
+    }
+}
+
+/// What a command did, with the numbers of its text.
+#[derive(Drop)]
+pub enum Done {
+    /// `demux`, with the whole frames of the line.
+    Demuxed(Chain, u64),
+    /// `mux`, with the frames of the line.
+    Muxed(Chain, u64),
+    /// `clock check`, where every tributary is within the tolerance.
+    ClockInside(Chain),
+    /// `clock check`, with the first tributary that isn't.
+    ClockOutside(Chain, OutOfTolerance),
+    /// `clock make`, with the rows of the schedule.
+    ClockMade(Chain, u64),
+    /// `e1pack`, with the multiframes of the line.
+    E1Packed(u64),
+    /// `e1unpack`, with what was found in the line.
+    E1Unpacked(E1Counts),
+    /// `inspect` of a chain, with the delivered frames of the line and its events.
+    Inspected(Chain, u64, u64),
+    /// `inspect e1`, with the delivered multiframes of the line and its events.
+    E1Inspected(u64, u64),
+    /// `show`, with its text.
+    Shown(FrameText),
+    /// `disturb`, with the bits of the disturbed line.
+    Disturbed(Chain, u64),
+    /// `drill`, with what the test patterns begin with, the frames of the line, and the report.
+    Drilled(Chain, u64, u64, Drill),
+}
+
+/// Why a command ended early. Lines of a text are counted from 1.
+#[derive(Clone, Copy, Debug, PartialEq, Eq)]
+pub enum Stop {
+    /// Memory was wanting.
+    Memory,
+    /// The words are no row of the table of commands.
+    Usage,
+    /// A call for this file failed to read.
+    Read(File),
+    /// A call for this file failed to write.
+    Write(File),
+    /// This input isn't held.
+    Missing(File),
+    /// The schedule's text is longer than 33,554,432 bytes.
+    LongSchedule,
+    /// The line of that number is no row of a schedule.
+    BadRow(u32),
+    /// The row in the line of that number is of a node that the chain doesn't have.
+    UnknownNode(u32),
+    /// A row's count is above the slots of a frame: the line, the count, and the slots.
+    CountOver(u32, u64, u32),
+    /// The schedule has fewer frames of a node than the node begins: how many it has, and how many it must have.
+    ShortNode(Path, u64, u64),
+    /// A file has fewer bits than the command needs: how many it has, and how many it must have.
+    Short(File, u64, u64),
+    /// A bit arrived at a full elastic store.
+    Overflow(Place),
+    /// A slot carried a bit of an empty elastic store.
+    Underflow(Place),
+    /// The line has more frames than 16,384.
+    ManyFrames(u64),
+    /// No frame, or in `e1unpack` no multiframe, of the line was delivered: its bits.
+    NoAlignment(u64),
+    /// The payload doesn't fill whole multiframes: its octets.
+    NotWhole(u64),
+    /// The script's text is longer than 1,048,576 bytes.
+    LongScript,
+    /// The line of that number is no row of a script, or begins before the row before it ends.
+    BadScriptRow(u32),
+    /// The row in the line of that number ends behind the last bit that is disturbed.
+    PastEnd(u32),
+}
+
+impl Stop {
+    ghost use Rattle.std.specs.Prelude.{◌≡◌};
+    ghost use Rattle.pdh_answers.specs.Answer.{status_of};
+
+    /// The program's status.
+    pub fn status(self) -> u8
+        ensures { result ≡ status_of self }
+    {
+        match self {
+            Stop::Memory => 1,
+            Stop::Usage => 2,
+            Stop::Read(_) => 3,
+            Stop::Write(_) => 4,
+            Stop::Missing(_) => 5,
+            Stop::LongSchedule => 6,
+            Stop::BadRow(_) => 6,
+            Stop::UnknownNode(_) => 6,
+            Stop::CountOver(_, _, _) => 6,
+            Stop::ShortNode(_, _, _) => 7,
+            Stop::Short(_, _, _) => 7,
+            Stop::Overflow(_) => 8,
+            Stop::Underflow(_) => 8,
+            Stop::LongScript => 9,
+            Stop::BadScriptRow(_) => 9,
+            Stop::PastEnd(_) => 9,
+            Stop::ManyFrames(_) => 10,
+            Stop::NoAlignment(_) => 11,
+            Stop::NotWhole(_) => 12,
+        }
+    }
+}
+
+impl From<AllocError> for Stop {
+    ghost use Rattle.std.specs.Prelude.{◌≡◌};
+    ghost use Rattle.pdh_answers.specs.declared.answer.Stop.TheVariants.{Memory};
+
+    ghost from_gives = { λ _ e. e ≡ Memory };
+
+    fn from(_: AllocError) -> Self {
+        Stop::Memory
+    }
+}
+
+impl From<ScheduleFault> for Stop {
+    ghost use Rattle.std.specs.Prelude.{◌≡◌};
+    ghost use Rattle.pdh_answers.specs.Answer.{stop_of_fault};
+
+    ghost from_gives = { λ fault e. e ≡ stop_of_fault fault };
+
+    fn from(fault: ScheduleFault) -> Self {
+        match fault {
+            ScheduleFault::TooLong { .. } => Stop::LongSchedule,
+            ScheduleFault::BadRow { line } => Stop::BadRow(line),
+            ScheduleFault::UnknownNode { line } => Stop::UnknownNode(line),
+            ScheduleFault::CountOver { line, count, most } => Stop::CountOver(line, count, most),
+            ScheduleFault::Memory => Stop::Memory,
+        }
+    }
+}
+
+impl From<ScriptFault> for Stop {
+    ghost use Rattle.std.specs.Prelude.{◌≡◌};
+    ghost use Rattle.pdh_answers.specs.Answer.{stop_of_script};
+
+    ghost from_gives = { λ fault e. e ≡ stop_of_script fault };
+
+    fn from(fault: ScriptFault) -> Self {
+        match fault {
+            ScriptFault::TooLong { .. } => Stop::LongScript,
+            ScriptFault::BadRow { line } => Stop::BadScriptRow(line),
+            ScriptFault::PastEnd { line } => Stop::PastEnd(line),
+            ScriptFault::Memory => Stop::Memory,
+        }
+    }
+}

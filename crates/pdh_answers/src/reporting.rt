@@ -1,0 +1,392 @@
+ghost use Rattle.std.specs.Prelude.{◌≡◌, ◌≤◌, ◌++◌, ℕ, List, length, map, decimal, codes, OnOk, OnErr};
+ghost use Rattle.pdh_watch.specs.Monitors.{Says};
+ghost use Rattle.pdh_chain.specs.Chains.{name_of as name_of_chain};
+ghost use Rattle.pdh_line.specs.Paths.{steps_of, path_text};
+ghost use Rattle.pdh_answers.specs.Names.{name_of};
+ghost use Rattle.pdh_answers.specs.Answer.{done_text as done_of, stop_text as stop_of, place_text as place_of, outside_text as outside_of, counts_text, drill_text};
+ghost use Rattle.pdh_edge.specs.Files.{Sends, FailsToSend};
+ghost use Rattle.pdh_answers.specs.Lines.{AreLines, IsText, IsTold};
+
+use crate::answer::{Done, E1Counts, OutOfTolerance, Stop};
+use crate::file::File;
+use pdh_chain::Chain;
+use pdh_edge::{Failed, Sink};
+use pdh_lab::Drill;
+use pdh_shape::{Path, Place};
+use pdh_watch::Monitor;
+use pdh_words::Text;
+
+// A line of a part and a number.
+#[tactic(auto, using(pdh_text::proofs::Lengths::digits))]
+fn counted(part: &str, n: u64) -> Text
+    requires { length part.now ≤ 100 }
+    ensures { result ≡ part.now ++ decimal n ++ codes "\n" }
+{
+    let mut text = Text::new();
+    text.text(part);
+    text.number(n);
+    text.text("\n");
+    text
+}
+
+// A line of a part and a file's name.
+fn named(part: &str, file: File) -> Text
+    requires { length part.now ≤ 100 }
+    ensures { result ≡ part.now ++ name_of file ++ codes "\n" }
+{
+    let mut text = Text::new();
+    text.text(part);
+    text.text(file.name().as_str());
+    text.text("\n");
+    text
+}
+
+// A line of a part and a place.
+#[tactic(auto, using(pdh_text::proofs::Lengths::digits, pdh_text::proofs::Lengths::path_len))]
+fn placed(part: &str, place: Place) -> Text
+    requires { length part.now ≤ 100 }
+    ensures { result ≡ part.now ++ place_of place ++ codes "\n" }
+{
+    let mut text = Text::new();
+    text.text(part);
+    text.path(&place.path);
+    text.text(" tributary ");
+    text.number(u64::from(place.trib));
+    text.text(" frame ");
+    text.number(place.frame);
+    text.text(" slot ");
+    text.number(u64::from(place.slot));
+    text.text("\n");
+    text
+}
+
+// The line of a command, its chain, a part and a number.
+#[tactic(auto, using(pdh_text::proofs::Lengths::digits))]
+fn chain_counted(command: &str, chain: Chain, part: &str, n: u64) -> Text
+    requires command { length command.now ≤ 100 }
+    requires part { length part.now ≤ 100 }
+    ensures { result ≡ command.now ++ name_of_chain chain ++ part.now ++ decimal n ++ codes "\n" }
+{
+    let mut text = Text::new();
+    text.text(command);
+    text.text(chain.name());
+    text.text(part);
+    text.number(n);
+    text.text("\n");
+    text
+}
+
+// The line of a schedule within the tolerance.
+fn inside(chain: Chain) -> Text
+    ensures { result ≡ codes "clock " ++ name_of_chain chain ++ codes ": inside\n" }
+{
+    let mut text = Text::new();
+    text.text("clock ");
+    text.text(chain.name());
+    text.text(": inside\n");
+    text
+}
+
+// The line of a tributary that isn't within the tolerance.
+#[tactic(auto, using(pdh_text::proofs::Lengths::digits, pdh_text::proofs::Lengths::path_len))]
+fn outside(chain: Chain, out: OutOfTolerance) -> Text
+    ensures { result ≡ codes "clock " ++ name_of_chain chain ++ codes ": outside " ++ outside_of out ++ codes "\n" }
+{
+    let mut text = Text::new();
+    text.text("clock ");
+    text.text(chain.name());
+    text.text(": outside ");
+    text.path(&out.node);
+    text.text(" tributary ");
+    text.number(u64::from(out.trib));
+    text.text(" frames ");
+    text.number(out.run.from);
+    text.text(" to ");
+    text.number(out.run.to);
+    text.text(" sum ");
+    text.number(out.run.sum);
+    text.text("\n");
+    text
+}
+
+// The line of what was found in a framed 2048 kbit/s line.
+#[tactic(auto, using(pdh_text::proofs::Lengths::digits))]
+fn unpacked(found: E1Counts) -> Text
+    ensures { result ≡ codes "e1unpack: multiframes " ++ counts_text found ++ codes "\n" }
+{
+    let mut text = Text::new();
+    text.text("e1unpack: multiframes ");
+    text.number(found.multiframes);
+    text.text(" blocks ");
+    text.number(found.blocks);
+    text.text(" errored ");
+    text.number(found.errored);
+    text.text("\n");
+    text
+}
+
+// Appends the report of a drill.
+#[tactic(auto, using(pdh_text::proofs::Lengths::digits))]
+fn add_report(text: &mut Text, report: Drill)
+    requires { length text.old ≤ 150 }
+    ensures added { text.new ≡ text.old ++ drill_text report }
+    ensures short { length text.new ≤ 300 }
+{
+    text.number(u64::from(report.leaves));
+    text.text(" in ");
+    text.number(report.entered);
+    text.text(" out ");
+    text.number(report.out);
+    text.text(" equal ");
+    text.number(u64::from(report.equal));
+    text.text(" late ");
+    text.number(report.late);
+}
+
+// The line of a drill.
+#[tactic(auto, using(pdh_text::proofs::Lengths::digits))]
+fn drilled(chain: Chain, seed: u64, frames: u64, report: Drill) -> Text
+    ensures { result ≡ codes "drill " ++ name_of_chain chain ++ codes " seed " ++ decimal seed ++ codes " frames " ++ decimal frames ++ codes ": leaves " ++ drill_text report ++ codes "\n" }
+{
+    let mut text = Text::new();
+    text.text("drill ");
+    text.text(chain.name());
+    text.text(" seed ");
+    text.number(seed);
+    text.text(" frames ");
+    text.number(frames);
+    text.text(": leaves ");
+    add_report(&mut text, report);
+    text.text("\n");
+    text
+}
+
+// A line of a part alone.
+fn plain(part: &str) -> Text
+    requires { length part.now ≤ 100 }
+    ensures { result ≡ part.now ++ codes "\n" }
+{
+    let mut text = Text::new();
+    text.text(part);
+    text.text("\n");
+    text
+}
+
+// The line of a fault in a line of a text.
+#[tactic(auto, using(pdh_text::proofs::Lengths::digits))]
+fn faulty(place: &str, line: u32, fault: &str) -> Text
+    requires place { length place.now ≤ 100 }
+    requires fault { length fault.now ≤ 100 }
+    ensures { result ≡ place.now ++ decimal line ++ fault.now ++ codes "\n" }
+{
+    let mut text = Text::new();
+    text.text(place);
+    text.number(u64::from(line));
+    text.text(fault);
+    text.text("\n");
+    text
+}
+
+// The line of a count that is above the slots of a frame.
+#[tactic(auto, using(pdh_text::proofs::Lengths::digits))]
+fn over(line: u32, count: u64, most: u32) -> Text
+    ensures { result ≡ codes "schedule: line " ++ decimal line ++ codes ": count " ++ decimal count ++ codes " over " ++ decimal most ++ codes "\n" }
+{
+    let mut text = Text::new();
+    text.text("schedule: line ");
+    text.number(u64::from(line));
+    text.text(": count ");
+    text.number(count);
+    text.text(" over ");
+    text.number(u64::from(most));
+    text.text("\n");
+    text
+}
+
+// The line of a line without an alignment.
+#[tactic(auto, using(pdh_text::proofs::Lengths::digits))]
+fn no_alignment(bits: u64) -> Text
+    ensures { result ≡ codes "no alignment: " ++ decimal bits ++ codes " bits\n" }
+{
+    let mut text = Text::new();
+    text.text("no alignment: ");
+    text.number(bits);
+    text.text(" bits\n");
+    text
+}
+
+// The line of a payload that doesn't fill whole multiframes.
+#[tactic(auto, using(pdh_text::proofs::Lengths::digits))]
+fn not_whole(octets: u64) -> Text
+    ensures { result ≡ codes "not a whole multiframe: " ++ decimal octets ++ codes " octets\n" }
+{
+    let mut text = Text::new();
+    text.text("not a whole multiframe: ");
+    text.number(octets);
+    text.text(" octets\n");
+    text
+}
+
+// The line of a file with too few bits.
+#[tactic(auto, using(pdh_text::proofs::Lengths::digits))]
+fn short(file: File, have: u64, need: u64) -> Text
+    ensures { result ≡ codes "short: " ++ name_of file ++ codes ": have " ++ decimal have ++ codes " bits, need " ++ decimal need ++ codes "\n" }
+{
+    let mut text = Text::new();
+    text.text("short: ");
+    text.text(file.name().as_str());
+    text.text(": have ");
+    text.number(have);
+    text.text(" bits, need ");
+    text.number(need);
+    text.text("\n");
+    text
+}
+
+// The line of a node with too few frames.
+#[tactic(auto, using(pdh_text::proofs::Lengths::digits, pdh_text::proofs::Lengths::path_len))]
+fn short_node(node: Path, have: u64, need: u64) -> Text
+    ensures { result ≡ codes "short: " ++ path_text (steps_of node) ++ codes ": have " ++ decimal have ++ codes " frames, need " ++ decimal need ++ codes "\n" }
+{
+    let mut text = Text::new();
+    text.text("short: ");
+    text.path(&node);
+    text.text(": have ");
+    text.number(have);
+    text.text(" frames, need ");
+    text.number(need);
+    text.text("\n");
+    text
+}
+
+// The line of what an inspection of a chain's line found.
+#[tactic(auto, using(pdh_text::proofs::Lengths::digits))]
+fn inspected(chain: Chain, frames: u64, events: u64) -> Text
+    ensures { result ≡ codes "inspect " ++ name_of_chain chain ++ codes ": frames " ++ decimal frames ++ codes " events " ++ decimal events ++ codes "\n" }
+{
+    let mut text = Text::new();
+    text.text("inspect ");
+    text.text(chain.name());
+    text.text(": frames ");
+    text.number(frames);
+    text.text(" events ");
+    text.number(events);
+    text.text("\n");
+    text
+}
+
+// The line of what an inspection of a framed 2048 kbit/s line found.
+#[tactic(auto, using(pdh_text::proofs::Lengths::digits))]
+fn e1_inspected(multiframes: u64, events: u64) -> Text
+    ensures { result ≡ codes "inspect e1: multiframes " ++ decimal multiframes ++ codes " events " ++ decimal events ++ codes "\n" }
+{
+    let mut text = Text::new();
+    text.text("inspect e1: multiframes ");
+    text.number(multiframes);
+    text.text(" events ");
+    text.number(events);
+    text.text("\n");
+    text
+}
+
+fn stop_text(stop: Stop) -> Text
+    ensures { result ≡ stop_of stop }
+{
+    match stop {
+        Stop::Memory => plain("memory"),
+        Stop::Usage => plain(
+            "usage: pdh mux demux clock inspect show e1pack e1unpack disturb drill",
+        ),
+        Stop::Read(file) => named("read fault: ", file),
+        Stop::Write(file) => named("write fault: ", file),
+        Stop::Missing(file) => named("missing: ", file),
+        Stop::LongSchedule => plain("schedule: too long"),
+        Stop::BadRow(line) => faulty("schedule: line ", line, ": bad row"),
+        Stop::UnknownNode(line) => faulty("schedule: line ", line, ": unknown node"),
+        Stop::CountOver(line, count, most) => over(line, count, most),
+        Stop::ShortNode(node, have, need) => short_node(node, have, need),
+        Stop::Short(file, have, need) => short(file, have, need),
+        Stop::Overflow(place) => placed("overflow: ", place),
+        Stop::Underflow(place) => placed("underflow: ", place),
+        Stop::LongScript => plain("script: too long"),
+        Stop::BadScriptRow(line) => faulty("script: line ", line, ": bad row"),
+        Stop::PastEnd(line) => faulty("script: line ", line, ": past the end"),
+        Stop::ManyFrames(frames) => counted("too many frames: ", frames),
+        Stop::NoAlignment(bits) => no_alignment(bits),
+        Stop::NotWhole(octets) => not_whole(octets),
+    }
+}
+
+// Writes what a monitor says, as a line.
+fn write_line<K: Sink>(out: &mut K, monitor: &Box<dyn Monitor>) -> Result<(), Failed>
+    ensures ok { OnOk result ((line : List ℕ) × Says (⟦<Box<dyn Monitor> as Monitor>⟧.state monitor.now) line × Sends (line ++ codes "\n") (K.state out.old) (K.state out.new)) }
+    ensures err { OnErr result ((line : List ℕ) × Says (⟦<Box<dyn Monitor> as Monitor>⟧.state monitor.now) line × FailsToSend (line ++ codes "\n") (K.state out.old) (K.state out.new)) }
+{
+    let mut room = [0u8; 161];
+    let len = monitor.line(&mut room[..160]);
+    room[len] = b'\n';
+    out.write(&room[..len + 1])
+}
+
+// Writes what each monitor says, a line each, and then a last line. A line that can't be written ends it.
+fn write_lines<K: Sink>(
+    out: &mut K,
+    monitors: &[Box<dyn Monitor>],
+    last: &[u8],
+) -> Result<(), Failed>
+    ensures ok { OnOk result ((lines : List ℕ) × AreLines (map ⟦<Box<dyn Monitor> as Monitor>⟧.state monitors.now) lines × Sends (lines ++ last.now) (K.state out.old) (K.state out.new)) }
+    ensures err { OnErr result ((lines : List ℕ) × AreLines (map ⟦<Box<dyn Monitor> as Monitor>⟧.state monitors.now) lines × FailsToSend (lines ++ last.now) (K.state out.old) (K.state out.new)) }
+{
+    for place in 0..monitors.len() {
+        write_line(out, &monitors[place])?;
+    }
+    out.write(last)
+}
+
+// Writes the text of what was done.
+fn write_done<K: Sink>(
+    out: &mut K,
+    monitors: &[Box<dyn Monitor>],
+    done: &Done,
+) -> Result<(), Failed>
+    ensures ok { OnOk result ((text : List ℕ) × IsText (map ⟦<Box<dyn Monitor> as Monitor>⟧.state monitors.now) done.now text × Sends text (K.state out.old) (K.state out.new)) }
+    ensures err { OnErr result ((text : List ℕ) × IsText (map ⟦<Box<dyn Monitor> as Monitor>⟧.state monitors.now) done.now text × FailsToSend text (K.state out.old) (K.state out.new)) }
+{
+    let text = match done {
+        Done::Inspected(chain, frames, events) => {
+            let last = inspected(*chain, *frames, *events);
+            return write_lines(out, monitors, last.bytes());
+        }
+        Done::E1Inspected(multiframes, events) => {
+            let last = e1_inspected(*multiframes, *events);
+            return write_lines(out, monitors, last.bytes());
+        }
+        Done::Shown(text) => return out.write(text.bytes()),
+        Done::Demuxed(chain, frames) => chain_counted("demux ", *chain, ": frames ", *frames),
+        Done::Muxed(chain, frames) => chain_counted("mux ", *chain, ": frames ", *frames),
+        Done::ClockInside(chain) => inside(*chain),
+        Done::ClockOutside(chain, out) => outside(*chain, *out),
+        Done::ClockMade(chain, rows) => chain_counted("clock ", *chain, ": rows ", *rows),
+        Done::E1Packed(multiframes) => counted("e1pack: multiframes ", *multiframes),
+        Done::E1Unpacked(found) => unpacked(*found),
+        Done::Drilled(chain, seed, frames, report) => drilled(*chain, *seed, *frames, *report),
+        Done::Disturbed(chain, bits) => chain_counted("disturb ", *chain, ": bits ", *bits),
+    };
+    out.write(text.bytes())
+}
+
+/// Writes the text of an answer, that of an inspection behind the lines of the monitors, and answers the status.
+pub fn report<K: Sink>(out: &mut K, answer: Result<Done, Stop>, monitors: &[Box<dyn Monitor>]) -> u8
+    ensures { IsTold (map ⟦<Box<dyn Monitor> as Monitor>⟧.state monitors.now) answer (K.state out.old) (K.state out.new) result }
+{
+    match answer {
+        Ok(done) => match write_done(out, monitors, &done) {
+            Ok(()) => 0,
+            Err(_) => 4,
+        },
+        Err(stop) => {
+            let _ = out.write(stop_text(stop).bytes());
+            stop.status()
+        }
+    }
+}

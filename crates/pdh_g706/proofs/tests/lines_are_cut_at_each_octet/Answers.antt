@@ -1,8 +1,0 @@
-use Rattle.std.proofs.Common.{ap, ◌∙◌}
-use Rattle.pdh_g706.proofs.tests.lines_are_cut_at_each_octet.Goals as goal
-
-pub loop-place-preserved : goal.loop-place-preserved
-loop-place-preserved g c = record {
-  stands = c.in_ok-push_all.ensures.stands;
-  list = ap (λ h. h 0) c.push_all.ensures.holds ∙ c.loop-place.invariant.list;
-}

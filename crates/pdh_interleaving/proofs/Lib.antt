@@ -1,0 +1,4 @@
+pub mod InterleavingLaws
+pub mod TurnLaws
+pub mod DealtLaws
+pub mod RowLaws

@@ -1,0 +1,191 @@
+-- Bits of tributaries in turn, for any number of tributaries.
+use Rattle.std.proofs.Common.{◌≡◌, ℕ, zero, suc, ◌+◌, ◌-◌, ◌*◌, ◌/◌, ◌%◌, ◌<◌, ◌≤◌, Bool, false, List, [], ◌++◌, length, map, take, drop, get_or, sym, ◌∙◌, ap, arith, inl, inr, length-append, length-take}
+use Rattle.std.proofs.lemmas.Bool.{cases_lt}
+use Rattle.std.proofs.lemmas.List.{get_or_append_left, get_or-append_right, get_or-take, get_or-drop, get_or-map, get_or_default, same_lists, length-map, take_at}
+use Rattle.std.proofs.lemmas.Nat.{mod-mul-add, div-mul-add}
+use Rattle.std.proofs.lemmas.List.FromFn.{get_or-map-range_with_len, length-map-range_with_len}
+use Rattle.std.proofs.Math.Nat.{zero-add, add-mul, mod-lt, div-lt_iff_lt-mul, mul-add-mod_self_right, mul-add-div_right, mul-le-mul_right, div-add-mod'}
+use Rattle.std.specs.List.{range_with_len}
+use Rattle.pdh_interleaving.specs.Interleaving.{bit_in_turn, interleaved, column}
+
+pub length-interleaved : (lists : List (List Bool)) (n : ℕ) → length (interleaved lists n) ≡ n * length lists
+unfolding interleaved
+length-interleaved lists n = length-map-range_with_len (bit_in_turn lists) 0 (n * length lists)
+
+-- the bit at a place
+pub get_or-interleaved : (lists : List (List Bool)) (n s : ℕ) (d : Bool) → s < n * length lists → get_or (interleaved lists n) s d ≡ bit_in_turn lists s
+unfolding interleaved
+get_or-interleaved lists n s d within = get_or-map-range_with_len (bit_in_turn lists) 0 (n * length lists) s s d within (zero-add s)
+
+some_lists : (n t s : ℕ) → s < n * t → 0 < t
+some_lists n zero s within = let none : n * 0 ≡ 0 = omega arith in absurd (omega arith)
+some_lists n (suc t) s within = omega arith
+
+-- lists that begin alike give the same bits
+pub same_turns : (xs ys : List (List Bool)) (n : ℕ) → length xs ≡ length ys → ((j i : ℕ) → j < length xs → i < n → get_or (get_or xs j []) i false ≡ get_or (get_or ys j []) i false) → interleaved xs n ≡ interleaved ys n
+same_turns xs ys n many alike =
+    let times : n * length xs ≡ n * length ys = ap (λ (t : ℕ). n * t) many in
+    same_lists (interleaved xs n) (interleaved ys n) (length-interleaved xs n ∙ times ∙ sym (length-interleaved ys n)) (λ s d within. at s d (omega (arith, length-interleaved xs n)))
+  where
+    at : (s : ℕ) (d : Bool) → s < n * length xs → get_or (interleaved xs n) s d ≡ get_or (interleaved ys n) s d
+    at s d within =
+        let some : 0 < length xs = some_lists n (length xs) s within in
+        let times : n * length xs ≡ n * length ys = ap (λ (t : ℕ). n * t) many in
+        let row : s / length xs < n = (div-lt_iff_lt-mul some).1 within in
+        let turn = ap (λ (t : ℕ). get_or (get_or ys (s % t) []) (s / t) false) many in
+        get_or-interleaved xs n s d within ∙ alike (s % length xs) (s / length xs) (mod-lt s some) row ∙ turn ∙ sym (get_or-interleaved ys n s d (omega arith))
+
+-- bits in turn after others in turn
+pub more_turns : (lists : List (List Bool)) (n m : ℕ) → interleaved lists (n + m) ≡ interleaved lists n ++ interleaved (map (drop n) lists) m
+more_turns lists n m =
+    let many : length (map (drop n) lists) ≡ length lists = length-map lists (drop n) in
+    let both : (n + m) * length lists ≡ n * length lists + m * length lists = add-mul n m (length lists) in
+    let rest_long : length (interleaved (map (drop n) lists) m) ≡ m * length lists = length-interleaved (map (drop n) lists) m ∙ ap (λ (t : ℕ). m * t) many in
+    same_lists (interleaved lists (n + m)) (interleaved lists n ++ interleaved (map (drop n) lists) m)
+    (omega (arith, length-interleaved lists (n + m), length-interleaved lists n, rest_long, both, length-append (interleaved lists n) (interleaved (map (drop n) lists) m)))
+    (λ s d within. at s d (omega (arith, length-interleaved lists (n + m))))
+  where
+    later : (r : ℕ) (d : Bool) → r < m * length lists → bit_in_turn lists (n * length lists + r) ≡ get_or (interleaved (map (drop n) lists) m) r d
+    later r d within =
+        let t : ℕ = length lists in
+        let some : 0 < t = some_lists m t r within in
+        let many : length (map (drop n) lists) ≡ t = length-map lists (drop n) in
+        let few : r < m * length (map (drop n) lists) = rw many within in
+        let who : (n * t + r) % t ≡ r % t = mul-add-mod_self_right n t r in
+        let when : (n * t + r) / t ≡ n + r / t = mul-add-div_right some n r in
+        let list : get_or (map (drop n) lists) (r % t) [] ≡ drop n (get_or lists (r % t) []) = get_or-map (drop n) lists (r % t) [] [] (mod-lt r some) in
+        let turn = ap (λ (k : ℕ). get_or (get_or (map (drop n) lists) (r % k) []) (r / k) false) many in
+        ap (λ (j : ℕ). get_or (get_or lists j []) ((n * t + r) / t) false) who ∙ ap (λ (i : ℕ). get_or (get_or lists (r % t) []) i false) when
+        ∙ sym (get_or-drop n (get_or lists (r % t) []) (r / t) false) ∙ ap (λ (bits : List Bool). get_or bits (r / t) false) (sym list) ∙ sym turn
+        ∙ sym (get_or-interleaved (map (drop n) lists) m r d few)
+
+    at : (s : ℕ) (d : Bool) → s < (n + m) * length lists → get_or (interleaved lists (n + m)) s d ≡ get_or (interleaved lists n ++ interleaved (map (drop n) lists) m) s d
+    at s d within =
+        let t : ℕ = length lists in
+        let first : List Bool = interleaved lists n in
+        let rest : List Bool = interleaved (map (drop n) lists) m in
+        let long : length first ≡ n * t = length-interleaved lists n in
+        let both : (n + m) * t ≡ n * t + m * t = add-mul n m t in
+        elim (cases_lt s (n * t)) [
+          | inl early ↦ get_or-interleaved lists (n + m) s d within ∙ sym (get_or-interleaved lists n s d early) ∙ sym (get_or_append_left first rest d s (omega arith))
+          | inr late ↦
+              let r : ℕ = s - n * t in
+              let whole : s ≡ n * t + r = omega arith in
+              get_or-interleaved lists (n + m) s d within ∙ ap (bit_in_turn lists) whole ∙ later r d (omega arith) ∙ sym (get_or-append_right first rest (n * t) s d long late)
+        ]
+
+-- the first of them
+pub first_turns : (lists : List (List Bool)) (n m : ℕ) → take (n * length lists) (interleaved lists (n + m)) ≡ interleaved lists n
+first_turns lists n m =
+    ap (take (n * length lists)) (more_turns lists n m) ∙ take_at (interleaved lists n) (interleaved (map (drop n) lists) m) (n * length lists) (length-interleaved lists n)
+
+pub length-column : (t n : ℕ) (line : List Bool) (j : ℕ) → length (column t n line j) ≡ n
+length-column t n line j = length-map-range_with_len (λ i. get_or line (i * t + j) false) 0 n
+
+pub get_or-column : (t n : ℕ) (line : List Bool) (j i : ℕ) (d : Bool) → i < n → get_or (column t n line j) i d ≡ get_or line (i * t + j) false
+get_or-column t n line j i d within = get_or-map-range_with_len (λ k. get_or line (k * t + j) false) 0 n i i d within (zero-add i)
+
+-- a column after another
+pub more_column : (t n m : ℕ) (line : List Bool) (j : ℕ) → column t (n + m) line j ≡ column t n line j ++ column t m (drop (n * t) line) j
+more_column t n m line j =
+    let first : List Bool = column t n line j in
+    let rest : List Bool = column t m (drop (n * t) line) j in
+    same_lists (column t (n + m) line j) (first ++ rest)
+    (omega (arith, length-column t (n + m) line j, length-append first rest, length-column t n line j, length-column t m (drop (n * t) line) j))
+    (λ i d within. at i d (omega (arith, length-column t (n + m) line j)))
+  where
+    at : (i : ℕ) (d : Bool) → i < n + m → get_or (column t (n + m) line j) i d ≡ get_or (column t n line j ++ column t m (drop (n * t) line) j) i d
+    at i d within =
+        let first : List Bool = column t n line j in
+        let rest : List Bool = column t m (drop (n * t) line) j in
+        elim (cases_lt i n) [
+          | inl early ↦ get_or-column t (n + m) line j i d within ∙ sym (get_or-column t n line j i d early) ∙ sym (get_or_append_left first rest d i (omega (arith, length-column t n line j)))
+          | inr late ↦
+              let r : ℕ = i - n in
+              let whole : i ≡ n + r = omega arith in
+              let times : i * t + j ≡ n * t + (r * t + j) = ap (λ (k : ℕ). k * t + j) whole ∙ omega (arith, add-mul n r t) in
+              get_or-column t (n + m) line j i d within ∙ ap (λ (k : ℕ). get_or line k false) times ∙ sym (get_or-drop (n * t) line (r * t + j) false)
+              ∙ sym (get_or-column t m (drop (n * t) line) j r d (omega arith)) ∙ sym (get_or-append_right first rest n i d (length-column t n line j) late)
+        ]
+
+-- a list whose bits in turn begin a line has its column's bits
+pub column_of_turns : (lists : List (List Bool)) (line : List Bool) (n k j : ℕ) → k ≤ n → j < length lists → take (k * length lists) (interleaved lists n) ≡ take (k * length lists) line
+    → k ≤ length (get_or lists j []) → take k (get_or lists j []) ≡ column (length lists) k line j
+column_of_turns lists line n k j few who same long =
+    let t : ℕ = length lists in
+    let list : List Bool = get_or lists j [] in
+    let cut : length (take k list) ≡ k = omega (arith, length-take k list) in
+    same_lists (take k list) (column t k line j) (cut ∙ sym (length-column t k line j)) (λ i d within. at i d (omega arith))
+  where
+    at : (i : ℕ) (d : Bool) → i < k → get_or (take k (get_or lists j [])) i d ≡ get_or (column (length lists) k line j) i d
+    at i d within =
+        let t : ℕ = length lists in
+        let list : List Bool = get_or lists j [] in
+        let next : (i + 1) * t ≡ i * t + 1 * t = add-mul i 1 t in
+        let below : (i + 1) * t ≤ k * t = mul-le-mul_right t (omega arith) in
+        let below_all : k * t ≤ n * t = mul-le-mul_right t few in
+        let place : i * t + j < k * t = omega arith in
+        let some : 0 < t = omega arith in
+        let whose : (i * t + j) % t ≡ j = mod-mul-add i t j who in
+        let when : (i * t + j) / t ≡ i = div-mul-add i t j who in
+        let turn : bit_in_turn lists (i * t + j) ≡ get_or list i false = ap (λ (m : ℕ). get_or (get_or lists m []) ((i * t + j) / t) false) whose ∙ ap (λ (m : ℕ). get_or list m false) when in
+        get_or-take k list i d within ∙ get_or_default list i d false (omega arith) ∙ sym turn ∙ sym (get_or-interleaved lists n (i * t + j) false (omega arith))
+        ∙ sym (get_or-take (k * t) (interleaved lists n) (i * t + j) false place) ∙ ap (λ (bits : List Bool). get_or bits (i * t + j) false) same ∙ get_or-take (k * t) line (i * t + j) false place
+        ∙ sym (get_or-column t k line j i d within)
+
+-- every so many slots of a frame from slot j on
+abbrev pub slots_apart : (ℕ → Bool) → ℕ → ℕ → ℕ → List Bool
+slots_apart slot t n j = map (λ i. slot (i * t + j)) (range_with_len 0 n)
+
+-- the slots of a frame are its columns in turn
+pub columns_of_slots : (slot : ℕ → Bool) (t n : ℕ) → interleaved (map (slots_apart slot t n) (range_with_len 0 t)) n ≡ map slot (range_with_len 0 (n * t))
+columns_of_slots slot t n =
+    let columns : List (List Bool) = map (slots_apart slot t n) (range_with_len 0 t) in
+    let many : length columns ≡ t = length-map-range_with_len (slots_apart slot t n) 0 t in
+    let long : length (interleaved columns n) ≡ n * t = length-interleaved columns n ∙ ap (λ (k : ℕ). n * k) many in
+    same_lists (interleaved columns n) (map slot (range_with_len 0 (n * t))) (long ∙ sym (length-map-range_with_len slot 0 (n * t))) (λ s d within. at s d (omega arith))
+  where
+    at : (s : ℕ) (d : Bool) → s < n * t → get_or (interleaved (map (slots_apart slot t n) (range_with_len 0 t)) n) s d ≡ get_or (map slot (range_with_len 0 (n * t))) s d
+    at s d within =
+        let columns : List (List Bool) = map (slots_apart slot t n) (range_with_len 0 t) in
+        let many : length columns ≡ t = length-map-range_with_len (slots_apart slot t n) 0 t in
+        let some : 0 < t = some_lists n t s within in
+        let row : s / t < n = (div-lt_iff_lt-mul some).1 within in
+        let who : s % t < t = mod-lt s some in
+        let column = get_or-map-range_with_len (slots_apart slot t n) 0 t (s % t) (s % t) [] who (zero-add (s % t)) in
+        let place : s / t * t + s % t ≡ s = div-add-mod' s t in
+        get_or-interleaved columns n s d (rw many within) ∙ ap (λ (k : ℕ). get_or (get_or columns (s % k) []) (s / k) false) many
+        ∙ ap (λ (bits : List Bool). get_or bits (s / t) false) column
+        ∙ get_or-map-range_with_len (λ i. slot (i * t + s % t)) 0 n (s / t) (s / t) false row (zero-add (s / t)) ∙ ap slot place
+        ∙ sym (get_or-map-range_with_len slot 0 (n * t) s s d within (zero-add s))
+
+-- a line's columns in turn are the line
+pub turns_of_columns : (t n : ℕ) (line : List Bool) → n * t ≤ length line → interleaved (map (column t n line) (range_with_len 0 t)) n ≡ take (n * t) line
+turns_of_columns t n line enough =
+    let slot : ℕ → Bool = λ s. get_or line s false in
+    let all : length (map slot (range_with_len 0 (n * t))) ≡ n * t = length-map-range_with_len slot 0 (n * t) in
+    columns_of_slots slot t n
+    ∙ same_lists (map slot (range_with_len 0 (n * t))) (take (n * t) line) (omega (arith, all, length-take (n * t) line))
+    (λ s d within.
+    let here : s < n * t = omega arith in
+    get_or-map-range_with_len slot 0 (n * t) s s d here (zero-add s) ∙ get_or_default line s false d (omega arith) ∙ sym (get_or-take (n * t) line s d here))
+
+-- the first of a column
+pub take-column : (t n r : ℕ) (line : List Bool) (j : ℕ) → r ≤ n → take r (column t n line j) ≡ column t r line j
+take-column t n r line j few =
+    let rest : n ≡ r + (n - r) = omega arith in
+    ap (λ (k : ℕ). take r (column t k line j)) rest ∙ ap (take r) (more_column t r (n - r) line j)
+    ∙ take_at (column t r line j) (column t (n - r) (drop (r * t) line) j) r (length-column t r line j)
+
+-- lines that begin alike have the same columns
+pub same_column : (t r : ℕ) (xs ys : List Bool) (j : ℕ) → j < t → take (r * t) xs ≡ take (r * t) ys → column t r xs j ≡ column t r ys j
+same_column t r xs ys j who same =
+    same_lists (column t r xs j) (column t r ys j) (length-column t r xs j ∙ sym (length-column t r ys j)) (λ i d within. at i d (omega (arith, length-column t r xs j)))
+  where
+    at : (i : ℕ) (d : Bool) → i < r → get_or (column t r xs j) i d ≡ get_or (column t r ys j) i d
+    at i d within =
+        let next : (i + 1) * t ≡ i * t + 1 * t = add-mul i 1 t in
+        let below : (i + 1) * t ≤ r * t = mul-le-mul_right t (omega arith) in
+        let place : i * t + j < r * t = omega arith in
+        get_or-column t r xs j i d within ∙ sym (get_or-take (r * t) xs (i * t + j) false place) ∙ ap (λ (bits : List Bool). get_or bits (i * t + j) false) same
+        ∙ get_or-take (r * t) ys (i * t + j) false place ∙ sym (get_or-column t r ys j i d within)

@@ -1,0 +1,9 @@
+//! Bits of four or of seven tributaries in turn, as the payload of a frame has them: put together and
+//! dealt out, many at a time.
+#![tactic(auto)]
+
+mod kernels;
+mod table;
+mod turns;
+
+pub use turns::{deal, interleave};

@@ -1,0 +1,74 @@
+use pdh_ds::{Ds2, Ds3, Ds3C, parity};
+use pdh_shape::{Duty, Mark, Marks, Role, Service, Shape};
+use std::test::Fail;
+
+// How many slots of a frame carry the alignment signal, a service bit, a control, a justifiable bit
+// and a tributary's bit.
+fn roles<S: Shape>() -> [u32; 5] {
+    let mut counts = [0u32; 5];
+    for slot in 0..S::LEN {
+        let kind = match S::role(slot) {
+            Role::Align(_) => 0,
+            Role::Service(_) => 1,
+            Role::Control(_, _) => 2,
+            Role::Just(_) => 3,
+            Role::Info(_) => 4,
+        };
+        counts[kind] = counts[kind].saturating_add(1);
+    }
+    counts
+}
+
+// Whether a frame completes a loss by these framing bits of its own, after right frames.
+fn loses_by<S: Shape>(framing: u64) -> bool {
+    let clean = Marks {
+        framing: 0,
+        multi: false,
+    };
+    let wrong = Marks {
+        framing,
+        multi: false,
+    };
+    S::loses(&clean, &clean, &clean, &wrong)
+}
+
+#[test]
+fn ds2(rt: HostRuntime) -> Result<(), Fail> {
+    assert_eq!(rt; roles::<Ds2>(), [11, 1, 12, 4, 1148]);
+    assert_eq!(rt; Ds2::mark(98), Mark::Framing(0));
+    assert!(rt; Ds2::inverted(1));
+    assert_eq!(rt; Ds2::duty(0), Duty::Alarm);
+    assert!(rt; Ds2::service(0, &Service::idle(), false));
+    assert!(rt; loses_by::<Ds2>(9));
+    Ok(())
+}
+
+#[test]
+fn ds3(rt: HostRuntime) -> Result<(), Fail> {
+    assert_eq!(rt; roles::<Ds3>(), [31, 4, 21, 7, 4697]);
+    assert_eq!(rt; Ds3::mark(2720), Mark::Multi);
+    assert!(rt; !Ds3::inverted(1));
+    assert_eq!(rt; Ds3::duty(1), Duty::Parity);
+    assert!(rt; Ds3::service(1, &Service::idle(), true));
+    assert!(rt; loses_by::<Ds3>(0x8101));
+    Ok(())
+}
+
+#[test]
+fn ds3c(rt: HostRuntime) -> Result<(), Fail> {
+    assert_eq!(rt; roles::<Ds3C>(), [31, 25, 0, 7, 4697]);
+    assert_eq!(rt; Ds3C::role(510), Role::Service(3));
+    assert_eq!(rt; Ds3C::mark(2720), Mark::Multi);
+    assert!(rt; !Ds3C::inverted(1));
+    assert_eq!(rt; Ds3C::duty(4), Duty::PathParity);
+    assert!(rt; !Ds3C::service(4, &Service::idle(), false));
+    assert!(rt; Ds3C::service(8, &Service::idle(), false));
+    assert!(rt; loses_by::<Ds3C>(0x8101));
+    Ok(())
+}
+
+#[test]
+fn three_ones_are_odd(rt: HostRuntime) -> Result<(), Fail> {
+    assert!(rt; parity(&[true, false, true, true]));
+    Ok(())
+}

@@ -1,0 +1,73 @@
+//! Worked lines and words.
+
+use pdh_bits::bits_of;
+use pdh_e1::{PackFault, UnpackFault, crc4, pack, unpack};
+use std::test::Fail;
+
+/// The first octets of two multiframes of zeros.
+const FIRST_OCTETS: [u8; 32] = [
+    0x1B, 0x5F, 0x1B, 0x5F, 0x1B, 0xDF, 0x1B, 0x5F, 0x9B, 0xDF, 0x1B, 0xDF, 0x9B, 0xDF, 0x9B, 0xDF,
+    0x9B, 0x5F, 0x1B, 0x5F, 0x9B, 0xDF, 0x1B, 0x5F, 0x9B, 0xDF, 0x1B, 0xDF, 0x9B, 0xDF, 0x9B, 0xDF,
+];
+
+#[test]
+fn packs_zeros_and_takes_them_back(rt: HostRuntime) -> Result<(), Fail> {
+    let payload = vec![in rt.alloc(); 0u8; 992]?;
+    let line = pack(rt.alloc(), &payload)?;
+    assert_eq!(rt; line.len(), 1024);
+    for frame in 0..32 {
+        assert_eq!(rt; line.get(32 * frame), Some(&FIRST_OCTETS[frame]));
+        assert_eq!(rt; line.get(32 * frame + 31), Some(&0));
+    }
+    let back = unpack(rt.alloc(), &line)?;
+    assert_eq!(rt; back.as_slice(), payload.as_slice());
+    Ok(())
+}
+
+#[test]
+fn finds_a_payload_bit_that_was_turned(rt: HostRuntime) -> Result<(), Fail> {
+    let payload = vec![in rt.alloc(); 0u8; 992]?;
+    let mut line = pack(rt.alloc(), &payload)?;
+    if let Some(octet) = line.get_mut(5) {
+        *octet = 1;
+    }
+    assert_eq!(rt;
+        unpack(rt.alloc(), &line).err(),
+        Some(UnpackFault::Wrong { frame: 8 })
+    );
+    Ok(())
+}
+
+#[test]
+fn refuses_what_is_not_whole(rt: HostRuntime) -> Result<(), Fail> {
+    let octets = vec![in rt.alloc(); 0u8; 495]?;
+    assert_eq!(rt;
+        pack(rt.alloc(), &octets).err(),
+        Some(PackFault::NotWhole { len: 495 })
+    );
+    assert_eq!(rt;
+        unpack(rt.alloc(), &octets).err(),
+        Some(UnpackFault::NotWhole { len: 495 })
+    );
+    Ok(())
+}
+
+#[test]
+fn words_of_one_bit(rt: HostRuntime) -> Result<(), Fail> {
+    assert_eq!(rt; crc4(&[true]), 3);
+    assert_eq!(rt; crc4(&[true, false, false]), 12);
+    assert_eq!(rt; crc4(&[true, false, false, false]), 11);
+    Ok(())
+}
+
+/// Words that CRC-4/G-704 of the program crccheck has for these octets. It takes the least significant bit of an octet
+/// first, so its octets and its word were turned.
+#[test]
+fn words_by_another_program(rt: HostRuntime) -> Result<(), Fail> {
+    assert_eq!(rt; crc4(&bits_of(rt.alloc(), b"123456789")?), 14);
+    assert_eq!(rt; crc4(&bits_of(rt.alloc(), b"G.704")?), 6);
+    assert_eq!(rt; crc4(&bits_of(rt.alloc(), b"multiframe")?), 0);
+    assert_eq!(rt; crc4(&bits_of(rt.alloc(), &[0x1B, 0x5F])?), 1);
+    assert_eq!(rt; crc4(&bits_of(rt.alloc(), &[0xFF; 256])?), 4);
+    Ok(())
+}

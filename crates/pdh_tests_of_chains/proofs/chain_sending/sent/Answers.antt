@@ -1,0 +1,17 @@
+use Rattle.std.proofs.Common.{ap, length, ◌<◌, ◌∙◌, arith}
+use Rattle.pdh_edge.specs.Ports.{Outputs}
+use Rattle.pdh_edge.proofs.Holding.{inputs_hold}
+use Rattle.pdh_chain.specs.Chains.{leaves_of}
+use Rattle.pdh_tests_of_chains.proofs.chain_sending.sent.Goals as goal
+
+pub room-requires : goal.room-requires
+room-requires c = record { held = ap (λ (o : Outputs). o.holds 0) c.in_ok-port.ensures.outputs }
+
+pub mux-requires-clause-leaves : goal.mux-requires-clause-leaves
+mux-requires-clause-leaves c k low = inputs_hold c.in_ok-packed.field-0.items (leaves_of c.args.chain) k (c.room.ensures.inputs ∙ c.in_ok-port.ensures.inputs) (c.in_ok-packed.ensures ∙ ap length c.deref.ensures.value ∙ c.requires.lists) low
+
+pub left-requires : goal.left-requires
+left-requires c =
+    let known : c.loop-leaf.leaf < leaves_of c.args.chain = omega (arith, c.loop-leaf-test.true, c.leaves-leaf-end.ensures.value) in
+    ap (λ h. h c.loop-leaf.leaf) c.mux.ensures.kept.1
+    ∙ inputs_hold c.in_ok-packed.field-0.items (leaves_of c.args.chain) c.loop-leaf.leaf (c.room.ensures.inputs ∙ c.in_ok-port.ensures.inputs) (c.in_ok-packed.ensures ∙ ap length c.deref.ensures.value ∙ c.requires.lists) known

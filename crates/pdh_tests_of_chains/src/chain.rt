@@ -1,0 +1,259 @@
+ghost use Rattle.std.specs.Prelude.{◌≡◌, length, IfOk};
+ghost use Rattle.pdh_chain.specs.Chains.{leaves_of};
+
+use pdh_chain::{Chain, DemuxStop, MuxStop, demux, leaves, mux};
+use pdh_clock::Schedule;
+use pdh_edge::MemPort;
+use pdh_packed::Packed;
+use pdh_shape::{Place, TOP};
+use pdh_watch::{Event, Quiet, Watch};
+use std::alloc::{AllocError, Global};
+use std::test::Fail;
+
+// So many zeros.
+fn no_ones(alloc: Global, count: usize) -> Result<Packed, AllocError> {
+    let bits = vec![in alloc; false; count]?;
+    Packed::of_bits(alloc, &bits)
+}
+
+// A list of zeros for each leaf, of these lengths.
+fn zeros(alloc: Global, lengths: [usize; 4]) -> Result<Vec<Packed>, AllocError>
+    ensures { IfOk result (λ lists. length lists.items ≡ 4) }
+{
+    let mut lists = Vec::new(alloc);
+    lists.push(no_ones(alloc, lengths[0])?)?;
+    lists.push(no_ones(alloc, lengths[1])?)?;
+    lists.push(no_ones(alloc, lengths[2])?)?;
+    lists.push(no_ones(alloc, lengths[3])?)?;
+    Ok(lists)
+}
+
+// The end of a run over the frames of a schedule, and how many bits it put, for a chain of one level.
+fn run(
+    alloc: Global,
+    chain: Chain,
+    schedule: &[u8],
+    lengths: [usize; 4],
+) -> Result<(Result<(), MuxStop>, usize), Fail>
+    requires { leaves_of chain ≡ 4 }
+{
+    let clock = Schedule::read(alloc, chain.levels(), schedule)?;
+    let mut port = MemPort::open(alloc, zeros(alloc, lengths)?, 1)?;
+    port.room(0, 4_096)?;
+    let end = mux(alloc, chain, &clock, clock.frames(&TOP), None, &mut port);
+    Ok((end, port.output(0).len()))
+}
+
+fn event(over: bool, trib: u8, frame: u64, slot: u32) -> Result<(), MuxStop> {
+    Err(MuxStop::Event {
+        over,
+        place: Place {
+            path: TOP,
+            trib,
+            frame,
+            slot,
+        },
+    })
+}
+
+// A leaf gives 24 bits before the first frame, and then the counts of the frames.
+#[test]
+fn ends_and_lengths(rt: HostRuntime) -> Result<(), Fail> {
+    let two: &[u8] = b"/ 2 205 205 205 205\n";
+    let over: &[u8] = b"/ 1 206 206 206 206\n/ 1 848 848 848 848\n";
+    let under: &[u8] = b"/ 1 0 206 206 206\n";
+    let cases = [
+        (Chain::E12, two, [434; 4], Ok(()), 1_696),
+        (
+            Chain::E12,
+            two,
+            [434, 434, 433, 434],
+            Err(MuxStop::Ended { leaf: 2 }),
+            848,
+        ),
+        (
+            Chain::E12,
+            two,
+            [434, 23, 0, 434],
+            Err(MuxStop::Ended { leaf: 1 }),
+            0,
+        ),
+        (Chain::E12, over, [1_078; 4], event(true, 4, 1, 27), 848),
+        (Chain::E12, under, [230; 4], event(false, 1, 0, 108), 0),
+        (
+            Chain::M12,
+            b"/ 1 288 288 288 288\n",
+            [312; 4],
+            Ok(()),
+            1_176,
+        ),
+        (
+            Chain::E23,
+            b"/ 1 378 378 378 378\n",
+            [402; 4],
+            Ok(()),
+            1_536,
+        ),
+        (
+            Chain::E34,
+            b"/ 1 723 723 723 723\n",
+            [747; 4],
+            Ok(()),
+            2_928,
+        ),
+        (
+            Chain::E34,
+            b"/ 1 722 722 722 722\n",
+            [745; 4],
+            Err(MuxStop::Ended { leaf: 0 }),
+            0,
+        ),
+    ];
+    for (chain, schedule, lengths, end, bits) in cases {
+        assert_eq!(rt; leaves(chain), 4);
+        let got = run(rt.alloc(), chain, schedule, lengths)?;
+        assert_eq!(rt; got, (end, bits), "{chain:?}");
+    }
+    Ok(())
+}
+
+// How a demultiplexer ends that is to take so many bits of a line of zeros, and how many bits its
+// last leaf gets.
+fn run_demux(
+    alloc: Global,
+    chain: Chain,
+    zeros: usize,
+    bits: u32,
+) -> Result<(Result<u64, DemuxStop>, usize), Fail> {
+    let mut lists = Vec::new(alloc);
+    lists.push(no_ones(alloc, zeros)?)?;
+    let count = leaves(chain);
+    let mut port = MemPort::open(alloc, lists, count)?;
+    for leaf in 0..count {
+        port.room(leaf, zeros / count as usize + 1)?;
+    }
+    let end = demux(alloc, chain, u64::from(bits), &mut port, &mut Quiet);
+    Ok((end, port.output(count - 1).len()))
+}
+
+// No position of a line of zeros is confirmed, and each whole frame's length of positions gives ones. Nor is one of a line of
+// ones, of which a node below the top needs four frames' length less a bit for its leaves to get any: nine frames' ones of the
+// node above.
+#[test]
+fn gaps(rt: HostRuntime) -> Result<(), Fail> {
+    let cases = [
+        (Chain::E12, 8_480, 8_480, Ok(0), 1_435),
+        (Chain::E12, 8_480, 8_481, Err(DemuxStop::Ended), 1_435),
+        (Chain::E12, 8_480, 3_391, Ok(0), 205),
+        (Chain::E12, 8_480, 3_390, Ok(0), 0),
+        (Chain::E23, 6_143, 6_143, Ok(0), 377),
+        (Chain::E23, 6_142, 6_142, Ok(0), 0),
+        (Chain::E34, 11_711, 11_711, Ok(0), 722),
+        (Chain::E34, 0, 1, Err(DemuxStop::Ended), 0),
+        (Chain::E13, 18_431, 18_431, Ok(0), 205),
+        (Chain::E13, 18_431, 18_430, Ok(0), 0),
+        (Chain::E24, 35_135, 35_135, Ok(0), 377),
+        (Chain::E14, 11_711, 11_711, Ok(0), 0),
+        (Chain::M12, 11_760, 11_760, Ok(0), 2_009),
+        (Chain::M23, 19_039, 19_039, Ok(0), 671),
+        (Chain::M23, 19_038, 19_038, Ok(0), 0),
+        (Chain::M13, 52_359, 52_359, Ok(0), 287),
+        (Chain::C13, 52_359, 52_359, Ok(0), 287),
+        (Chain::C13, 52_358, 52_358, Ok(0), 0),
+    ];
+    for (chain, zeros, bits, end, got) in cases {
+        let ran = run_demux(rt.alloc(), chain, zeros, bits)?;
+        assert_eq!(rt; ran, (end, got), "{chain:?} {bits}");
+    }
+    Ok(())
+}
+
+// Sees events, and doesn't say that it ignores them.
+#[derive(Clone, Copy, Debug, Drop)]
+struct Seeing;
+
+impl Watch for Seeing {
+    ghost saw = { λ a xs b. Unit {0} };
+
+    ghost saw_nothing = { λ a. tt };
+
+    ghost saw_join = { λ a b c xs ys p q. tt };
+
+    fn note(&mut self, _event: &Event) {}
+
+    fn ignores(&self) -> bool {
+        false
+    }
+}
+
+// The line that a chain of one level makes of zeros by a schedule, with the bits of these inverted that stand between two places.
+fn made(
+    alloc: Global,
+    chain: Chain,
+    schedule: &[u8],
+    inverted: [usize; 2],
+) -> Result<Vec<bool>, Fail>
+    requires { leaves_of chain ≡ 4 }
+{
+    let clock = Schedule::read(alloc, chain.levels(), schedule)?;
+    let mut port = MemPort::open(alloc, zeros(alloc, [9_000; 4])?, 1)?;
+    port.room(0, 40_000)?;
+    mux(alloc, chain, &clock, clock.frames(&TOP), None, &mut port).is_ok();
+    let mut line = Vec::new(alloc);
+    for bit in port.output(0).to_bits(alloc)? {
+        line.push(bit != (inverted[0] <= line.len() && line.len() < inverted[1]))?;
+    }
+    Ok(line)
+}
+
+// How a demultiplexer of a whole line ends, and the bits that its leaves get, one leaf's behind another's.
+fn demuxed<W: Watch>(
+    alloc: Global,
+    chain: Chain,
+    line: Vec<bool>,
+    watch: &mut W,
+) -> Result<(Result<u64, DemuxStop>, Vec<bool>), Fail> {
+    let bits = line.len();
+    let mut lists = Vec::new(alloc);
+    lists.push(Packed::of_bits(alloc, &line)?)?;
+    let count = leaves(chain);
+    let mut port = MemPort::open(alloc, lists, count)?;
+    for leaf in 0..count {
+        port.room(leaf, bits)?;
+    }
+    let end = demux(alloc, chain, bits as u64, &mut port, watch);
+    let mut got = Vec::new(alloc);
+    for leaf in 0..count {
+        got.extend_from_slice(&port.output(leaf).to_bits(alloc)?)?;
+    }
+    Ok((end, got))
+}
+
+// A watch that ignores events makes a demultiplexer take many bits at a time, and one that sees them bit by bit: in alignment,
+// over a loss and after it, and in a gap.
+#[test]
+fn many_bits_at_a_time(rt: HostRuntime) -> Result<(), Fail> {
+    let e2: &[u8] = b"/ 12 205 205 205 205\n";
+    let e3: &[u8] = b"/ 12 377 377 377 377\n";
+    let e4: &[u8] = b"/ 12 722 722 722 722\n";
+    let ds2: &[u8] = b"/ 12 287 287 287 287\n";
+    let cases = [
+        (Chain::M12, Chain::M12, ds2, [0, 0]),
+        (Chain::M12, Chain::M12, ds2, [4_000, 6_000]),
+        (Chain::E12, Chain::E12, e2, [0, 0]),
+        (Chain::E12, Chain::E12, e2, [3_000, 7_000]),
+        (Chain::E13, Chain::E23, e3, [0, 0]),
+        (Chain::E34, Chain::E34, e4, [2_500, 19_000]),
+        (Chain::E24, Chain::E34, e4, [9_000, 21_000]),
+    ];
+    for (chain, top, schedule, inverted) in cases {
+        assert_eq!(rt; leaves(top), 4);
+        let line = made(rt.alloc(), top, schedule, inverted)?;
+        let again = line.clone()?;
+        let at_once = demuxed(rt.alloc(), chain, line, &mut Quiet)?;
+        let by_bits = demuxed(rt.alloc(), chain, again, &mut Seeing)?;
+        assert!(rt; at_once == by_bits, "{chain:?} {inverted:?}");
+        assert!(rt; !at_once.1.is_empty(), "{chain:?} {inverted:?}");
+    }
+    Ok(())
+}

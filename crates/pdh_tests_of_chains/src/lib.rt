@@ -1,0 +1,19 @@
+//! Tests of the crates of schedules, sent lines and chains, by what these crates make public.
+#![tactic(auto)]
+
+#[cfg(test)]
+mod chain;
+#[cfg(test)]
+mod chain_sending;
+#[cfg(test)]
+mod clock;
+#[cfg(test)]
+mod inspect;
+#[cfg(test)]
+mod lab;
+#[cfg(test)]
+mod script;
+#[cfg(test)]
+mod show;
+#[cfg(test)]
+mod tx;

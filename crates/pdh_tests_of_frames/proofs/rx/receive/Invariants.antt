@@ -1,0 +1,10 @@
+use Rattle.std.proofs.Common.{◌≡◌, Bool, List}
+use Rattle.pdh_rx.specs.Meaning.{HoldsAll}
+use Rattle.pdh_tests_of_frames.proofs.rx.receive.Given as goal
+
+abbrev pub invariant-loop-bit : goal.invariant-loop-bit
+invariant-loop-bit g l = record {
+  tells : (line : List Bool) × g.R.Rx.tells l.rx line;
+  lists : HoldsAll (g.R.Rx.meaning l.rx).leaves (g.D.Drain.outputs l.drain);
+  held : (g.D.Drain.outputs l.drain).holds ≡ (g.D.Drain.outputs l.fn.drain).holds;
+}

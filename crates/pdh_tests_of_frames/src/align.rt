@@ -1,0 +1,316 @@
+ghost use Rattle.std.specs.Prelude.{◌≡◌, ◌<◌, length};
+ghost use Rattle.pdh_align.specs.Aligning.{frames_gained};
+
+use pdh_align::{Aligner, Step};
+use pdh_packed::{Packed, Word};
+use pdh_shape::{E2, E3, E4, Role, Shape};
+use std::alloc::{AllocError, Global};
+use std::test::Fail;
+
+// Counts the steps over a line of frames, each of 106 bytes: their first byte, 0x10 and zeros.
+fn steps(alloc: Global, firsts: &[u8]) -> Result<[u32; 5], AllocError> {
+    let mut aligner = Aligner::<E2>::open(alloc)?;
+    let mut counts = [0u32; 5];
+    for first in firsts {
+        for place in 0..848u32 {
+            let byte = if place < 8 {
+                *first
+            } else if place < 16 && *first != 0 {
+                0x10
+            } else {
+                0
+            };
+            let bit = (byte >> (7 - place % 8)) & 1 == 1;
+            let kind = match aligner.push(bit) {
+                Step::Nothing => 0,
+                Step::Rejected => 1,
+                Step::Aligned => 2,
+                Step::Frame => 3,
+                Step::Lost => 4,
+            };
+            counts[kind] = counts[kind].saturating_add(1);
+        }
+    }
+    Ok(counts)
+}
+
+#[test]
+fn four_bad_signals_lose_the_alignment(rt: HostRuntime) -> Result<(), Fail> {
+    let counts = steps(
+        rt.alloc(),
+        &[0xF4, 0xF4, 0xF4, 4, 4, 4, 4, 0xF4, 0xF4, 0xF4, 0xF4, 0xF4],
+    )?;
+    assert_eq!(rt; counts, [9320, 848, 2, 5, 1]);
+    Ok(())
+}
+
+#[test]
+fn zeros_are_rejected(rt: HostRuntime) -> Result<(), Fail> {
+    let counts = steps(rt.alloc(), &[0, 0, 0, 0, 0, 0, 0, 0, 0, 0])?;
+    assert_eq!(rt; counts, [2543, 5937, 0, 0, 0]);
+    Ok(())
+}
+
+// A bit of a frame that has a one in the slot 20 + its number. The fourth signal bit of frame 3 is
+// wrong.
+fn numbered(frame: u32, slot: u32) -> bool {
+    match slot {
+        0 | 1 | 2 | 5 => true,
+        3 => frame != 3,
+        _ => slot.wrapping_sub(20) == frame,
+    }
+}
+
+#[test]
+fn ready_frames_are_read(rt: HostRuntime) -> Result<(), Fail> {
+    let mut aligner = Aligner::<E2>::open(rt.alloc())?;
+    let mut read = [0u32; 2];
+    for frame in 0..4 {
+        for slot in 0..848 {
+            match aligner.push(numbered(frame, slot)) {
+                Step::Aligned => {
+                    let first = [
+                        aligner.frame(2, 20),
+                        aligner.frame(2, 21),
+                        aligner.frame(2, 22),
+                    ];
+                    assert_eq!(rt; first, [true, false, false]);
+                    let last = [
+                        aligner.frame(0, 20),
+                        aligner.frame(0, 21),
+                        aligner.frame(0, 22),
+                    ];
+                    assert_eq!(rt; last, [false, false, true]);
+                    let marks = aligner.marks();
+                    assert_eq!(rt; (marks.framing, marks.multi), (0, false));
+                    read[0] = read[0].saturating_add(1);
+                }
+                Step::Frame => {
+                    assert_eq!(rt; [aligner.frame(0, 22), aligner.frame(0, 23)], [false, true]);
+                    let marks = aligner.marks();
+                    assert_eq!(rt; (marks.framing, marks.multi), (8, false));
+                    let mut bits = [false; 848];
+                    aligner.copy_frame(0, &mut bits);
+                    assert_eq!(rt;
+                        [bits[3], bits[5], bits[22], bits[23]],
+                        [false, true, false, true]
+                    );
+                    read[1] = read[1].saturating_add(1);
+                }
+                _ => {}
+            }
+        }
+    }
+    assert_eq!(rt; read, [1, 1]);
+    Ok(())
+}
+
+#[test]
+fn phases_tell_of_a_search(rt: HostRuntime) -> Result<(), Fail> {
+    let mut aligner = Aligner::<E2>::open(rt.alloc())?;
+    for slot in 0..848 {
+        aligner.push(numbered(0, slot));
+    }
+    let phases = aligner.phases().ok_or("no phases")?;
+    assert_eq!(rt; (phases.run_at(0), phases.run_at(1)), (1, 0));
+    Ok(())
+}
+
+// ---- taken bit by bit and many at once
+
+// What a frame's length of a line is.
+#[derive(Clone, Copy)]
+enum Part {
+    Right,
+    // the first bit of its alignment signal is wrong
+    Wrong,
+    // without its last bit
+    Short,
+    Noise,
+    Zeros,
+}
+
+// What tracking a line gained.
+#[derive(Drop)]
+struct Gains {
+    // positions that were passed over, alignments, further frames and losses
+    steps: [u32; 4],
+    // the delivered frames, one after another
+    frames: Packed,
+}
+
+// The next number of a made noise.
+fn noise(state: u64) -> u64 {
+    let state = state ^ (state << 13);
+    let state = state ^ (state >> 7);
+    state ^ (state << 17)
+}
+
+// A bit of a frame's length of a line, where the noise has this bit.
+fn bit_of<S: Shape>(part: Part, slot: u32, noise: bool) -> bool
+    requires { slot < S.LEN }
+{
+    match part {
+        Part::Zeros => false,
+        Part::Noise => noise,
+        _ => match S::role(slot) {
+            Role::Align(bit) => bit != (slot == 0 && matches!(part, Part::Wrong)),
+            _ => noise,
+        },
+    }
+}
+
+// A line of frames' lengths.
+fn line_of<S: Shape>(alloc: Global, parts: &[Part]) -> Result<Packed, AllocError> {
+    let mut line = Packed::open(alloc, parts.len().saturating_mul(S::LEN as usize))?;
+    let mut state = 88172645463325252u64;
+    for part in parts {
+        for slot in 0..S::LEN {
+            state = noise(state);
+            let last = slot + 1 == S::LEN && matches!(*part, Part::Short);
+            if !last && line.len() < line.capacity() {
+                line.append(Word::of_bits(&[bit_of::<S>(*part, slot, state % 2 == 1)]));
+            }
+        }
+    }
+    Ok(line)
+}
+
+// A bit of a line.
+fn bit_at(line: &Packed, place: usize) -> bool
+    requires { place < length line.now.bits }
+{
+    line.read(place, 1).get(0)
+}
+
+// Notes a step and the frames that it made ready.
+fn note<S: Shape>(aligner: &Aligner<S>, step: Step, gains: &mut Gains)
+    requires { length aligner.now.ready ≡ frames_gained step }
+{
+    let (kind, ready) = match step {
+        Step::Nothing => {
+            return;
+        }
+        Step::Rejected => (0, 0),
+        Step::Aligned => (1, 3),
+        Step::Frame => (2, 1),
+        Step::Lost => (3, 0),
+    };
+    gains.steps[kind] = gains.steps[kind].saturating_add(1);
+    for newer in 0..ready {
+        if gains.frames.capacity() - gains.frames.len() >= S::LEN as usize {
+            aligner.append_frame(ready - 1 - newer, &mut gains.frames);
+        }
+    }
+}
+
+fn no_gains(alloc: Global, line: &Packed) -> Result<Gains, AllocError> {
+    let frames = Packed::open(alloc, line.len())?;
+    Ok(Gains {
+        steps: [0; 4],
+        frames,
+    })
+}
+
+// What is gained where the line is taken bit by bit.
+fn gained_by_bits<S: Shape>(alloc: Global, line: &Packed) -> Result<Gains, AllocError> {
+    let mut aligner = Aligner::<S>::open(alloc)?;
+    let mut gains = no_gains(alloc, line)?;
+    for place in 0..line.len() {
+        let step = aligner.push(bit_at(line, place));
+        note(&aligner, step, &mut gains);
+    }
+    Ok(gains)
+}
+
+// What is gained where a receiver takes it.
+fn gained_by_slices<S: Shape>(alloc: Global, line: &Packed) -> Result<Gains, AllocError> {
+    let mut aligner = Aligner::<S>::open(alloc)?;
+    let mut gains = no_gains(alloc, line)?;
+    let mut done = aligner.take(line, 0);
+    for _turn in 0..line.len() {
+        if done >= line.len() {
+            break;
+        }
+        let passed = aligner.pass(line, done, 1000);
+        done += passed;
+        gains.steps[0] = gains.steps[0].saturating_add(passed as u32);
+        if passed == 0 {
+            let step = aligner.push(bit_at(line, done));
+            note(&aligner, step, &mut gains);
+            done += 1;
+        }
+        done += aligner.take(line, done);
+    }
+    Ok(gains)
+}
+
+// Whether two lists have the same bits.
+fn same(a: &Packed, b: &Packed) -> bool {
+    if a.len() != b.len() {
+        return false;
+    }
+    for place in 0..a.len() {
+        if bit_at(a, place) != bit_at(b, place) {
+            return false;
+        }
+    }
+    true
+}
+
+// Whether the same is gained both ways, and what.
+fn gained<S: Shape>(alloc: Global, parts: &[Part]) -> Result<(bool, [u32; 4]), AllocError> {
+    let line = line_of::<S>(alloc, parts)?;
+    let by_bits = gained_by_bits::<S>(alloc, &line)?;
+    let by_slices = gained_by_slices::<S>(alloc, &line)?;
+    let same = by_bits.steps == by_slices.steps && same(&by_bits.frames, &by_slices.frames);
+    Ok((same, by_bits.steps))
+}
+
+#[test]
+fn both_ways_gain_the_same(rt: HostRuntime) -> Result<(), Fail> {
+    let alloc = rt.alloc();
+    let right = [Part::Right; 6];
+    assert_eq!(rt; gained::<E2>(alloc, &right)?, (true, [0, 1, 3, 0]));
+    assert_eq!(rt; gained::<E3>(alloc, &right)?, (true, [0, 1, 3, 0]));
+    assert_eq!(rt; gained::<E4>(alloc, &right)?, (true, [0, 1, 3, 0]));
+    Ok(())
+}
+
+#[test]
+fn both_ways_gain_the_same_of_others(rt: HostRuntime) -> Result<(), Fail> {
+    let alloc = rt.alloc();
+    let zeros = [Part::Zeros; 6];
+    assert_eq!(rt; gained::<E2>(alloc, &zeros)?, (true, [2545, 0, 0, 0]));
+    let noise = [Part::Noise; 6];
+    assert_eq!(rt; gained::<E2>(alloc, &noise)?, (true, [2545, 0, 0, 0]));
+    let damaged = [
+        Part::Noise,
+        Part::Short,
+        Part::Right,
+        Part::Right,
+        Part::Right,
+        Part::Wrong,
+        Part::Right,
+        Part::Wrong,
+        Part::Wrong,
+        Part::Wrong,
+        Part::Wrong,
+        Part::Right,
+        Part::Right,
+        Part::Right,
+        Part::Right,
+        Part::Short,
+        Part::Noise,
+        Part::Noise,
+        Part::Right,
+        Part::Right,
+        Part::Zeros,
+        Part::Right,
+        Part::Right,
+        Part::Right,
+    ];
+    assert_eq!(rt; gained::<E2>(alloc, &damaged)?, (true, [4238, 3, 10, 2]));
+    assert_eq!(rt; gained::<E4>(alloc, &damaged)?, (true, [14638, 3, 10, 2]));
+    Ok(())
+}

@@ -1,0 +1,109 @@
+use pdh_events::{AisRun, FrameTeller, note_change, note_kind};
+use pdh_shape::{E2, TOP};
+use pdh_slots::SlotTables;
+use pdh_watch::{Event, Kind, Watch};
+use std::test::Fail;
+
+// Keeps the last event and the number of all.
+#[derive(Drop)]
+struct Last {
+    event: Option<Event>,
+    count: u32,
+}
+
+impl Watch for Last {
+    ghost use Rattle.std.specs.Prelude.{⊤};
+
+    ghost saw = { λ a xs b. ⊤ };
+
+    ghost saw_nothing = { λ a. tt };
+
+    ghost saw_join = { λ a b c xs ys p q. tt };
+
+    fn note(&mut self, event: &Event) {
+        self.event = Some(*event);
+        self.count = self.count.saturating_add(1);
+    }
+
+    fn ignores(&self) -> bool {
+        false
+    }
+}
+
+impl Last {
+    fn new() -> Last {
+        Last {
+            event: None,
+            count: 0,
+        }
+    }
+
+    // Whether it saw so many events, the last of this kind and bit.
+    fn is(&self, count: u32, kind: Kind, bit: u64) -> bool {
+        match self.event {
+            Some(event) => self.count == count && event.kind == kind && event.bit == bit,
+            None => false,
+        }
+    }
+}
+
+#[test]
+fn ais_from_the_fourth_one_on(rt: HostRuntime) -> Result<(), Fail> {
+    let mut last = Last::new();
+    let mut run = AisRun::new(4);
+    for number in 0..7 {
+        run.note(number != 2, TOP, number, &mut last);
+    }
+    assert!(rt; last.is(1, Kind::AIS_ON, 6));
+    run.note(true, TOP, 7, &mut last);
+    run.note(false, TOP, 8, &mut last);
+    assert!(rt; last.is(2, Kind::AIS_OFF, 8));
+    Ok(())
+}
+
+#[test]
+fn what_begins_and_ends(rt: HostRuntime) -> Result<(), Fail> {
+    let mut last = Last::new();
+    note_kind(Kind::LOST, TOP, 1, &mut last);
+    assert!(rt; last.is(1, Kind::LOST, 1));
+    note_change(
+        Kind::ALARM_ON,
+        Kind::ALARM_OFF,
+        true,
+        true,
+        TOP,
+        2,
+        &mut last,
+    );
+    note_change(
+        Kind::ALARM_ON,
+        Kind::ALARM_OFF,
+        false,
+        true,
+        TOP,
+        3,
+        &mut last,
+    );
+    assert!(rt; last.is(2, Kind::ALARM_ON, 3));
+    Ok(())
+}
+
+#[test]
+fn the_alarm_of_e2(rt: HostRuntime) -> Result<(), Fail> {
+    let tables = SlotTables::<E2>::open(rt.alloc())?;
+    let mut teller = FrameTeller::<E2>::open(rt.alloc())?;
+    let mut last = Last::new();
+    let mut frame = [false; 848];
+    teller.note(&tables, &frame, TOP, 2543, &mut last);
+    assert_eq!(rt; last.count, 0);
+    frame[10] = true;
+    teller.note(&tables, &frame, TOP, 3391, &mut last);
+    assert!(rt; last.is(1, Kind::ALARM_ON, 3391));
+    teller.lose();
+    frame[11] = true;
+    teller.note(&tables, &frame, TOP, 4239, &mut last);
+    frame[10] = false;
+    teller.note(&tables, &frame, TOP, 5087, &mut last);
+    assert!(rt; last.is(2, Kind::ALARM_OFF, 5087));
+    Ok(())
+}

@@ -1,0 +1,17 @@
+//! Tests of the crates of frames and of received lines, by what these crates make public.
+#![tactic(auto)]
+
+#[cfg(test)]
+mod align;
+#[cfg(test)]
+mod events;
+#[cfg(test)]
+mod g706;
+#[cfg(test)]
+mod phases;
+#[cfg(test)]
+mod runs;
+#[cfg(test)]
+mod rx;
+#[cfg(test)]
+mod store;

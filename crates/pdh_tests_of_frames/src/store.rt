@@ -1,0 +1,29 @@
+use pdh_shape::E2;
+use pdh_store::{Overflow, Store, Underflow, laws};
+use std::test::Fail;
+
+#[test]
+fn bits_leave_in_the_order_of_their_arrival(rt: HostRuntime) -> Result<(), Fail> {
+    let mut store = Store::open(rt.alloc())?;
+    assert_eq!(rt; store.leave(), Err(Underflow));
+    for place in 0..48u32 {
+        assert_eq!(rt; store.fill(), place);
+        assert_eq!(rt; store.carries_more(), place >= 24, "at {place}");
+        assert_eq!(rt; store.arrive(place % 3 == 0), Ok(()), "at {place}");
+    }
+    assert_eq!(rt; store.arrive(true), Err(Overflow));
+    assert_eq!(rt; store.fill(), 48);
+    for place in 0..48u32 {
+        assert_eq!(rt; store.leave(), Ok(place % 3 == 0), "at {place}");
+    }
+    assert_eq!(rt; store.leave(), Err(Underflow));
+    Ok(())
+}
+
+#[test]
+fn laws_hold_of_the_second_order_frame(_rt: HostRuntime) -> Result<(), Fail> {
+    laws::fill_at_frame_start::<E2>();
+    laws::fill_before_slot::<E2>();
+    laws::fill_after_arrivals::<E2>();
+    Ok(())
+}
