@@ -1,20 +1,22 @@
 use pdh_edge::{Call, Failed, Folder, MemShelf, MemSink, Out, Shelf, Sink};
-use std::alloc::AllocError;
+use std::alloc::{AllocError, Global};
 use std::fs::Files;
 use std::process::Abort;
 use std::{fs, io};
 
-#[test]
-fn shelf_in_memory(rt: HostRuntime) -> Result<(), AllocError> {
-    let mut shelf = MemShelf::open(rt.alloc())?;
+// A shelf with two files, the second of which has room for fewer bytes than its memory.
+fn shelf_of_two(alloc: Global) -> Result<MemShelf, AllocError> {
+    let mut shelf = MemShelf::open(alloc)?;
     shelf.hold("line", b"abcdef")?;
     shelf.hold("out", b"0123456789")?;
-    // fewer bytes than the file's memory has
     shelf.room("out", 4)?;
+    Ok(shelf)
+}
+
+#[test]
+fn sizes_of_files_in_memory(rt: HostRuntime) -> Result<(), AllocError> {
+    let mut shelf = shelf_of_two(rt.alloc())?;
     shelf.fail(Call::Size, 2)?;
-    shelf.fail(Call::Read, 1)?;
-    shelf.fail(Call::Start, 1)?;
-    shelf.fail(Call::Append, 2)?;
     for (name, want) in [
         ("line", Ok(Some(6))),
         ("none", Ok(None)),
@@ -23,23 +25,60 @@ fn shelf_in_memory(rt: HostRuntime) -> Result<(), AllocError> {
     ] {
         assert_eq!(rt; shelf.size(name), want, "size of {name}");
     }
-    for (at, want) in [(2, Ok(())), (2, Err(Failed)), (3, Ok(())), (4, Err(Failed))] {
+    assert_eq!(rt;
+        (shelf.read_faults(), shelf.write_faults(), shelf.misses()),
+        (1, 0, 1)
+    );
+    Ok(())
+}
+
+#[test]
+fn bytes_of_a_file_in_memory(rt: HostRuntime) -> Result<(), AllocError> {
+    let mut shelf = shelf_of_two(rt.alloc())?;
+    shelf.fail(Call::Read, 1)?;
+    for (at, want, read) in [
+        (2, Ok(()), b"cde"),
+        (2, Err(Failed), b"---"),
+        (3, Ok(()), b"def"),
+        (4, Err(Failed), b"---"),
+    ] {
         let mut buffer = [b'-'; 3];
         assert_eq!(rt;
             shelf.read_at("line", at, &mut buffer),
             want,
             "read at {at}"
         );
-        let read: &[u8] = match (want.is_ok(), at) {
-            (true, 2) => b"cde",
-            (true, _) => b"def",
-            (false, _) => b"---",
-        };
-        assert_eq!(rt; &buffer[..], read, "read at {at}");
+        assert_eq!(rt; &buffer[..], &read[..], "read at {at}");
     }
+    assert_eq!(rt;
+        (shelf.read_faults(), shelf.write_faults(), shelf.misses()),
+        (2, 0, 0)
+    );
+    Ok(())
+}
+
+#[test]
+fn starts_in_memory(rt: HostRuntime) -> Result<(), AllocError> {
+    let mut shelf = shelf_of_two(rt.alloc())?;
+    shelf.fail(Call::Start, 1)?;
     for (name, want) in [("line", Err(Failed)), ("out", Err(Failed)), ("out", Ok(()))] {
         assert_eq!(rt; shelf.start(name), want, "start of {name}");
     }
+    assert_eq!(rt; shelf.file("out"), Some(&b""[..]));
+    assert_eq!(rt; shelf.file("line"), Some(&b"abcdef"[..]));
+    assert_eq!(rt; shelf.file("none"), None);
+    assert_eq!(rt;
+        (shelf.read_faults(), shelf.write_faults(), shelf.misses()),
+        (0, 2, 0)
+    );
+    Ok(())
+}
+
+#[test]
+fn appends_in_memory(rt: HostRuntime) -> Result<(), AllocError> {
+    let mut shelf = shelf_of_two(rt.alloc())?;
+    shelf.fail(Call::Append, 2)?;
+    assert_eq!(rt; shelf.start("out"), Ok(()));
     for (name, piece, want) in [
         ("line", "a", Err(Failed)),
         ("out", "abc", Ok(())),
@@ -55,10 +94,9 @@ fn shelf_in_memory(rt: HostRuntime) -> Result<(), AllocError> {
     }
     assert_eq!(rt; shelf.file("out"), Some(&b"abcd"[..]));
     assert_eq!(rt; shelf.file("line"), Some(&b"abcdef"[..]));
-    assert_eq!(rt; shelf.file("none"), None);
     assert_eq!(rt;
         (shelf.read_faults(), shelf.write_faults(), shelf.misses()),
-        (3, 5, 1)
+        (0, 3, 0)
     );
     Ok(())
 }
@@ -80,24 +118,34 @@ fn sink_in_memory(rt: HostRuntime) -> Result<(), AllocError> {
     Ok(())
 }
 
-// What a folder does with one file.
-fn use_file<R: Files + Drop>(rt: &impl Abort, mut folder: Folder<R>, name: &str, below: &str) {
-    assert_eq!(rt; folder.size(name), Ok(None));
-    assert_eq!(rt; folder.append(name, b"ab"), Err(Failed));
+// Writes a file in a folder, twice anew, and then more to it.
+fn write_file<R: Files + Drop>(rt: &impl Abort, folder: &mut Folder<R>, name: &str) {
     for piece in ["wrong", "right"] {
         assert_eq!(rt; folder.start(name), Ok(()));
         assert_eq!(rt; folder.append(name, piece.as_bytes()), Ok(()));
     }
     assert_eq!(rt; folder.append(name, b" end"), Ok(()));
     assert_eq!(rt; folder.size(name), Ok(Some(9)));
-    // A name below a file isn't a file that is missing.
-    assert_eq!(rt; folder.size(below), Err(Failed));
+}
+
+// Reads parts of that file, and one past its end.
+fn read_file<R: Files + Drop>(rt: &impl Abort, folder: &mut Folder<R>, name: &str) {
     let mut buffer = [b'-'; 5];
     for (at, found) in [(3, b"ht en"), (0, b"right"), (4, b"t end")] {
         assert_eq!(rt; folder.read_at(name, at, &mut buffer), Ok(()));
         assert_eq!(rt; &buffer[..], &found[..]);
     }
     assert_eq!(rt; folder.read_at(name, 5, &mut buffer), Err(Failed));
+}
+
+// What a folder does with one file.
+fn use_file<R: Files + Drop>(rt: &impl Abort, mut folder: Folder<R>, name: &str, below: &str) {
+    assert_eq!(rt; folder.size(name), Ok(None));
+    assert_eq!(rt; folder.append(name, b"ab"), Err(Failed));
+    write_file(rt, &mut folder, name);
+    // A name below a file isn't a file that is missing.
+    assert_eq!(rt; folder.size(below), Err(Failed));
+    read_file(rt, &mut folder, name);
     assert_eq!(rt;
         (folder.read_faults(), folder.write_faults(), folder.misses()),
         (2, 1, 1)

@@ -12,8 +12,10 @@ use std::test::Fail;
 // So many bytes, of which neighbours differ.
 fn pattern(alloc: Global, count: usize) -> Result<Vec<u8>, AllocError> {
     let mut bytes = Vec::with_capacity(alloc, count)?;
-    for place in 0..count {
-        bytes.push((place % 251) as u8)?;
+    let mut byte = 0u8;
+    for _place in 0..count {
+        bytes.push(byte)?;
+        byte = if byte == 250 { 0 } else { byte.wrapping_add(1) };
     }
     Ok(bytes)
 }
@@ -94,34 +96,58 @@ fn leaves_over_borders(rt: HostRuntime) -> Result<(), Fail> {
     Ok(())
 }
 
+// Puts so many bytes to an output.
+fn take_bytes<R: Files + Drop>(
+    alloc: Global,
+    port: &mut ShelfPort<Folder<R>>,
+    leaf: u32,
+    count: usize,
+) -> Result<bool, AllocError> {
+    let bits = Packed::of_bytes(alloc, &pattern(alloc, count)?)?;
+    Ok(take(port, leaf, &bits).is_ok())
+}
+
 #[test]
 fn outputs_by_blocks(rt: HostRuntime) -> Result<(), Fail> {
     let alloc = rt.alloc();
     let mut folder = Folder::new(rt.clone()?);
     let mut port = port_over(alloc, Folder::new(rt.clone()?), 0)?;
-    let bytes = pattern(alloc, 4095)?;
-    let bits = Packed::of_bytes(alloc, &bytes)?;
-    let few = Packed::of_bytes(alloc, b"ab")?;
     // put before start: the first full block starts all outputs
-    assert_eq!(rt; take(&mut port, 1, &bits), Ok(()));
+    assert!(rt; take_bytes(alloc, &mut port, 1, 4095)?);
     assert_eq!(rt; folder.size("pb_4444"), Ok(None));
-    assert_eq!(rt; take(&mut port, 1, &few), Ok(()));
+    assert!(rt; take_bytes(alloc, &mut port, 1, 2)?);
     assert_eq!(rt; folder.size("pb_4444"), Ok(Some(4096)));
     assert_eq!(rt; folder.size("pb_333"), Ok(Some(0)));
     assert_eq!(rt; port.finish(), Ok(()));
-    assert_eq!(rt; folder.size("pb_4444"), Ok(Some(4097)));
-    let mut last = [0; 2];
+    let mut last = [7; 2];
     assert_eq!(rt; folder.read_at("pb_4444", 4095, &mut last), Ok(()));
-    assert_eq!(rt; &last[..], &b"ab"[..]);
+    assert_eq!(rt; last, [0, 1]);
     assert_eq!(rt; port.failed_name(), None);
-    // the first append to a file that is gone
     fs::remove_file(&rt, "pb_333")?;
-    assert_eq!(rt; take(&mut port, 0, &bits), Ok(()));
-    assert_eq!(rt; take(&mut port, 0, &few), Err(Failed));
+    fs::remove_file(&rt, "pb_4444")?;
+    Ok(())
+}
+
+#[test]
+fn append_to_a_file_that_is_gone(rt: HostRuntime) -> Result<(), Fail> {
+    let alloc = rt.alloc();
+    let mut port = port_over(alloc, Folder::new(rt.clone()?), 0)?;
+    assert_eq!(rt; port.start(), Ok(()));
+    fs::remove_file(&rt, "pb_333")?;
+    assert!(rt; take_bytes(alloc, &mut port, 0, 4095)?);
+    assert!(rt; !take_bytes(alloc, &mut port, 0, 2)?);
     assert_eq!(rt; (port.drain_faults(), port.failed_name()), (1, Some(2)));
     assert_eq!(rt; port.close().write_faults(), 1);
-    // another port makes them empty
-    let mut port = port_over(alloc, Folder::new(rt.clone()?), 0)?;
+    fs::remove_file(&rt, "pb_4444")?;
+    Ok(())
+}
+
+#[test]
+fn start_makes_files_empty(rt: HostRuntime) -> Result<(), Fail> {
+    let mut folder = Folder::new(rt.clone()?);
+    assert_eq!(rt; folder.start("pb_333"), Ok(()));
+    assert_eq!(rt; folder.append("pb_333", b"ab"), Ok(()));
+    let mut port = port_over(rt.alloc(), Folder::new(rt.clone()?), 0)?;
     assert_eq!(rt; port.start(), Ok(()));
     assert_eq!(rt; folder.size("pb_333"), Ok(Some(0)));
     assert_eq!(rt; folder.size("pb_4444"), Ok(Some(0)));
