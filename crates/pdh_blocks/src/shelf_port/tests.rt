@@ -119,6 +119,7 @@ fn outputs_by_blocks(rt: HostRuntime) -> Result<(), Fail> {
     assert_eq!(rt; folder.size("pb_4444"), Ok(Some(4096)));
     assert_eq!(rt; folder.size("pb_333"), Ok(Some(0)));
     assert_eq!(rt; port.finish(), Ok(()));
+    assert_eq!(rt; folder.size("pb_4444"), Ok(Some(4097)));
     let mut last = [7; 2];
     assert_eq!(rt; folder.read_at("pb_4444", 4095, &mut last), Ok(()));
     assert_eq!(rt; last, [0, 1]);
@@ -147,6 +148,8 @@ fn start_makes_files_empty(rt: HostRuntime) -> Result<(), Fail> {
     let mut folder = Folder::new(rt.clone()?);
     assert_eq!(rt; folder.start("pb_333"), Ok(()));
     assert_eq!(rt; folder.append("pb_333", b"ab"), Ok(()));
+    assert_eq!(rt; folder.start("pb_4444"), Ok(()));
+    assert_eq!(rt; folder.append("pb_4444", b"ab"), Ok(()));
     let mut port = port_over(rt.alloc(), Folder::new(rt.clone()?), 0)?;
     assert_eq!(rt; port.start(), Ok(()));
     assert_eq!(rt; folder.size("pb_333"), Ok(Some(0)));
