@@ -1,5 +1,5 @@
 -- Lists of bits, one for each leaf, and what calls take of them and put to them.
-use Rattle.std.specs.Prelude.{◌≡◌, ℕ, ◌+◌, ◌≤◌, Bool, ◌==◌, if◌then◌else◌, List, [], ◌∷◌, ◌++◌, length, Option, Some, None, Result, Ok, Err}
+use Rattle.std.specs.Prelude.{◌≡◌, ℕ, ◌+◌, Bool, ◌==◌, if◌then◌else◌, List, [], ◌∷◌, ◌++◌, length, Option, Some, None, Result, Ok, Err}
 use Rattle.pdh_edge.specs.declared.port.FeedStop.{FeedStop}
 use Rattle.pdh_edge.specs.declared.port.FeedStop.TheVariants.{Failed, Ended}
 use Rattle.pdh_edge.specs.Counts.{one_more}

@@ -15,8 +15,7 @@ use std::rt::Files;
 #[derive(Drop)]
 pub struct Folder<R: Files + Drop> {
     rt: R,
-    reading: OpenFiles<R::File>,
-    appending: OpenFiles<R::File>,
+    open: OpenFiles<R::File>,
     read_faults: u64,
     write_faults: u64,
     misses: u64,
@@ -29,8 +28,7 @@ impl<R: Files + Drop> Folder<R> {
     {
         Folder {
             rt,
-            reading: OpenFiles::new(),
-            appending: OpenFiles::new(),
+            open: OpenFiles::new(),
             read_faults: 0,
             write_faults: 0,
             misses: 0,
@@ -39,19 +37,14 @@ impl<R: Files + Drop> Folder<R> {
 }
 
 // Makes a file empty, and closes what was open of that name.
-fn create<R: Files + Drop>(
-    rt: &R,
-    reading: &mut OpenFiles<R::File>,
-    appending: &mut OpenFiles<R::File>,
-    name: &str,
-) -> io::Result<()> {
-    reading.close(name);
-    appending.close(name);
+fn create<R: Files + Drop>(rt: &R, open: &mut OpenFiles<R::File>, name: &str) -> io::Result<()> {
+    open.close(name);
     fs::create(rt, name)?;
     Ok(())
 }
 
-// Fills the buffer from a place of a file, which stays open.
+// Fills the buffer from a place of a file, which stays open unless that fails. Where it reads on from
+// there, it isn't told the place.
 fn fill<R: Files + Drop>(
     rt: &R,
     open: &mut OpenFiles<R::File>,
@@ -59,30 +52,31 @@ fn fill<R: Files + Drop>(
     at: u64,
     into: &mut [u8],
 ) -> io::Result<()> {
-    if let Some(file) = open.get(name) {
+    let (mut file, place) = match open.take_reading(name) {
+        Some(found) => found,
+        None => (File::open(rt, name)?, 0),
+    };
+    if place != at {
         file.seek(SeekFrom::Start(at))?;
-        return file.read_exact(into);
     }
-    let mut file = File::open(rt, name)?;
-    file.seek(SeekFrom::Start(at))?;
     file.read_exact(into)?;
-    open.keep(name, file);
+    open.keep_reading(name, file, at.saturating_add(into.len() as u64));
     Ok(())
 }
 
-// Adds bytes at the end of a file, which stays open.
+// Adds bytes at the end of a file, which stays open unless that fails.
 fn add<R: Files + Drop>(
     rt: &R,
     open: &mut OpenFiles<R::File>,
     name: &str,
     bytes: &[u8],
 ) -> io::Result<()> {
-    if let Some(file) = open.get(name) {
-        return file.write_all(bytes);
-    }
-    let mut file = OpenOptions::new().append(true).open(rt, name)?;
+    let mut file = match open.take_appending(name) {
+        Some(file) => file,
+        None => OpenOptions::new().append(true).open(rt, name)?,
+    };
     file.write_all(bytes)?;
-    open.keep(name, file);
+    open.keep_appending(name, file);
     Ok(())
 }
 
@@ -130,7 +124,7 @@ impl<R: Files + Drop> Shelf for Folder<R> {
             (folder_state self.old) (folder_state self.new)) }
         ensures counts { CountsRead (folder_state self.old) (folder_state self.new) result }
     {
-        if fill(&self.rt, &mut self.reading, name, at, into).is_ok() {
+        if fill(&self.rt, &mut self.open, name, at, into).is_ok() {
             return Ok(());
         }
         self.read_faults = self.read_faults.saturating_add(1);
@@ -144,7 +138,7 @@ impl<R: Files + Drop> Shelf for Folder<R> {
             (folder_state self.old) (folder_state self.new)) }
         ensures counts { CountsWrite (folder_state self.old) (folder_state self.new) result }
     {
-        if create(&self.rt, &mut self.reading, &mut self.appending, name).is_ok() {
+        if create(&self.rt, &mut self.open, name).is_ok() {
             return Ok(());
         }
         self.write_faults = self.write_faults.saturating_add(1);
@@ -159,7 +153,7 @@ impl<R: Files + Drop> Shelf for Folder<R> {
             (folder_state self.old) (folder_state self.new)) }
         ensures counts { CountsWrite (folder_state self.old) (folder_state self.new) result }
     {
-        if add(&self.rt, &mut self.appending, name, bytes).is_ok() {
+        if add(&self.rt, &mut self.open, name, bytes).is_ok() {
             return Ok(());
         }
         self.write_faults = self.write_faults.saturating_add(1);

@@ -128,14 +128,20 @@ fn write_file<R: Files + Drop>(rt: &impl Abort, folder: &mut Folder<R>, name: &s
     assert_eq!(rt; folder.size(name), Ok(Some(9)));
 }
 
-// Reads parts of that file, and one past its end.
+// Reads parts of that file: one behind the other, back and forth, past the file's end, and from the
+// same place again.
 fn read_file<R: Files + Drop>(rt: &impl Abort, folder: &mut Folder<R>, name: &str) {
+    let mut four = [b'-'; 4];
+    assert_eq!(rt; folder.read_at(name, 0, &mut four), Ok(()));
+    assert_eq!(rt; &four[..], &b"righ"[..]);
     let mut buffer = [b'-'; 5];
-    for (at, found) in [(3, b"ht en"), (0, b"right"), (4, b"t end")] {
+    for (at, found) in [(4, b"t end"), (3, b"ht en"), (0, b"right")] {
         assert_eq!(rt; folder.read_at(name, at, &mut buffer), Ok(()));
         assert_eq!(rt; &buffer[..], &found[..]);
     }
     assert_eq!(rt; folder.read_at(name, 5, &mut buffer), Err(Failed));
+    assert_eq!(rt; folder.read_at(name, 5, &mut four), Ok(()));
+    assert_eq!(rt; &four[..], &b" end"[..]);
 }
 
 // What a folder does with one file.
