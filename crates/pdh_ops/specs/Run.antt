@@ -1,7 +1,7 @@
 -- What a run does, whatever its command.
 use Rattle.std.specs.Prelude.{◌≡◌, ◌⊎◌, ℕ, ◌<◌, List, [], take, ⊤, Bool, true, false, Option, Some, None, Result, Ok, Err}
 use Rattle.pdh_bits.specs.Bits.{bits_of}
-use Rattle.pdh_edge.specs.Files.{ShelfState, Counts, with_read_fault, with_write_fault, with_miss, SinkState, Rose, FailsToRead, FailsToWrite, Holds, HoldsPrefix, told_empty}
+use Rattle.pdh_edge.specs.Files.{ShelfState, Looks, Counts, with_read_fault, with_write_fault, with_miss, SinkState, Rose, FailsToRead, FailsToWrite, Holds, HoldsPrefix, told_empty}
 use Rattle.pdh_edge.specs.declared.shelf.Call.TheVariants.{Size as SizeCall, Read as ReadCall, Start as StartCall, Append as AppendCall}
 use Rattle.pdh_watch.specs.declared.event.Event.{Event}
 use Rattle.pdh_watch.specs.Monitors.{State, SawEach}
@@ -160,6 +160,11 @@ pub record Performs (command : Command) (old new : ShelfState) (answer : Answer)
   pub outputs : AreLeft command old new answer
   pub others : ChangesOnly (IsOutput command) old new
   pub counted : IsCounted old new answer
+
+-- This holds of the state that a command began with, whichever it was, where its steps since then looked at files at most, and
+-- none of them was counted.
+abbrev pub OfBeginning : ShelfState → (ShelfState → Type 0) → Type 0
+OfBeginning now P = (begun : ShelfState) → Looks begun now → now.counts ≡ begun.counts → P begun
 
 -- words that are no row of the table are refused, and then nothing happens
 abbrev pub Does : Option Command → ShelfState → ShelfState → Answer → Type 0

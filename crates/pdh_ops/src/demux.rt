@@ -1,11 +1,11 @@
 ghost use Rattle.std.specs.Prelude.{◌≡◌, ◌∷◌, [], ◌*◌, ◌<◌, ◌^◌, ℕ, IsTrue, IfOk, true};
-ghost use Rattle.pdh_edge.specs.Files.{ShelfState, Looks};
+ghost use Rattle.pdh_edge.specs.Files.{ShelfState};
 ghost use Rattle.pdh_blocks.specs.State.{over};
 ghost use Rattle.pdh_blocks.specs.Lists.{inputs_of, outputs_of};
 ghost use Rattle.pdh_chain.specs.Chains.{leaves_of};
 ghost use Rattle.pdh_answers.specs.Names.{line_file};
 ghost use Rattle.pdh_ops.specs.PortFiles.{HasFiles};
-ghost use Rattle.pdh_ops.specs.Run.{Performs};
+ghost use Rattle.pdh_ops.specs.Run.{OfBeginning, Performs};
 ghost use Rattle.pdh_ops.specs.Steps.{HasLine, IsLine, IsLineFile, AreLeafOutputs, IsDemuxPort};
 ghost use Rattle.pdh_words.specs.declared.commands.Command.TheVariants.{Demux};
 
@@ -71,8 +71,8 @@ fn receive<S: Shelf>(
 fn take_apart<S: Shelf>(alloc: Global, chain: Chain, line: Input, shelf: S) -> Ended<S>
     requires file { IsLineFile line.file }
     requires line { IsLine chain line (S.state shelf) }
-    ensures { (a : ShelfState) (bits : Bits) → line.file ≡ line_file bits → Looks a (S.state shelf) → (S.state shelf).counts ≡ a.counts
-        → Performs (Demux chain bits) a (S.state result.shelf) result.answer }
+    ensures { (bits : Bits) → line.file ≡ line_file bits
+        → OfBeginning (S.state shelf) (λ begun. Performs (Demux chain bits) begun (S.state result.shelf) result.answer) }
 {
     let Ok(files) = port_files(alloc, chain, line) else {
         return Ended::new(shelf, Err(Stop::Memory));

@@ -7,7 +7,7 @@ ghost use Rattle.pdh_ops.specs.Steps.{HasLine};
 ghost use Rattle.pdh_ops.specs.PortFiles.{HasFiles};
 ghost use Rattle.pdh_ops.specs.DisturbSteps.{HasSizes, ScriptIs, IsBendPlan, IsBendPort};
 ghost use Rattle.pdh_ops.specs.Refusing.{Refuses};
-ghost use Rattle.pdh_ops.specs.Run.{Performs, IsCounted};
+ghost use Rattle.pdh_ops.specs.Run.{OfBeginning, Performs, IsCounted};
 ghost use Rattle.pdh_answers.specs.declared.file.File.TheVariants.{Line};
 ghost use Rattle.pdh_words.specs.declared.commands.Command.TheVariants.{Disturb};
 
@@ -119,8 +119,7 @@ fn apply<S: Shelf>(
 // Disturbs the line, where no step refuses the inputs.
 fn bend<S: Shelf>(alloc: Global, chain: Chain, plan: &Plan, shelf: S) -> Ended<S>
     requires { IsBendPlan chain plan.now (S.state shelf) }
-    ensures { (a : ShelfState) → Looks a (S.state shelf) → (S.state shelf).counts ≡ a.counts
-        → Performs (Disturb chain) a (S.state result.shelf) result.answer }
+    ensures { OfBeginning (S.state shelf) (λ begun. Performs (Disturb chain) begun (S.state result.shelf) result.answer) }
 {
     let line = Input {
         file: File::Line,

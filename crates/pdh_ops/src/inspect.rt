@@ -1,7 +1,6 @@
 ghost use Rattle.std.specs.Prelude.{◌≡◌, map, Some};
-ghost use Rattle.pdh_edge.specs.Files.{ShelfState, Looks};
 ghost use Rattle.pdh_answers.specs.Names.{line_file};
-ghost use Rattle.pdh_ops.specs.Run.{Performs, Watches};
+ghost use Rattle.pdh_ops.specs.Run.{OfBeginning, Performs, Watches};
 ghost use Rattle.pdh_ops.specs.Steps.{IsLine};
 ghost use Rattle.pdh_ops.specs.E1Steps.{IsFramedLine};
 ghost use Rattle.pdh_words.specs.declared.commands.Command.TheVariants.{Inspect, InspectE1};
@@ -26,10 +25,10 @@ fn watch_line<S: Shelf>(
     monitors: &mut Vec<Box<dyn Monitor>>,
 ) -> Ended<S>
     requires { IsLine chain line (S.state shelf) }
-    ensures performs { (a : ShelfState) (bits : Bits) → line.file ≡ line_file bits → Looks a (S.state shelf) → (S.state shelf).counts ≡ a.counts
-        → Performs (Inspect chain bits) a (S.state result.shelf) result.answer }
-    ensures watches { (a : ShelfState) (bits : Bits) → line.file ≡ line_file bits → Looks a (S.state shelf) → (S.state shelf).counts ≡ a.counts
-        → Watches (Some (Inspect chain bits)) a (S.state result.shelf) result.answer (map ⟦<Box<dyn Monitor> as Monitor>⟧.state monitors.old.items) (map ⟦<Box<dyn Monitor> as Monitor>⟧.state monitors.new.items) }
+    ensures performs { (bits : Bits) → line.file ≡ line_file bits
+        → OfBeginning (S.state shelf) (λ begun. Performs (Inspect chain bits) begun (S.state result.shelf) result.answer) }
+    ensures watches { (bits : Bits) → line.file ≡ line_file bits
+        → OfBeginning (S.state shelf) (λ begun. Watches (Some (Inspect chain bits)) begun (S.state result.shelf) result.answer (map ⟦<Box<dyn Monitor> as Monitor>⟧.state monitors.old.items) (map ⟦<Box<dyn Monitor> as Monitor>⟧.state monitors.new.items)) }
 {
     let Ok(files) = PortFiles::line(alloc, line) else {
         return Ended::new(shelf, Err(Stop::Memory));
@@ -73,10 +72,8 @@ fn watch_framed<S: Shelf>(
     monitors: &mut Vec<Box<dyn Monitor>>,
 ) -> Ended<S>
     requires { IsFramedLine line (S.state shelf) }
-    ensures performs { (a : ShelfState) → Looks a (S.state shelf) → (S.state shelf).counts ≡ a.counts
-        → Performs InspectE1 a (S.state result.shelf) result.answer }
-    ensures watches { (a : ShelfState) → Looks a (S.state shelf) → (S.state shelf).counts ≡ a.counts
-        → Watches (Some InspectE1) a (S.state result.shelf) result.answer (map ⟦<Box<dyn Monitor> as Monitor>⟧.state monitors.old.items) (map ⟦<Box<dyn Monitor> as Monitor>⟧.state monitors.new.items) }
+    ensures performs { OfBeginning (S.state shelf) (λ begun. Performs InspectE1 begun (S.state result.shelf) result.answer) }
+    ensures watches { OfBeginning (S.state shelf) (λ begun. Watches (Some InspectE1) begun (S.state result.shelf) result.answer (map ⟦<Box<dyn Monitor> as Monitor>⟧.state monitors.old.items) (map ⟦<Box<dyn Monitor> as Monitor>⟧.state monitors.new.items)) }
 {
     let Ok(files) = PortFiles::line(alloc, line) else {
         return Ended::new(shelf, Err(Stop::Memory));

@@ -5,7 +5,7 @@ ghost use Rattle.pdh_blocks.specs.Lists.{inputs_of, outputs_of};
 ghost use Rattle.pdh_clock.specs.Contents.{IsRowOf};
 ghost use Rattle.pdh_chain.specs.Chains.{levels_of};
 ghost use Rattle.pdh_ops.specs.PortFiles.{HasFiles};
-ghost use Rattle.pdh_ops.specs.Run.{Performs, IsCounted};
+ghost use Rattle.pdh_ops.specs.Run.{OfBeginning, Performs, IsCounted};
 ghost use Rattle.pdh_ops.specs.Refusing.{Refuses};
 ghost use Rattle.pdh_answers.specs.declared.answer.Stop.TheVariants.{Overflow, Underflow};
 ghost use Rattle.pdh_answers.specs.declared.file.File.TheVariants.{Line};
@@ -162,8 +162,7 @@ fn send<S: Shelf>(
 fn make<S: Shelf>(alloc: Global, chain: Chain, plan: &Plan, feac: Option<u8>, shelf: S) -> Ended<S>
     requires plan { IsPlanned chain plan.now (S.state shelf) }
     requires code { IfSome feac (λ code. code < 64) }
-    ensures { (a : ShelfState) → Looks a (S.state shelf) → (S.state shelf).counts ≡ a.counts
-        → Performs (Mux chain feac) a (S.state result.shelf) result.answer }
+    ensures { OfBeginning (S.state shelf) (λ begun. Performs (Mux chain feac) begun (S.state result.shelf) result.answer) }
 {
     let Ok(files) = port_files(alloc, chain, plan) else {
         return Ended::new(shelf, Err(Stop::Memory));

@@ -83,14 +83,14 @@ fn answer<S: Shelf>(
 /// the monitors, and writes what each of them says; other commands leave them.
 ///
 /// The statuses: 0, the command did its work; 1, memory was wanting; 2, the words are no row of the
-/// table; 3, a call of the shelf failed to read; 4, a call of the shelf failed to write, or the
-/// sink failed to take the text of status 0; 5, an input isn't held; 6, the schedule's text has a
-/// fault; 7, the schedule has too few frames of a node below the top, a leaf's file too few bits, or the
-/// line no such frame to show; 8,
-/// an elastic store overflows or underflows, and the line ends before the frame in whose making that
-/// happens; 9, the script's text has a fault; 10, the line, or the schedule that is asked for, has too many frames; 11, no frame of the
-/// line, or in `e1unpack` no multiframe, was delivered, and the outputs hold what the search gives; 12, the payload doesn't fill
-/// whole multiframes.
+/// table; 3, a call of the shelf failed to read; 4, a call of the shelf failed to write, or the sink
+/// failed to take the text of status 0; 5, an input isn't held; 6, the schedule's text has a fault; 7,
+/// the schedule has too few frames of a node below the top, a leaf's file too few bits, or the line no
+/// such frame to show; 8, an elastic store overflows or underflows, and the line ends before the frame
+/// in whose making that happens; 9, the script's text has a fault; 10, the line, or the schedule that
+/// is asked for, has too many frames; 11, no frame of the line, or in `e1unpack` no multiframe, was
+/// delivered, and the outputs hold what the search gives; 12, the payload doesn't fill whole
+/// multiframes.
 pub fn run<S: Shelf, K: Sink>(
     alloc: Global,
     words: &[String],

@@ -8,7 +8,7 @@ ghost use Rattle.pdh_ops.specs.Inspect.{bytes_upto};
 ghost use Rattle.pdh_ops.specs.Steps.{HasLine};
 ghost use Rattle.pdh_ops.specs.ShowSteps.{HasFrame, IsShowPort};
 ghost use Rattle.pdh_ops.specs.Refusing.{Refuses};
-ghost use Rattle.pdh_ops.specs.Run.{IsCounted, Performs};
+ghost use Rattle.pdh_ops.specs.Run.{OfBeginning, IsCounted, Performs};
 ghost use Rattle.pdh_answers.specs.declared.file.File.TheVariants.{Line};
 
 use crate::files::size;
@@ -69,8 +69,7 @@ fn text<S: Shelf>(
 fn show_frame<S: Shelf>(alloc: Global, chain: Chain, frame: u64, shelf: S) -> Ended<S>
     requires known { frame ≤ 999999999 }
     requires long { HasFrame chain frame (S.state shelf) }
-    ensures { (a : ShelfState) → Looks a (S.state shelf) → (S.state shelf).counts ≡ a.counts
-        → Performs (Show chain frame) a (S.state result.shelf) result.answer }
+    ensures { OfBeginning (S.state shelf) (λ begun. Performs (Show chain frame) begun (S.state result.shelf) result.answer) }
 {
     let bytes = (frame + 1) * u64::from(frame_bytes(chain));
     let line = Input {

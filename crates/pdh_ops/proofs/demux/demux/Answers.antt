@@ -8,7 +8,7 @@ use Rattle.pdh_ops.proofs.DemuxFiles.{begins_with_line}
 use Rattle.pdh_ops.proofs.demux.demux.Goals as goal
 
 pub returns-in-Ok : goal.returns-in-Ok
-returns-in-Ok g c = c.take_apart.ensures _ c.args.bits (c.in-Ok.ensures.file ∙ c.of_line.ensures) c.line_of.ensures.looks c.in-Ok.ensures.counted
+returns-in-Ok g c = c.take_apart.ensures c.args.bits (c.in-Ok.ensures.file ∙ c.of_line.ensures) _ c.line_of.ensures.looks c.in-Ok.ensures.counted
 
 pub returns-in-Err : goal.returns-in-Err
 returns-in-Err g c =

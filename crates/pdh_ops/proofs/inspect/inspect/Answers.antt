@@ -8,7 +8,7 @@ use Rattle.pdh_ops.proofs.InspectFiles.{inspect_begins}
 use Rattle.pdh_ops.proofs.inspect.inspect.Goals as goal
 
 pub returns-in-Ok-clause-performs : goal.returns-in-Ok-clause-performs
-returns-in-Ok-clause-performs g c = c.watch_line.ensures.performs _ c.args.bits (c.in-Ok.ensures.file ∙ c.of_line.ensures) c.line_of.ensures.looks c.in-Ok.ensures.counted
+returns-in-Ok-clause-performs g c = c.watch_line.ensures.performs c.args.bits (c.in-Ok.ensures.file ∙ c.of_line.ensures) _ c.line_of.ensures.looks c.in-Ok.ensures.counted
 
 pub returns-in-Err-clause-performs : goal.returns-in-Err-clause-performs
 returns-in-Err-clause-performs g c =

@@ -14,7 +14,7 @@ stop-requires-clause-files g c =
     files_kept reads writes c.inspect_line-seen.ensures.fed.keeps (subst (HasFiles reads writes) (sym c.in-Ok-open.ensures.opened) (has_files (g.S.Shelf.state c.args.shelf) reads writes))
 
 pub returns-in-Ok-open-clause-performs : goal.returns-in-Ok-open-clause-performs
-returns-in-Ok-open-clause-performs g c = λ a bits file_is looks same.
+returns-in-Ok-open-clause-performs g c = λ bits file_is a looks same.
     let p = over (g.S.Shelf.state c.in-Ok-open.port.shelf) c.in-Ok-open.port.blocks in
     let q = over (g.S.Shelf.state c.inspect_line-seen.result.feed.shelf) c.inspect_line-seen.result.feed.blocks in
     let reads = c.in-Ok.files.inputs.items in
@@ -33,7 +33,7 @@ returns-in-Ok-open-clause-performs g c = λ a bits file_is looks same.
     ])
 
 pub returns-in-Ok-open-clause-watches : goal.returns-in-Ok-open-clause-watches
-returns-in-Ok-open-clause-watches g c = λ a bits file_is looks same.
+returns-in-Ok-open-clause-watches g c = λ bits file_is a looks same.
     let p = over (g.S.Shelf.state c.in-Ok-open.port.shelf) c.in-Ok-open.port.blocks in
     let q = over (g.S.Shelf.state c.inspect_line-seen.result.feed.shelf) c.inspect_line-seen.result.feed.blocks in
     let reads = c.in-Ok.files.inputs.items in
