@@ -6,6 +6,7 @@ use pdh_clock::{Bias, Outside, Schedule, ScheduleFault, Short};
 use pdh_levels::{DS2_LOCKED_LEVEL, DS3_LOCKED_LEVEL, E2_LEVEL, E3_LEVEL, E4_LEVEL};
 use pdh_shape::{Level, MOST_BYTES, Path, TOP};
 use std::alloc::Global;
+use std::process::Abort;
 use std::test::Fail;
 
 /// The node of the top's first tributary.
@@ -230,11 +231,23 @@ fn within(alloc: Global, text: &[u8], trib: u8) -> Result<Result<(), Outside>, S
     Ok(schedule.within(&TOP, trib))
 }
 
+/// The run from one frame up to another, which brings so many bits, is outside.
+fn outside(from: u64, to: u64, sum: u64) -> Result<(), Outside> {
+    Err(Outside { from, to, sum })
+}
+
+/// That a tributary of a text's schedule is within the tolerance, or the first run that isn't.
+fn assert_row(rt: &impl Abort, alloc: Global, row: (&str, u8, Result<(), Outside>)) {
+    let (text, trib, expected) = row;
+    assert!(rt; trib < 4);
+    let answer = within(alloc, text.as_bytes(), trib);
+    assert_eq!(rt; answer, Ok(expected), "at {text}, {trib}");
+}
+
+// A run of k frames may bring from 205 k - 8 to 206 k + 8 bits.
 #[test]
 fn finds_the_first_run_outside(rt: HostRuntime) {
-    let outside = |from: u64, to: u64, sum: u64| Err(Outside { from, to, sum });
-    // A run of k frames may bring from 205 k - 8 to 206 k + 8 bits.
-    let rows: [(&str, u8, Result<(), Outside>); 25] = [
+    let rows = [
         ("", 0, Ok(())),
         ("/ 1 214 206 206 206\n/ 9 206 206 206 206", 0, Ok(())),
         ("/ 1 214 206 206 206\n/ 9 206 206 206 206", 1, Ok(())),
@@ -253,6 +266,15 @@ fn finds_the_first_run_outside(rt: HostRuntime) {
         // And with one bit too many in each.
         ("/ 8 207 206 206 206", 0, Ok(())),
         ("/ 999999999 207 206 206 206", 0, outside(0, 9, 1_863)),
+    ];
+    for row in rows {
+        assert_row(&rt, rt.alloc(), row);
+    }
+}
+
+#[test]
+fn finds_where_the_first_run_outside_begins(rt: HostRuntime) {
+    let rows = [
         // Frames of 206 bits leave what is above 206 as it is, so the first run begins with the first of them.
         (
             "/ 100 206 206 206 206\n/ 1 215 206 206 206",
@@ -276,7 +298,15 @@ fn finds_the_first_run_outside(rt: HostRuntime) {
             0,
             outside(0, 1_005, 206_015),
         ),
-        // Runs over several rows.
+    ];
+    for row in rows {
+        assert_row(&rt, rt.alloc(), row);
+    }
+}
+
+#[test]
+fn finds_a_run_over_several_rows(rt: HostRuntime) {
+    let rows = [
         (
             "/ 4 207 206 206 206\n/ 4 206 206 206 206\n/ 5 207 206 206 206",
             0,
@@ -300,7 +330,15 @@ fn finds_the_first_run_outside(rt: HostRuntime) {
             0,
             outside(5, 6, 215),
         ),
-        // Long rows.
+    ];
+    for row in rows {
+        assert_row(&rt, rt.alloc(), row);
+    }
+}
+
+#[test]
+fn finds_a_run_in_long_rows(rt: HostRuntime) {
+    let rows = [
         (
             "/ 999999999 206 205 206 206\n/ 999999999 206 205 206 206",
             1,
@@ -317,10 +355,8 @@ fn finds_the_first_run_outside(rt: HostRuntime) {
             outside(999_999_998, 1_000_000_000, 421),
         ),
     ];
-    for (text, trib, expected) in rows {
-        assert!(rt; trib < 4);
-        let answer = within(rt.alloc(), text.as_bytes(), trib);
-        assert_eq!(rt; answer, Ok(expected), "at {text}, {trib}");
+    for row in rows {
+        assert_row(&rt, rt.alloc(), row);
     }
 }
 
