@@ -14,7 +14,7 @@ use Rattle.pdh_align.specs.declared.signals.Signals.{Signals}
 use Rattle.pdh_align.specs.Signals.{Judges}
 use Rattle.pdh_align.specs.Searching.{Sought, Searches, Takes}
 use Rattle.pdh_align.specs.Aligning.{frame_back}
-use Rattle.pdh_align.specs.View.{held_frame, ready_of, HoldsEnough}
+use Rattle.pdh_align.specs.View.{held_frame, ready_of, three_frames, HoldsEnough}
 use Rattle.pdh_align.proofs.Turns.{three_ready, one_ready}
 use Rattle.pdh_align.proofs.SignalLaws.{bit_in_frame}
 
@@ -81,7 +81,7 @@ begun_push s old new true bits now bit idle e takes begun = no (sym idle)
 begun_push s old new false bits now bit idle e takes (since, h) = (since ++ bit ∷ [], subst (λ x. Searches s new x (since ++ bit ∷ [])) (sym e) (takes bits since h))
 
 -- the fields of an alignment that begins
-pub holds_aligned : (s : FrameShape) (len : ℕ) (signals : Signals) (held : BoundedBits) (search : Sought) (a b c : Marks) → Judges s signals → 3 * len ≤ held.capacity → 0 < len → s.len ≡ len
+pub holds_aligned : (s : FrameShape) (len : ℕ) (signals : Signals) (held : BoundedBits) (search : Sought) (a b c : Marks) → Judges s signals → held.capacity ≡ three_frames len → 0 < len → s.len ≡ len
     → length held.bits ≡ 3 * len → is_confirmed s held.bits ≡ true → c ≡ clean → HoldsEnough s len false true signals held search (a ∷ b ∷ c ∷ [])
 holds_aligned s len signals held search a b c are room some e h confirmed is =
     let third : wrong s (frame_of s held.bits 2) ≡ clean = wrong_of_right s (frame_of s held.bits 2) (confirmed_right s held.bits confirmed).2 in
@@ -98,7 +98,7 @@ holds_aligned s len signals held search a b c are room some e h confirmed is =
     }
 
 -- the fields of an alignment with one more frame
-pub holds_frame : (s : FrameShape) (len : ℕ) (signals : Signals) (searching : Bool) (held : BoundedBits) (search : Sought) (a b c : Marks) → Judges s signals → 3 * len ≤ held.capacity → 0 < len → searching ≡ false
+pub holds_frame : (s : FrameShape) (len : ℕ) (signals : Signals) (searching : Bool) (held : BoundedBits) (search : Sought) (a b c : Marks) → Judges s signals → held.capacity ≡ three_frames len → 0 < len → searching ≡ false
     → length held.bits ≡ len → c ≡ wrong s held.bits → HoldsEnough s len searching true signals held search (a ∷ b ∷ c ∷ [])
 holds_frame s len signals searching held search a b c are room some follows h is =
     record {
@@ -114,7 +114,7 @@ holds_frame s len signals searching held search a b c are room some follows h is
     }
 
 -- the fields of a search
-pub holds_search : (s : FrameShape) (len : ℕ) (signals : Signals) (searching fresh : Bool) (held : BoundedBits) (search : Sought) (before : List Marks) → Judges s signals → 3 * len ≤ held.capacity → length before ≡ 3
+pub holds_search : (s : FrameShape) (len : ℕ) (signals : Signals) (searching fresh : Bool) (held : BoundedBits) (search : Sought) (before : List Marks) → Judges s signals → held.capacity ≡ three_frames len → length before ≡ 3
     → searching ≡ true → fresh ≡ false → length held.bits < 3 * len → (since : List Bool) → Searches s search held.bits since → HoldsEnough s len searching fresh signals held search before
 holds_search s len signals searching fresh held search before are room three is idle short since begun =
     record {

@@ -1,5 +1,5 @@
 -- What the fields of an aligner stand for.
-use Rattle.std.specs.Prelude.{◌≡◌, ◌⊎◌, ℕ, ◌*◌, ◌/◌, ◌<◌, ◌≤◌, Bool, true, false, cond, List, [], length, map, take, drop}
+use Rattle.std.specs.Prelude.{◌≡◌, ◌⊎◌, ℕ, ◌+◌, ◌*◌, ◌/◌, ◌<◌, ◌≤◌, Bool, true, false, cond, List, [], length, map, take, drop}
 use Rattle.std.specs.List.{range_with_len, slice_index_or}
 use Rattle.pdh_bits.specs.BitOut.{BoundedBits}
 use Rattle.pdh_shape.specs.declared.role.Marks.{Marks}
@@ -25,11 +25,15 @@ ready_of len fresh bits = cond fresh (map (held_frame len bits) (range_with_len 
 abbrev pub held_of : ℕ → Bool → Bool → List Marks → List Bool → Sought → Held
 held_of len searching fresh before bits search = record { phase = phase_of searching fresh before bits; search = search; ready = ready_of len fresh bits }
 
+-- the bits of three frames, rounded up to whole words of 64 bits
+abbrev pub three_frames : ℕ → ℕ
+three_frames len = (3 * len + 63) / 64 * 64
+
 -- what holds of the fields between two calls
 pub record HoldsEnough (s : FrameShape) (len : ℕ) (searching fresh : Bool) (signals : Signals) (held : BoundedBits) (search : Sought) (before : List Marks) : Type 0 where
   pub judges : Judges s signals
-  -- room for three frames
-  pub room : 3 * len ≤ held.capacity
+  -- room for three frames in whole words, and no more
+  pub room : held.capacity ≡ three_frames len
   pub three : length before ≡ 3
   -- a search holds less than three frames of the bits since it began, and makes no frame ready
   pub short : searching ≡ true → length held.bits < 3 * len

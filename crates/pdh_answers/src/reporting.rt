@@ -1,11 +1,10 @@
-ghost use Rattle.std.specs.Prelude.{◌≡◌, ◌≤◌, ◌++◌, ℕ, List, length, map, decimal, codes, OnOk, OnErr};
-ghost use Rattle.pdh_watch.specs.Monitors.{Says};
+ghost use Rattle.std.specs.Prelude.{◌≡◌, ◌≤◌, ◌++◌, length, map, decimal, codes, OnOk, OnErr};
 ghost use Rattle.pdh_chain.specs.Chains.{name_of as name_of_chain};
 ghost use Rattle.pdh_line.specs.Paths.{steps_of, path_text};
 ghost use Rattle.pdh_answers.specs.Names.{name_of};
 ghost use Rattle.pdh_answers.specs.Answer.{done_text as done_of, stop_text as stop_of, place_text as place_of, outside_text as outside_of, counts_text, drill_text};
 ghost use Rattle.pdh_edge.specs.Files.{Sends, FailsToSend};
-ghost use Rattle.pdh_answers.specs.Lines.{AreLines, IsText, IsTold};
+ghost use Rattle.pdh_answers.specs.Lines.{monitor_line, monitor_lines, whole_text, IsTold};
 
 use crate::answer::{Done, E1Counts, OutOfTolerance, Stop};
 use crate::file::File;
@@ -319,8 +318,8 @@ fn stop_text(stop: Stop) -> Text
 
 // Writes what a monitor says, as a line.
 fn write_line<K: Sink>(out: &mut K, monitor: &Box<dyn Monitor>) -> Result<(), Failed>
-    ensures ok { OnOk result ((line : List ℕ) × Says (⟦<Box<dyn Monitor> as Monitor>⟧.state monitor.now) line × Sends (line ++ codes "\n") (K.state out.old) (K.state out.new)) }
-    ensures err { OnErr result ((line : List ℕ) × Says (⟦<Box<dyn Monitor> as Monitor>⟧.state monitor.now) line × FailsToSend (line ++ codes "\n") (K.state out.old) (K.state out.new)) }
+    ensures ok { OnOk result (Sends (monitor_line (⟦<Box<dyn Monitor> as Monitor>⟧.state monitor.now)) (K.state out.old) (K.state out.new)) }
+    ensures err { OnErr result (FailsToSend (monitor_line (⟦<Box<dyn Monitor> as Monitor>⟧.state monitor.now)) (K.state out.old) (K.state out.new)) }
 {
     let mut room = [0u8; 161];
     let len = monitor.line(&mut room[..160]);
@@ -334,8 +333,8 @@ fn write_lines<K: Sink>(
     monitors: &[Box<dyn Monitor>],
     last: &[u8],
 ) -> Result<(), Failed>
-    ensures ok { OnOk result ((lines : List ℕ) × AreLines (map ⟦<Box<dyn Monitor> as Monitor>⟧.state monitors.now) lines × Sends (lines ++ last.now) (K.state out.old) (K.state out.new)) }
-    ensures err { OnErr result ((lines : List ℕ) × AreLines (map ⟦<Box<dyn Monitor> as Monitor>⟧.state monitors.now) lines × FailsToSend (lines ++ last.now) (K.state out.old) (K.state out.new)) }
+    ensures ok { OnOk result (Sends (monitor_lines (map ⟦<Box<dyn Monitor> as Monitor>⟧.state monitors.now) ++ last.now) (K.state out.old) (K.state out.new)) }
+    ensures err { OnErr result (FailsToSend (monitor_lines (map ⟦<Box<dyn Monitor> as Monitor>⟧.state monitors.now) ++ last.now) (K.state out.old) (K.state out.new)) }
 {
     for place in 0..monitors.len() {
         write_line(out, &monitors[place])?;
@@ -349,8 +348,8 @@ fn write_done<K: Sink>(
     monitors: &[Box<dyn Monitor>],
     done: &Done,
 ) -> Result<(), Failed>
-    ensures ok { OnOk result ((text : List ℕ) × IsText (map ⟦<Box<dyn Monitor> as Monitor>⟧.state monitors.now) done.now text × Sends text (K.state out.old) (K.state out.new)) }
-    ensures err { OnErr result ((text : List ℕ) × IsText (map ⟦<Box<dyn Monitor> as Monitor>⟧.state monitors.now) done.now text × FailsToSend text (K.state out.old) (K.state out.new)) }
+    ensures ok { OnOk result (Sends (whole_text (map ⟦<Box<dyn Monitor> as Monitor>⟧.state monitors.now) done.now) (K.state out.old) (K.state out.new)) }
+    ensures err { OnErr result (FailsToSend (whole_text (map ⟦<Box<dyn Monitor> as Monitor>⟧.state monitors.now) done.now) (K.state out.old) (K.state out.new)) }
 {
     let text = match done {
         Done::Inspected(chain, frames, events) => {

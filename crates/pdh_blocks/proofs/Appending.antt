@@ -40,7 +40,7 @@ past_short w = omega (arith, length-drop (8 * (length w / 8)) w)
 -- ---- one output
 
 -- its list after its bytes were appended
-appended_put : (tells : Bool) (told told' : Told) (w : List Bool) → (tells ≡ true → HoldsBytes told) → Grows told (bytes_of w) told' → cond tells (Some (bits_in told' ++ past_bytes w)) None ≡ cond tells (Some (bits_in told ++ w)) None
+appended_put : (tells : Bool) (told told' : Told) (w : List Bool) → (tells ≡ true → HoldsBytes told) → Grows tells told (bytes_of w) told' → cond tells (Some (bits_in told' ++ past_bytes w)) None ≡ cond tells (Some (bits_in told ++ w)) None
 appended_put false told told' w held grows = refl
 appended_put true Untold told' w held grows = absurd (held refl)
 appended_put true (Known None) told' w held grows = absurd grows
@@ -67,7 +67,7 @@ emptied_put true (Known (Some bytes)) told' w held grows =
     subst (λ (now : Told). IsPrefix (bits_in now ++ []) ((bits_of bytes ++ w) ++ [])) (sym grows.1) (bits_of (drop grows.0 (bytes_of w)) ++ past_bytes w, part_eq bytes w grows.0)
 
 -- its file is held still, or not told still
-held_whole : (told told' : Told) (w : List Bool) → HoldsBytes told → Grows told (bytes_of w) told' → HoldsBytes told'
+held_whole : (told told' : Told) (w : List Bool) → HoldsBytes told → Grows true told (bytes_of w) told' → HoldsBytes told'
 held_whole Untold told' w held grows = absurd held
 held_whole (Known None) told' w held grows = absurd held
 held_whole (Known (Some old)) told' w held grows = subst HoldsBytes (sym grows) (All-append (λ byte. byte < 256) old (bytes_of w) held (All-bytes_of w))
@@ -79,8 +79,8 @@ held_part (Known (Some old)) told' w held grows =
     let part : All (λ byte. byte < 256) (take grows.0 (bytes_of w)) = subst (All (λ byte. byte < 256)) (bytes_of-take grows.0 w) (All-bytes_of (take (8 * grows.0) w)) in
     subst HoldsBytes (sym grows.1) (All-append (λ byte. byte < 256) old (take grows.0 (bytes_of w)) held part)
 
-untold_whole : (told told' : Told) (bytes : List ℕ) → told ≡ Untold → Grows told bytes told' → told' ≡ Untold
-untold_whole told told' bytes is grows = let at : Grows Untold bytes told' = subst (λ t. Grows t bytes told') is grows in at
+untold_whole : (tells : Bool) (told told' : Told) (bytes : List ℕ) → told ≡ Untold → Grows tells told bytes told' → told' ≡ Untold
+untold_whole tells told told' bytes is grows = let at : Grows tells Untold bytes told' = subst (λ t. Grows tells t bytes told') is grows in at
 
 untold_part : (told told' : Told) (bytes : List ℕ) → told ≡ Untold → GrowsInPart told bytes told' → told' ≡ Untold
 untold_part told told' bytes is grows = let at : GrowsInPart Untold bytes told' = subst (λ t. GrowsInPart t bytes told') is grows in at
@@ -151,11 +151,13 @@ module _ (a : PortState) (s : ShelfState) (k : ℕ) (old : Output) (waiting : Li
   append_done done rest appended =
       let later : a.called ≤ a.called = omega arith in
       let up : a.started ≤ a.started = omega arith in
+      let grows : Bool → Type 0 = λ tells. Grows tells (a.shelf.told old.name) (bytes_of old.waiting) (s.told old.name) in
+      let grown : grows (a.shelf.tells_started old.name) = subst grows tells_is appended.file.told in
       let exact : cond (a.shelf.tells_started old.name) (Some (bits_in (s.told old.name) ++ waiting)) None ≡ cond (a.shelf.tells_started old.name) (Some (bits_in (a.shelf.told old.name) ++ old.waiting)) None =
-      ap (λ w. cond (a.shelf.tells_started old.name) (Some (bits_in (s.told old.name) ++ w)) None) rest ∙ appended_put (a.shelf.tells_started old.name) (a.shelf.told old.name) (s.told old.name) old.waiting was_held appended.file.told in
+      ap (λ w. cond (a.shelf.tells_started old.name) (Some (bits_in (s.told old.name) ++ w)) None) rest ∙ appended_put (a.shelf.tells_started old.name) (a.shelf.told old.name) (s.told old.name) old.waiting was_held grown in
       let file : IsStartedFile s old.name k a.started (length a.outputs) = record {
-        held = λ less yes. held_whole (a.shelf.told old.name) (s.told old.name) old.waiting (was_held (sym tells_is ∙ yes)) appended.file.told;
-        untold = λ less no. untold_whole (a.shelf.told old.name) (s.told old.name) (bytes_of old.waiting) (was_untold (sym tells_is ∙ no)) appended.file.told;
+        held = λ less yes. held_whole (a.shelf.told old.name) (s.told old.name) old.waiting (was_held (sym tells_is ∙ yes)) (subst grows yes appended.file.told);
+        untold = λ less no. untold_whole (s.tells_started old.name) (a.shelf.told old.name) (s.told old.name) (bytes_of old.waiting) (was_untold (sym tells_is ∙ no)) appended.file.told;
         empty = λ some less yes. absurd (omega (arith, some, all));
       } in
       record {

@@ -1,10 +1,12 @@
 -- What a port has done after a call.
 use Rattle.std.specs.Prelude.{◌≡◌, ℕ, ◌<◌, Bool, List, length, Some, slice_get, Result, OnOk, OnErr}
+use Rattle.pdh_edge.specs.declared.shelf.Call.TheVariants.{Read}
+use Rattle.pdh_edge.specs.Files.{Range, TellsFailed}
 use Rattle.pdh_edge.specs.Ports.{Puts, PutsPart, HasCause, nothing}
-use Rattle.pdh_blocks.specs.Leaves.{Leaf}
+use Rattle.pdh_blocks.specs.Leaves.{Leaf, IsNextBlock}
 use Rattle.pdh_blocks.specs.State.{PortState}
 use Rattle.pdh_blocks.specs.Lists.{inputs_of, outputs_of}
-use Rattle.pdh_blocks.specs.Held.{IsPort}
+use Rattle.pdh_blocks.specs.Held.{IsPort, IsLastCall}
 use Rattle.pdh_blocks.specs.Kept.{Feeds, Drains}
 
 -- it read at most, and gave nothing
@@ -17,6 +19,14 @@ pub record ReadsAtMost (old new : PortState) : Type 0 where
 -- a bit of this leaf waits
 abbrev pub HasWaiting : ℕ → PortState → Type 0
 HasWaiting k port = (leaf : Leaf) → slice_get port.leaves k ≡ Some leaf → 0 < length leaf.waiting
+
+-- The call for a leaf's next block has failed, it was the shelf's last failed call, where the shelf tells it, and no bit of the
+-- leaf was given since.
+pub record IsUnread (port : PortState) (k : ℕ) : Type 0 where
+  pub range : Range
+  pub block : (leaf : Leaf) → slice_get port.leaves k ≡ Some leaf → IsNextBlock leaf.given range
+  pub last : (leaf : Leaf) → slice_get port.leaves k ≡ Some leaf → IsLastCall port.shelf Read leaf.name
+  pub asked : (leaf : Leaf) → slice_get port.leaves k ≡ Some leaf → TellsFailed (port.shelf.tells_name leaf.name) range port.shelf.failed_range
 
 -- it started outputs at most, and left all lists as they are
 pub record StartsAtMost {T E : Type 0} (old new : PortState) (result : Result T E) : Type 0 where

@@ -1,7 +1,7 @@
 -- Leaves and outputs one by one, and what a block more does to them.
-use Rattle.std.specs.Prelude.{◌≡◌, ℕ, ◌+◌, ◌-◌, ◌*◌, ◌/◌, ◌≤◌, true, Bool, List, [], length, min, take, drop, Some}
+use Rattle.std.specs.Prelude.{◌≡◌, ℕ, ◌+◌, ◌-◌, ◌*◌, ◌/◌, ◌%◌, ◌≤◌, true, Bool, List, [], length, min, take, drop, Some}
 use Rattle.pdh_bits.specs.Bits.{bits_of, bytes_of}
-use Rattle.pdh_edge.specs.Files.{ShelfState, Appends, FailsToAppend}
+use Rattle.pdh_edge.specs.Files.{ShelfState, Range, FailsToReadRange, Appends, FailsToAppend}
 use Rattle.pdh_edge.specs.Files.Told.{Known}
 
 -- how many bits a block has
@@ -46,6 +46,18 @@ pub record IsBlockRead (shelf : ShelfState) (old new : Leaf) : Type 0 where
   pub leaf : new ≡ with_waiting new.waiting old
   pub count : length new.waiting ≡ min block_bits (old.bits - old.given)
   pub told : (bytes : List ℕ) → shelf.told old.name ≡ Known (Some bytes) → AreNext old new.waiting bytes
+
+-- so many bytes of a file are the block behind the bits that were given
+pub record IsNextBlock (given : ℕ) (range : Range) : Type 0 where
+  pub start : 8 * range.at ≡ given
+  pub whole : range.at % 4096 ≡ 0
+  pub short : range.len ≤ 4096
+
+-- the call for a leaf's next block failed
+pub record IsBlockUnread (leaf : Leaf) (shelf after : ShelfState) : Type 0 where
+  pub range : Range
+  pub block : IsNextBlock leaf.given range
+  pub fails : FailsToReadRange leaf.name range shelf after
 
 -- ---- an output
 

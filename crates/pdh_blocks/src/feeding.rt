@@ -1,5 +1,5 @@
 ghost use Rattle.std.specs.Prelude.{◌≡◌, ◌<◌, length, OnOk, IsErrOf};
-ghost use Rattle.pdh_edge.specs.declared.port.FeedStop.TheVariants.{Ended};
+ghost use Rattle.pdh_edge.specs.declared.port.FeedStop.TheVariants.{Ended, Failed as FeedFailed};
 ghost use Rattle.pdh_edge.specs.Ports.{HasFeedCause};
 
 use crate::blocks::Blocks;
@@ -9,7 +9,7 @@ impl Blocks {
     ghost use Rattle.pdh_blocks.specs.State.{over};
     ghost use Rattle.pdh_blocks.specs.Lists.{inputs_of};
     ghost use Rattle.pdh_blocks.specs.Held.{IsPort};
-    ghost use Rattle.pdh_blocks.specs.Done.{ReadsAtMost, HasWaiting};
+    ghost use Rattle.pdh_blocks.specs.Done.{ReadsAtMost, HasWaiting, IsUnread};
 
     /// Makes a bit of a leaf wait, where one is left.
     #[inline(always)]
@@ -21,6 +21,8 @@ impl Blocks {
         ensures ok { OnOk result (HasWaiting leaf (over (S.state shelf.new) self.new)) }
         ensures ended { IsErrOf result Ended
             → (inputs_of (over (S.state shelf.old) self.old)).left leaf ≡ 0 }
+        ensures unread { IsErrOf result FeedFailed
+            → IsUnread (over (S.state shelf.new) self.new) leaf }
     {
         if self.leaves[leaf as usize].waits() {
             return Ok(());
@@ -39,6 +41,8 @@ impl Blocks {
         ensures ok { OnOk result (HasWaiting leaf (over (S.state shelf.new) self.new)) }
         ensures ended { IsErrOf result Ended
             → (inputs_of (over (S.state shelf.old) self.old)).left leaf ≡ 0 }
+        ensures unread { IsErrOf result FeedFailed
+            → IsUnread (over (S.state shelf.new) self.new) leaf }
     {
         let list = &mut self.leaves[leaf as usize];
         if list.waits() {

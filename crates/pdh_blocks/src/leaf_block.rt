@@ -1,7 +1,6 @@
 ghost use Rattle.std.specs.Prelude.{◌≡◌, ◌+◌, ◌-◌, ◌%◌, ◌^◌, ◌<◌, ◌≤◌, [], ◌∷◌, ◌++◌, length, min, take, nat_lt, IfOk, OnOk, OnErr};
 ghost use Rattle.std.specs.String.{string_bytes};
-ghost use Rattle.pdh_edge.specs.declared.shelf.Call.TheVariants.{Read};
-ghost use Rattle.pdh_edge.specs.Files.{Looks, Succeeds, FailsToRead};
+ghost use Rattle.pdh_edge.specs.Files.{Looks, Succeeds};
 
 use pdh_edge::{Failed, Shelf};
 use pdh_packed::Packed;
@@ -40,7 +39,7 @@ impl Model for LeafBlock {
 }
 
 impl LeafBlock {
-    ghost use Rattle.pdh_blocks.specs.Leaves.{IsReadable, with_waiting, after_giving, IsBlockRead, unread};
+    ghost use Rattle.pdh_blocks.specs.Leaves.{IsReadable, with_waiting, after_giving, IsBlockRead, IsBlockUnread, unread};
 
     /// Nothing was read; or no memory for the name and the block.
     pub(crate) fn open(alloc: Global, name: &String, bits: u64) -> Result<LeafBlock, AllocError>
@@ -71,7 +70,7 @@ impl LeafBlock {
         self.taken < self.end
     }
 
-    /// Reads the next block. After a failure nothing waits still.
+    /// Reads the next block. After a failure of the call for it nothing waits still.
     pub(crate) fn read<S: Shelf>(&mut self, shelf: &mut S, buffer: &mut [u8]) -> Result<(), Failed>
         requires empty { self.old.waiting ≡ [] }
         requires more { self.old.given < self.old.bits }
@@ -82,8 +81,7 @@ impl LeafBlock {
         ensures looks { Looks (S.state shelf.old) (S.state shelf.new) }
         ensures ok { OnOk result (IsBlockRead (S.state shelf.old) self.old self.new) }
         ensures succeeds { OnOk result (Succeeds (S.state shelf.old) (S.state shelf.new)) }
-        ensures err { OnErr result (FailsToRead Read self.old.name
-            (S.state shelf.old) (S.state shelf.new)) }
+        ensures err { OnErr result (IsBlockUnread self.old (S.state shelf.old) (S.state shelf.new)) }
         ensures same { OnErr result (self.new ≡ self.old) }
     {
         // a count fits its type

@@ -91,6 +91,7 @@ impl<S: Shelf> ShelfPort<S> {
 }
 
 impl<S: Shelf> Feed for ShelfPort<S> {
+    ghost use Rattle.pdh_blocks.specs.Done.{IsUnread};
     ghost use Rattle.pdh_blocks.specs.laws.PortLaws.{feeds_same, feeds_join, feeds_holds, left_is, feed_faults_later};
 
     ghost inputs = { λ p. inputs_of (over (S.state p.shelf) p.blocks) };
@@ -98,6 +99,8 @@ impl<S: Shelf> Feed for ShelfPort<S> {
     ghost feed_faults = { λ p. p.blocks.feed_faults };
 
     ghost fed = { λ a b. Feeds (over (S.state a.shelf) a.blocks) (over (S.state b.shelf) b.blocks) };
+
+    ghost unread = { λ p k. IsUnread (over (S.state p.shelf) p.blocks) k };
 
     ghost fed_same = { λ a. feeds_same (over (S.state a.shelf) a.blocks) };
 

@@ -1,5 +1,7 @@
 //! A case, as its text says it.
 
+use pdh_watch::Kind as EventKind;
+
 /// A worked case: runs that follow each other, each over the files that the one before it left.
 #[derive(Drop)]
 pub struct Case {
@@ -53,6 +55,11 @@ pub enum Given {
         /// The bytes.
         bytes: u64,
     },
+    /// Monitors in place of the program's own.
+    Monitors {
+        /// The monitors in order.
+        monitors: Vec<Observer>,
+    },
     /// A call that fails.
     Fail {
         /// Its kind.
@@ -60,6 +67,23 @@ pub enum Given {
         /// Its number among those of its kind, from 0.
         number: u64,
     },
+}
+
+/// A monitor.
+#[derive(Clone, Copy)]
+pub enum Observer {
+    /// One that counts the events of a kind.
+    Counter {
+        /// The kind.
+        kind: EventKind,
+    },
+    /// One that keeps the first event of a kind.
+    First {
+        /// The kind.
+        kind: EventKind,
+    },
+    /// One that counts the open alarms.
+    Latch,
 }
 
 /// A kind of calls that may fail.
@@ -186,6 +210,8 @@ pub struct Cut {
     pub line: usize,
     /// The file.
     pub name: String,
+    /// How many bytes the shortest front has.
+    pub least: usize,
 }
 
 impl Kind {

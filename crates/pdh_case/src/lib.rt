@@ -9,7 +9,7 @@ mod reader;
 mod reading;
 mod statement;
 
-pub use case::{Case, Cut, Given, Item, Kind, Run, Said, Sweep, Want, Wanted};
+pub use case::{Case, Cut, Given, Item, Kind, Observer, Run, Said, Sweep, Want, Wanted};
 pub use fault::{CaseFault, Fault};
 pub use names::{at_place, names_of};
 pub use reading::read;

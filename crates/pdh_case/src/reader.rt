@@ -183,10 +183,10 @@ impl Reader {
         Ok(())
     }
 
-    /// Has the run run again for each front of a file.
-    pub fn add_cut(&mut self, line: usize, name: &str) -> Result<(), Fault> {
+    /// Has the run run again for each front of a file, from one of so many bytes on.
+    pub fn add_cut(&mut self, line: usize, name: &str, least: usize) -> Result<(), Fault> {
         let name = String::from_str(self.alloc, name)?;
-        self.judged_run()?.cuts.push(Cut { line, name })?;
+        self.judged_run()?.cuts.push(Cut { line, name, least })?;
         Ok(())
     }
 

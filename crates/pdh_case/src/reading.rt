@@ -1,11 +1,13 @@
 //! The reading of cases.
 
-use crate::case::{Case, Given, Want, Wanted};
+use crate::case::{Case, Given, Observer, Want, Wanted};
 use crate::fault::{CaseFault, Fault};
 use crate::items::{count, items, number};
 use crate::names::names_of;
 use crate::reader::Reader;
 use crate::statement::{KINDS, Statement, kind_of, statement_of};
+use bitflags::Flags;
+use pdh_watch::Kind as EventKind;
 use std::alloc::{AllocError, Global};
 
 fn words_of(alloc: Global, text: &str) -> Result<Vec<String>, AllocError> {
@@ -67,11 +69,41 @@ fn fail(words: &[String]) -> Result<Given, Fault> {
     Ok(Given::Fail { kind, number })
 }
 
+// The kind of events that a word names.
+fn event_kind(name: &str) -> Result<EventKind, Fault> {
+    EventKind::from_name(name).ok_or(Fault::BadWords)
+}
+
+fn observer(word: &str) -> Result<Observer, Fault> {
+    let Some((form, name)) = word.split_once(':') else {
+        return if word == "latch" {
+            Ok(Observer::Latch)
+        } else {
+            Err(Fault::BadWords)
+        };
+    };
+    let kind = event_kind(name)?;
+    match form {
+        "counter" => Ok(Observer::Counter { kind }),
+        "first" => Ok(Observer::First { kind }),
+        _ => Err(Fault::BadWords),
+    }
+}
+
+fn monitors(alloc: Global, words: &[String]) -> Result<Given, Fault> {
+    let mut monitors = Vec::new(alloc);
+    for word in words {
+        monitors.push(observer(word.as_str())?)?;
+    }
+    Ok(Given::Monitors { monitors })
+}
+
 fn given(alloc: Global, statement: Statement, words: &[String]) -> Result<Given, Fault> {
     match statement {
         Statement::File => file(alloc, words),
         Statement::Gone => gone(alloc, words),
         Statement::Room => room(alloc, words),
+        Statement::Monitors => monitors(alloc, words),
         _ => fail(words),
     }
 }
@@ -192,7 +224,11 @@ fn add_all_sweeps(reader: &mut Reader, line: usize) -> Result<(), Fault> {
 }
 
 fn add_cuts(reader: &mut Reader, line: usize, words: &[String]) -> Result<(), Fault> {
-    reader.add_cut(line, one_word(words)?)
+    match words {
+        [name] => reader.add_cut(line, name.as_str(), 0),
+        [name, least] => reader.add_cut(line, name.as_str(), count(least.as_str())?),
+        _ => Err(Fault::BadWords),
+    }
 }
 
 // Reads a line whose words are parted by spaces.
@@ -205,9 +241,11 @@ fn read_words(
 ) -> Result<(), Fault> {
     match statement {
         Statement::Run => reader.add_row(line, words),
-        Statement::File | Statement::Gone | Statement::Room | Statement::Fail => {
-            reader.add_given(given(alloc, statement, words.as_slice())?)
-        }
+        Statement::File
+        | Statement::Gone
+        | Statement::Room
+        | Statement::Monitors
+        | Statement::Fail => { reader.add_given(given(alloc, statement, words.as_slice())?) }
         Statement::Status => reader.set_status(line, status(words.as_slice())?),
         Statement::Sweep if words.is_empty() => add_all_sweeps(reader, line),
         Statement::Sweep => add_sweeps(reader, line, words.as_slice()),

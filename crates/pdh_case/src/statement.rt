@@ -12,6 +12,7 @@ pub enum Statement {
     Part,
     Gone,
     Room,
+    Monitors,
     Fail,
     Run,
     Status,
@@ -26,13 +27,14 @@ pub enum Statement {
     Cuts,
 }
 
-const STATEMENTS: [(&str, Statement); 18] = [
+const STATEMENTS: [(&str, Statement); 19] = [
     ("case", Statement::Case),
     ("file", Statement::File),
     ("|", Statement::Line),
     (">", Statement::Part),
     ("gone", Statement::Gone),
     ("room", Statement::Room),
+    ("monitors", Statement::Monitors),
     ("fail", Statement::Fail),
     ("run", Statement::Run),
     ("status", Statement::Status),

@@ -11,6 +11,7 @@ use Rattle.pdh_line.specs.Sending.{HasStores, shape_numbers}
 use Rattle.pdh_levels.specs.Levels.{IsLevel, IsElastic, AreLevels, level_numbers, numbers_of as numbers_in, shortest_frame}
 use Rattle.pdh_clock.specs.Made.{IsRated}
 use Rattle.pdh_nesting.specs.Chains.{numbers_of, width, top_len, AreFrames, ReadEvenly}
+use Rattle.pdh_recovery.specs.Downwards.{KeepRight}
 use Rattle.pdh_tx.specs.Meaning.{HasNumbers}
 use Rattle.pdh_chain.specs.Stages.{Stage, level_of, frames_of, have_stores, carries_exactly, carries_between}
 use Rattle.pdh_line.specs.Nodes.{width as width_of, top_len as top_len_of, delay_of as delay_by}
@@ -73,6 +74,10 @@ frames_even : (stages : List Stage) → ReadEvenly (frames_of stages)
 frames_even [] = tt
 frames_even (stage ∷ below) = (λ stores. laws-reads_evenly stage.frame stage.lawful, frames_even below)
 
+frames_keep : (stages : List Stage) → KeepRight (frames_of stages)
+frames_keep [] = tt
+frames_keep (stage ∷ below) = (stage.keeps, frames_keep below)
+
 stage_elastic : (stage : Stage) (below : List Stage) → have_stores (stage ∷ below) ≡ true → HasStores stage.frame
 stage_elastic stage below stores = not-true _ (and_parts _ _ stores).0
 
@@ -110,6 +115,9 @@ are_frames chain = frames_are (listed chain).stages
 
 pub read_evenly : (chain : Chain) → ReadEvenly (shapes_of chain)
 read_evenly chain = frames_even (listed chain).stages
+
+pub keep_right : (chain : Chain) → KeepRight (shapes_of chain)
+keep_right chain = frames_keep (listed chain).stages
 
 pub all_rated : (chain : Chain) → All IsRated (levels_of chain)
 all_rated chain = all_levels IsRated stage_rated (listed chain).stages

@@ -18,3 +18,4 @@ pub mod Tolerated
 pub mod Clear
 pub mod Scheduled
 pub mod FarGrows
+pub mod Recovered

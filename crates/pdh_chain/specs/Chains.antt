@@ -11,6 +11,7 @@ use Rattle.pdh_ds.specs.Plans.{ds2, ds3, ds3c}
 use Rattle.pdh_ds.specs.laws.Ds2Laws.{ds2_keeps_laws}
 use Rattle.pdh_ds.specs.laws.Ds3Laws.{ds3_keeps_laws}
 use Rattle.pdh_ds.specs.laws.Ds3cLaws.{ds3c_keeps_laws}
+use Rattle.pdh_recovery.proofs.RuleLaws.{e2_keeps, e3_keeps, e4_keeps, ds2_keeps, ds3_keeps, ds3c_keeps}
 use Rattle.pdh_shape.specs.declared.place.Level.{Level}
 use Rattle.pdh_nesting.specs.Chains.{width, top_len}
 use Rattle.pdh_nesting.specs.Sending.{delay}
@@ -22,23 +23,23 @@ use Rattle.pdh_chain.specs.declared.chain.Chain.TheVariants.{E12, E23, E34, E13,
 
 -- four streams of 2048 kbit/s in one of 8448
 abbrev pub e2_stage : Stage
-e2_stage = record { frame = e2; rates = whole_rates 8448000 30 2048000 50; lawful = e2_keeps_laws; numbers = refl; rated = refl }
+e2_stage = record { frame = e2; rates = whole_rates 8448000 30 2048000 50; lawful = e2_keeps_laws; keeps = e2_keeps; numbers = refl; rated = refl }
 
 -- four streams of 8448 kbit/s in one of 34368
 abbrev pub e3_stage : Stage
-e3_stage = record { frame = e3; rates = whole_rates 34368000 20 8448000 30; lawful = e3_keeps_laws; numbers = refl; rated = refl }
+e3_stage = record { frame = e3; rates = whole_rates 34368000 20 8448000 30; lawful = e3_keeps_laws; keeps = e3_keeps; numbers = refl; rated = refl }
 
 -- four streams of 34368 kbit/s in one of 139264
 abbrev pub e4_stage : Stage
-e4_stage = record { frame = e4; rates = whole_rates 139264000 15 34368000 20; lawful = e4_keeps_laws; numbers = refl; rated = refl }
+e4_stage = record { frame = e4; rates = whole_rates 139264000 15 34368000 20; lawful = e4_keeps_laws; keeps = e4_keeps; numbers = refl; rated = refl }
 
 -- four streams of 1544 kbit/s in one of 6312
 abbrev pub ds2_stage : Stage
-ds2_stage = record { frame = ds2; rates = whole_rates 6312000 30 1544000 32; lawful = ds2_keeps_laws; numbers = refl; rated = refl }
+ds2_stage = record { frame = ds2; rates = whole_rates 6312000 30 1544000 32; lawful = ds2_keeps_laws; keeps = ds2_keeps; numbers = refl; rated = refl }
 
 -- seven streams of 6312 kbit/s in one of 44736
 abbrev pub ds3_stage : Stage
-ds3_stage = record { frame = ds3; rates = whole_rates 44736000 20 6312000 30; lawful = ds3_keeps_laws; numbers = refl; rated = refl }
+ds3_stage = record { frame = ds3; rates = whole_rates 44736000 20 6312000 30; lawful = ds3_keeps_laws; keeps = ds3_keeps; numbers = refl; rated = refl }
 
 -- the rate of each of the seven streams that a DS3 with C-bit parity carries: a frame of 4760 bits has 671 bits of each, so it
 -- is the line's rate times 671 / 4760
@@ -50,14 +51,14 @@ ds3c_rates = record { rate = 44736000; per = 1; ppm = 20; trib_rate = locked_rat
 
 -- seven streams in one of 44736 kbit/s with C-bit parity, which have the line's clock
 abbrev pub ds3c_stage : Stage
-ds3c_stage = record { frame = ds3c; rates = ds3c_rates; lawful = ds3c_keeps_laws; numbers = refl; rated = refl }
+ds3c_stage = record { frame = ds3c; rates = ds3c_rates; lawful = ds3c_keeps_laws; keeps = ds3c_keeps; numbers = refl; rated = refl }
 
 abbrev pub locked_ds2_rates : Rates
 locked_ds2_rates = record { rate = locked_rate; per = 4760; ppm = 20; trib_rate = 1544000; trib_per = 1; trib_ppm = 32 }
 
 -- four streams of 1544 kbit/s in one of those
 abbrev pub locked_ds2_stage : Stage
-locked_ds2_stage = record { frame = ds2; rates = locked_ds2_rates; lawful = ds2_keeps_laws; numbers = refl; rated = refl }
+locked_ds2_stage = record { frame = ds2; rates = locked_ds2_rates; lawful = ds2_keeps_laws; keeps = ds2_keeps; numbers = refl; rated = refl }
 
 -- ---- the chains
 

@@ -7,4 +7,5 @@ pub mod Trees
 pub mod Muxes
 pub mod Demuxing
 pub mod Demuxes
+pub mod Recovered
 pub mod Faults

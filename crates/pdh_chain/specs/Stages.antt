@@ -6,6 +6,7 @@ use Rattle.pdh_shape.specs.Frame.{FrameShape}
 use Rattle.pdh_shape.specs.KeptLaws.{keeps_laws}
 use Rattle.pdh_shape.specs.declared.place.Level.{Level}
 use Rattle.pdh_nesting.specs.Chains.{width, top_len}
+use Rattle.pdh_recovery.specs.Losing.{KeepsRight}
 use Rattle.pdh_levels.specs.Levels.{shortest_frame, longest_frame, fewest_tributaries, most_tributaries}
 use Rattle.pdh_clock.specs.Made.{fast, slow}
 
@@ -69,6 +70,7 @@ pub record Stage : Type 0 where
   pub frame : FrameShape
   pub rates : Rates
   pub lawful : keeps_laws frame ≡ true
+  pub keeps : KeepsRight frame
   pub numbers : has_numbers (level_with frame rates) ≡ true
   pub rated : has_rates (level_with frame rates) ≡ true
 

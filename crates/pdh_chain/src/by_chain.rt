@@ -1,12 +1,13 @@
 //! `mux` and `demux` of each chain, by the types of its nodes.
 
-ghost use Rattle.std.specs.Prelude.{◌≡◌, ◌<◌, ◌≤◌, ◌^◌, ℕ, [], IsTrue, Err, IfOk, OnOk, IfErr, IfSome};
+ghost use Rattle.std.specs.Prelude.{◌≡◌, ◌<◌, ◌≤◌, ◌^◌, ℕ, [], IsTrue, Err, IfOk, OnOk, IfErr, IsErrOf, IfSome};
 ghost use Rattle.pdh_clock.specs.Contents.{frame_count, counts};
 ghost use Rattle.pdh_chain.specs.Chains.{shapes_of, leaves_of, levels_of};
 ghost use Rattle.pdh_chain.specs.Saying.{says_of};
 ghost use Rattle.pdh_chain.specs.Muxes.{Muxes, IsMuxStop, IsLeftReady};
 ghost use Rattle.pdh_chain.specs.Demuxes.{Demuxes, IsDemuxStop, IsDemuxLeft};
-ghost use Rattle.pdh_chain.specs.declared.stop.DemuxStop.TheVariants.{Memory};
+ghost use Rattle.pdh_chain.specs.Recovered.{ComesBackFrom};
+ghost use Rattle.pdh_chain.specs.declared.stop.DemuxStop.TheVariants.{Memory, ReadFailed};
 ghost use Rattle.pdh_chain.specs.Faults.{mux_reads, mux_writes, demux_reads, demux_writes};
 
 use crate::chain::Chain;
@@ -88,10 +89,8 @@ pub fn mux<P: Port>(
     }
 }
 
-/// Takes so many bits of a port's list 0, which is a chain's line, puts to each leaf's list what the
-/// leaf receives by them, and answers how many frames of the top were delivered. It takes its memory
-/// before it starts the port, and notes the events that the bits bring.
-pub fn demux<P: Port, W: Watch>(
+// The same as `demux`, by the types of the chain's nodes.
+fn demux_by_types<P: Port, W: Watch>(
     alloc: Global,
     chain: Chain,
     bits: u64,
@@ -105,6 +104,7 @@ pub fn demux<P: Port, W: Watch>(
     ensures kept { P.kept port.old port.new }
     ensures reads { P.feed_faults port.new ≡ demux_reads result (P.feed_faults port.old) }
     ensures writes { P.drain_faults port.new ≡ demux_writes result (P.drain_faults port.old) }
+    ensures unread { IsErrOf result ReadFailed → P.unread port.new 0 }
     ensures ready { IsDemuxLeft (P.fresh port.new) (P.ready port.new) (P.refused port.new) result }
     ensures ok { IfOk result (λ frames. Demuxes (shapes_of chain)
         (λ events. W.saw watch.old events watch.new) bits frames
@@ -128,4 +128,38 @@ pub fn demux<P: Port, W: Watch>(
         Chain::M13 => demux_with::<Ds3, Ds2Receiver, P, W>(alloc, bits, port, watch),
         Chain::C13 => demux_with::<Ds3C, Ds2Receiver, P, W>(alloc, bits, port, watch),
     }
+}
+
+/// Takes so many bits of a port's list 0, which is a chain's line, puts to each leaf's list what the
+/// leaf receives by them, and answers how many frames of the top were delivered. It takes its memory
+/// before it starts the port, and notes the events that the bits bring.
+pub fn demux<P: Port, W: Watch>(
+    alloc: Global,
+    chain: Chain,
+    bits: u64,
+    port: &mut P,
+    watch: &mut W,
+) -> Result<u64, DemuxStop>
+    requires few { bits < 2 ^ 63 }
+    requires fresh { P.fresh port.old }
+    requires line { IsTrue ((P.inputs port.old).holds 0) }
+    requires leaves { (k : ℕ) → k < leaves_of chain → IsTrue ((P.outputs port.old).holds k) }
+    ensures kept { P.kept port.old port.new }
+    ensures reads { P.feed_faults port.new ≡ demux_reads result (P.feed_faults port.old) }
+    ensures writes { P.drain_faults port.new ≡ demux_writes result (P.drain_faults port.old) }
+    ensures unread { IsErrOf result ReadFailed → P.unread port.new 0 }
+    ensures ready { IsDemuxLeft (P.fresh port.new) (P.ready port.new) (P.refused port.new) result }
+    ensures ok { IfOk result (λ frames. Demuxes (shapes_of chain)
+        (λ events. W.saw watch.old events watch.new) bits frames
+        (P.inputs port.old) (P.inputs port.new) (P.outputs port.old) (P.outputs port.new)) }
+    ensures comes_back { IfOk result (λ frames. ComesBackFrom (shapes_of chain) bits
+        (P.inputs port.old) (P.outputs port.old) (P.outputs port.new)) }
+    ensures err { IfErr result (IsDemuxStop (shapes_of chain)
+        (λ events. W.saw watch.old events watch.new) bits
+        (P.inputs port.old) (P.inputs port.new) (P.outputs port.old) (P.outputs port.new)
+        (P.feed_faults port.old) (P.feed_faults port.new)
+        (P.drain_faults port.old) (P.drain_faults port.new)) }
+    ensures unseen { result ≡ Err Memory → watch.new ≡ watch.old }
+{
+    demux_by_types(alloc, chain, bits, port, watch)
 }

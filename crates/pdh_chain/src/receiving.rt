@@ -1,9 +1,9 @@
-ghost use Rattle.std.specs.Prelude.{◌≡◌, ◌<◌, ◌≤◌, ◌^◌, ℕ, [], length, ⊤, IsTrue, IfOk, IfErr, OnOk, ◌∷◌, Err};
+ghost use Rattle.std.specs.Prelude.{◌≡◌, ◌<◌, ◌≤◌, ◌^◌, ℕ, [], length, ⊤, IsTrue, IfOk, IfErr, OnOk, IsErrOf, ◌∷◌, Err};
 ghost use Rattle.pdh_nesting.specs.Chains.{width};
 ghost use Rattle.pdh_rx.specs.Meaning.{HoldsAll};
 ghost use Rattle.pdh_chain.specs.Demuxing.{Receives, IsReceiveStop};
 ghost use Rattle.pdh_chain.specs.Demuxes.{Demuxes, IsDemuxStop, IsDemuxLeft};
-ghost use Rattle.pdh_chain.specs.declared.stop.DemuxStop.TheVariants.{Memory};
+ghost use Rattle.pdh_chain.specs.declared.stop.DemuxStop.TheVariants.{Memory, ReadFailed};
 ghost use Rattle.pdh_chain.specs.Faults.{demux_reads, demux_writes};
 
 use crate::stop::DemuxStop;
@@ -35,6 +35,7 @@ fn receive<R: Rx, P: Port, W: Watch>(
     ensures kept { P.kept port.old port.new }
     ensures reads { P.feed_faults port.new ≡ demux_reads result (P.feed_faults port.old) }
     ensures writes { P.drain_faults port.new ≡ demux_writes result (P.drain_faults port.old) }
+    ensures unread { IsErrOf result ReadFailed → P.unread port.new 0 }
     ensures same { R.meaning receiver.new ≡ R.meaning receiver.old }
 {
     for _received in 0..bits {
@@ -80,6 +81,7 @@ fn receive_many<R: Rx, P: Port>(
     ensures kept { P.kept port.old port.new }
     ensures reads { P.feed_faults port.new ≡ demux_reads result (P.feed_faults port.old) }
     ensures writes { P.drain_faults port.new ≡ demux_writes result (P.drain_faults port.old) }
+    ensures unread { IsErrOf result ReadFailed → P.unread port.new 0 }
     ensures same { R.meaning receiver.new ≡ R.meaning receiver.old }
 {
     let mut received = 0;
@@ -115,6 +117,7 @@ fn receive_all<R: Rx, P: Port, W: Watch>(
     ensures kept { P.kept port.old port.new }
     ensures reads { P.feed_faults port.new ≡ demux_reads result (P.feed_faults port.old) }
     ensures writes { P.drain_faults port.new ≡ demux_writes result (P.drain_faults port.old) }
+    ensures unread { IsErrOf result ReadFailed → P.unread port.new 0 }
     ensures same { R.meaning receiver.new ≡ R.meaning receiver.old }
 {
     if watch.ignores() {
@@ -140,6 +143,7 @@ pub fn demux_with<S: Shape, C: ChainRx, P: Port, W: Watch>(
     ensures kept { P.kept port.old port.new }
     ensures reads { P.feed_faults port.new ≡ demux_reads result (P.feed_faults port.old) }
     ensures writes { P.drain_faults port.new ≡ demux_writes result (P.drain_faults port.old) }
+    ensures unread { IsErrOf result ReadFailed → P.unread port.new 0 }
     ensures ready { IsDemuxLeft (P.fresh port.new) (P.ready port.new) (P.refused port.new) result }
     ensures ok { IfOk result (λ frames. Demuxes (S.shape ∷ C.shapes)
         (λ events. W.saw watch.old events watch.new) bits frames

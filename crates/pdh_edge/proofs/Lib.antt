@@ -3,3 +3,4 @@ pub mod Runs
 pub mod Rooms
 pub mod Holding
 pub mod InRoom
+pub mod InputsHeld

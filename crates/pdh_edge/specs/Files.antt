@@ -2,7 +2,7 @@
 use Rattle.std.specs.Prelude.{◌≡◌, ◌⊎◌, ℕ, ◌+◌, ◌^◌, ◌-◌, ◌≤◌, min, List, [], ◌++◌, length, take, drop, Bool, true, false, if◌then◌else◌, Option, Some, None, is_none}
 use Rattle.std.specs.Option.{option_map}
 use Rattle.pdh_edge.specs.declared.shelf.Call.{Call}
-use Rattle.pdh_edge.specs.declared.shelf.Call.TheVariants.{Start, Append}
+use Rattle.pdh_edge.specs.declared.shelf.Call.TheVariants.{Read, Start, Append}
 use Rattle.pdh_edge.specs.Counts.{one_more}
 
 -- what is told of a file: nothing; or that it isn't held (None), or its bytes
@@ -49,6 +49,11 @@ pub record FailedCall : Type 0 where
   pub call : Call
   pub name : List ℕ
 
+-- so many bytes of a file, from a place on
+pub record Range : Type 0 where
+  pub at : ℕ
+  pub len : ℕ
+
 -- what a shelf tells and counts
 pub record ShelfState : Type 0 where
   -- what is told of the file of each name
@@ -59,15 +64,17 @@ pub record ShelfState : Type 0 where
   pub counts : Counts
   -- the last call that failed, where it is told
   pub last_failed : Option FailedCall
+  -- the bytes that it asked for, where it is told and asked for bytes
+  pub failed_range : Option Range
   -- the names of calls that are told where they fail
   pub tells_name : List ℕ → Bool
   -- the names whose files are told once they are started
   pub tells_started : List ℕ → Bool
 
--- a call that failed is told if the shelf tells such a name; else it or none is told
-abbrev pub TellsFailed : Bool → FailedCall → Option FailedCall → Type 0
+-- a call that failed, or what it asked for, is told if the shelf tells such a name; else it or none is told
+abbrev pub TellsFailed : {T : Type 0} → Bool → T → Option T → Type 0
 TellsFailed true failed told = told ≡ Some failed
-TellsFailed false failed told = (other : FailedCall) → told ≡ Some other → other ≡ failed
+TellsFailed {T} false failed told = (other : T) → told ≡ Some other → other ≡ failed
 
 -- each such range that could be read can be read still
 abbrev pub KeepsReadable : (List ℕ → Type 0) → ShelfState → ShelfState → Type 0
@@ -95,11 +102,17 @@ Touches name old new = TouchesOnly (λ other. other ≡ name) old new
 pub record Succeeds (old new : ShelfState) : Type 0 where
   pub counts : new.counts ≡ old.counts
   pub last : new.last_failed ≡ old.last_failed
+  pub range : new.failed_range ≡ old.failed_range
 
 -- a call of this kind with this name failed to read, which is counted once
 pub record FailsToRead (call : Call) (name : List ℕ) (old new : ShelfState) : Type 0 where
   pub counts : new.counts ≡ with_read_fault old.counts
   pub last : TellsFailed (new.tells_name name) (record { call = call; name = name }) new.last_failed
+
+-- a call for these bytes of a file of this name failed, which is counted once
+pub record FailsToReadRange (name : List ℕ) (range : Range) (old new : ShelfState) : Type 0 where
+  pub fails : FailsToRead Read name old new
+  pub asked : TellsFailed (new.tells_name name) range new.failed_range
 
 -- a call of this kind with this name failed to write, which is counted once
 pub record FailsToWrite (call : Call) (name : List ℕ) (old new : ShelfState) : Type 0 where
@@ -112,6 +125,7 @@ pub record HasSize (name : List ℕ) (old new : ShelfState) (size : Option ℕ) 
   pub readable : (bytes at len : ℕ) → size ≡ Some bytes → at + len ≤ bytes → new.readable name at len ≡ true
   pub counts : new.counts ≡ (if is_none size then with_miss old.counts else old.counts)
   pub last : new.last_failed ≡ old.last_failed
+  pub range : new.failed_range ≡ old.failed_range
 
 -- the buffer has the bytes of a file from a place on
 abbrev pub IsRangeOf : Option (List ℕ) → ℕ → List ℕ → Type 0
@@ -136,11 +150,13 @@ pub record FailsToStart (name : List ℕ) (old new : ShelfState) : Type 0 where
   pub told : (new.told name ≡ old.told name) ⊎ (new.told name ≡ told_empty new name)
   pub fails : FailsToWrite Start name old new
 
--- what is told of a file after these bytes were added to it, which can't be where it isn't held
-abbrev pub Grows : Told → List ℕ → Told → Type 0
-Grows Untold bytes new = new ≡ Untold
-Grows (Known None) bytes new = ⊥
-Grows (Known (Some held)) bytes new = new ≡ Known (Some (held ++ bytes))
+-- What is told of a file after these bytes were added to it. A file that is told once it is started is told still, and can't be
+-- one that isn't held; of any other nothing is told any more.
+abbrev pub Grows : Bool → Told → List ℕ → Told → Type 0
+Grows tells Untold bytes new = new ≡ Untold
+Grows true (Known None) bytes new = ⊥
+Grows true (Known (Some held)) bytes new = new ≡ Known (Some (held ++ bytes))
+Grows false (Known held) bytes new = new ≡ Untold
 
 -- what is told of it after a prefix of these bytes was added
 abbrev pub GrowsInPart : Told → List ℕ → Told → Type 0
@@ -149,7 +165,7 @@ GrowsInPart told bytes new = new ≡ told
 
 -- all these bytes were added
 pub record Appends (name bytes : List ℕ) (old new : ShelfState) : Type 0 where
-  pub told : Grows (old.told name) bytes (new.told name)
+  pub told : Grows (new.tells_started name) (old.told name) bytes (new.told name)
   pub succeeds : Succeeds old new
 
 -- a prefix of them was added

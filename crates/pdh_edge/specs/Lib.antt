@@ -6,6 +6,6 @@ pub mod Leaves
 pub mod MemFiles
 pub mod MemLists
 pub mod MemOutput
+pub mod NeverFails
 pub mod Plan
 pub mod Ports
-pub mod Untold

@@ -1,15 +1,16 @@
 -- What a shelf in memory shows, and what its calls do to it.
 use Rattle.std.specs.Prelude.{◌≡◌, ◌≢◌, ◌↔◌, ℕ, ◌+◌, List, [], ◌++◌, length, nat_le, Bool, true, false, not, ◌&&◌, if◌then◌else◌, Option, Some, None, is_some, is_none, Result, IsOk, IsErr, IfOk, OnOk, OnErr, IsTrue}
-use Rattle.std.specs.Option.{option_map_or, option_map}
+use Rattle.std.specs.Option.{option_map_or, option_map, option_and_then}
 use Rattle.std.specs.BTreeMap.{BTreeMap, get_by_text}
 use Rattle.std.specs.declared.alloc.Global.{Global}
 use Rattle.std.specs.declared.string.String.{String}
 use Rattle.pdh_edge.specs.declared.mem_shelf.Slot.{Slot}
 use Rattle.pdh_edge.specs.declared.mem_shelf.MemShelf.{MemShelf}
 use Rattle.pdh_edge.specs.declared.mem_shelf.LastFailed.{LastFailed}
+use Rattle.pdh_edge.specs.declared.mem_shelf.Asked.{Asked}
 use Rattle.pdh_edge.specs.declared.shelf.Call.{Call}
 use Rattle.pdh_edge.specs.declared.shelf.Call.TheVariants.{Size, Read, Start, Append}
-use Rattle.pdh_edge.specs.Files.{ShelfState, Counts, FailedCall, with_read_fault, with_write_fault, with_miss}
+use Rattle.pdh_edge.specs.Files.{ShelfState, Counts, FailedCall, Range, with_read_fault, with_write_fault, with_miss}
 use Rattle.pdh_edge.specs.Files.Told.{Known}
 use Rattle.pdh_edge.specs.Plan.{PlanState, no_plan, is_due, plan_after_call, plan_after_fail}
 
@@ -39,6 +40,8 @@ pub record MemState : Type 0 where
   pub counts : Counts
   -- the last call that failed, where it is told
   pub last_failed : Option FailedCall
+  -- the bytes that it asked for
+  pub failed_range : Option Range
 
 -- what one slot shows
 abbrev pub file_of : Slot → MemFile
@@ -56,6 +59,13 @@ file_in slots name = option_map_or file_of (get_by_text slots name) no_file
 abbrev pub failed_of : LastFailed → FailedCall
 failed_of last = record { call = last.call; name = last.name.bytes }
 
+-- and of the bytes that it asked for
+abbrev pub range_of : Asked → Range
+range_of asked = record { at = asked.at; len = asked.len }
+
+abbrev pub range_in : LastFailed → Option Range
+range_in last = option_map range_of last.asked
+
 -- what a shelf in memory shows
 abbrev pub mem_state : MemShelf → MemState
 mem_state shelf = record {
@@ -66,6 +76,7 @@ mem_state shelf = record {
   appends = shelf.appends;
   counts = record { read_faults = shelf.read_faults; write_faults = shelf.write_faults; misses = shelf.misses };
   last_failed = option_map failed_of shelf.last;
+  failed_range = option_and_then range_in shelf.last;
 }
 
 -- the names of calls that are told where they fail
@@ -79,6 +90,7 @@ told_by state = record {
   readable = λ name at len. true;
   counts = state.counts;
   last_failed = state.last_failed;
+  failed_range = state.failed_range;
   tells_name = is_short;
   tells_started = λ name. true;
 }
@@ -99,6 +111,7 @@ pub record IsNew (state : MemState) : Type 0 where
     appends = no_plan;
     counts = record { read_faults = 0; write_faults = 0; misses = 0 };
     last_failed = None;
+    failed_range = None;
   }
 
 -- the file of this name changed so, and nothing else changed
@@ -141,13 +154,18 @@ with_append_call state = record state { appends = plan_after_call state.appends 
 abbrev pub failed_told_after : Call → List ℕ → Option FailedCall
 failed_told_after call name = if is_short name then Some (record { call = call; name = name }) else None
 
--- after a call of this kind, with this name, that failed to read
-abbrev pub after_read_fault : Call → List ℕ → MemState → MemState
-after_read_fault call name state = record state { counts = with_read_fault state.counts; last_failed = failed_told_after call name }
+-- and what is told of the bytes that it asked for, if it asked for any
+abbrev pub range_told_after : List ℕ → Option Range → Option Range
+range_told_after name asked = if is_short name then asked else None
+
+-- after a call of this kind, with this name, that failed to read; it asked for these bytes, or for none
+abbrev pub after_read_fault : Call → List ℕ → Option Range → MemState → MemState
+after_read_fault call name asked state =
+    record state { counts = with_read_fault state.counts; last_failed = failed_told_after call name; failed_range = range_told_after name asked }
 
 -- after a call of this kind, with this name, that failed to write
 abbrev pub after_write_fault : Call → List ℕ → MemState → MemState
-after_write_fault call name state = record state { counts = with_write_fault state.counts; last_failed = failed_told_after call name }
+after_write_fault call name state = record state { counts = with_write_fault state.counts; last_failed = failed_told_after call name; failed_range = None }
 
 -- with one more miss, where this is the answer for a file that isn't held
 abbrev pub with_size_answer : Option ℕ → MemState → MemState
@@ -158,7 +176,7 @@ pub record SizesInMemory {E : Type 0} (name : List ℕ) (old new : MemState) (re
   pub fails : IsErr result ↔ IsTrue (is_due old.sizes)
   pub size : IfOk result (λ size. size ≡ option_map length (old.files name).held)
   pub ok : IfOk result (λ size. new ≡ with_size_answer size (with_size_call old))
-  pub err : OnErr result (new ≡ after_read_fault Size name (with_size_call old))
+  pub err : OnErr result (new ≡ after_read_fault Size name None (with_size_call old))
 
 -- whether a file is held and has so many bytes from a place on
 abbrev pub has_range : MemFile → ℕ → ℕ → Bool
@@ -172,7 +190,7 @@ can_read state name at len = not (is_due state.reads) && has_range (state.files 
 pub record ReadsInMemory {E : Type 0} (name : List ℕ) (at : ℕ) (before after : List ℕ) (old new : MemState) (result : Result (Unit {0}) E) : Type 0 where
   pub succeeds : IsOk result ↔ IsTrue (can_read old name at (length before))
   pub ok : OnOk result (new ≡ with_read_call old)
-  pub err : OnErr result (new ≡ after_read_fault Read name (with_read_call old))
+  pub err : OnErr result (new ≡ after_read_fault Read name (Some (record { at = at; len = length before })) (with_read_call old))
   pub buffer : OnErr result (after ≡ before)
 
 -- whether the next `start` succeeds

@@ -105,6 +105,8 @@ impl Feed for MemPort {
         × ((mem_inputs b.inputs.items).holds ≡ (mem_inputs a.inputs.items).holds)
         × (b.ready ≡ a.ready) × (b.fresh ≡ a.fresh) };
 
+    ghost unread = { λ p k. ⊥ };
+
     ghost fed_same = { λ a. (refl, refl, refl, refl, refl) };
 
     ghost fed_join = { λ a b c p q. (q.0 ∙ p.0, q.1 ∙ p.1, q.2 ∙ p.2, q.3 ∙ p.3, q.4 ∙ p.4) };

@@ -1,8 +1,8 @@
 ghost use Rattle.std.specs.Prelude.{◌≡◌, ◌≢◌, ◌↔◌, List, ℕ, true, length, option_map, is_some, IsTrue, IfOk, OnOk, OnErr};
-ghost use Rattle.std.specs.Option.{option_copied};
-ghost use Rattle.pdh_edge.specs.declared.shelf.Call.TheVariants.{Size, Read};
-ghost use Rattle.pdh_edge.specs.Files.{Looks, FailsToRead, FailsToWrite, HasSize, HasRange, Touches, Starts, FailsToStart, Appends, FailsToAppend};
-ghost use Rattle.pdh_edge.specs.MemFiles.{mem_state, shelf_state, file_in, file_of, IsNew, ChangesFile, file_after_hold, file_after_room, with_planned, SizesInMemory, ReadsInMemory, StartsInMemory, AppendsInMemory, after_read_fault, after_write_fault, failed_of, failed_told_after, file_after_start, file_after_append, can_grow};
+ghost use Rattle.std.specs.Option.{option_copied, option_and_then};
+ghost use Rattle.pdh_edge.specs.declared.shelf.Call.TheVariants.{Size};
+ghost use Rattle.pdh_edge.specs.Files.{Looks, FailsToRead, FailsToReadRange, FailsToWrite, HasSize, HasRange, Touches, Starts, FailsToStart, Appends, FailsToAppend};
+ghost use Rattle.pdh_edge.specs.MemFiles.{mem_state, shelf_state, file_in, file_of, IsNew, ChangesFile, file_after_hold, file_after_room, with_planned, SizesInMemory, ReadsInMemory, StartsInMemory, AppendsInMemory, after_read_fault, after_write_fault, failed_of, range_of, range_in, failed_told_after, range_told_after, file_after_start, file_after_append, can_grow};
 
 use crate::buffer::Buffer;
 use crate::plan::Plan;
@@ -21,7 +21,7 @@ struct Slot {
 
 /// Files in memory, which tells what they hold. The calls of `Shelf` take no memory: one fails
 /// exactly where that was planned or the files don't allow it, and then takes nothing. The last call
-/// that failed is told where its name has at most 32 bytes.
+/// that failed is told where its name has at most 32 bytes, and the bytes that it asked for.
 ///
 /// The other calls want memory. After an `AllocError` nothing has changed.
 #[derive(Drop)]
@@ -38,11 +38,19 @@ pub struct MemShelf {
     last: Option<LastFailed>,
 }
 
-// The last call that failed.
+// The last call that failed, and the bytes that it asked for, if it asked for any.
 #[derive(Clone, Copy)]
 struct LastFailed {
     call: Call,
     name: ArrayString<32>,
+    asked: Option<Asked>,
+}
+
+// So many bytes of a file, from a place on.
+#[derive(Clone, Copy)]
+struct Asked {
+    at: u64,
+    len: usize,
 }
 
 impl MemShelf {
@@ -189,25 +197,27 @@ impl MemShelf {
         }
     }
 
-    // What to tell after a call with that name failed.
-    fn told(call: Call, name: &str) -> Option<LastFailed>
-        ensures { option_map failed_of result ≡ failed_told_after call name.now }
+    // What to tell after a call with that name failed, which asked for these bytes, or for none.
+    fn told(call: Call, name: &str, asked: Option<Asked>) -> Option<LastFailed>
+        ensures call { option_map failed_of result ≡ failed_told_after call name.now }
+        ensures range { option_and_then range_in result ≡ range_told_after name.now (option_map range_of asked) }
     {
         match ArrayString::from(name) {
-            Ok(name) => Some(LastFailed { call, name }),
+            Ok(name) => Some(LastFailed { call, name, asked }),
             Err(_) => None,
         }
     }
 
-    // Counts a call with that name that failed to read.
-    fn read_failed(&mut self, call: Call, name: &str) -> Failed
-        ensures memory { mem_state self.new ≡ after_read_fault call name.now (mem_state self.old) }
+    // Counts a call with that name that failed to read, and asked for these bytes, or for none.
+    fn read_failed(&mut self, call: Call, name: &str, asked: Option<Asked>) -> Failed
+        ensures memory { mem_state self.new
+            ≡ after_read_fault call name.now (option_map range_of asked) (mem_state self.old) }
         ensures slots { self.new.slots ≡ self.old.slots }
         ensures kept { Looks (shelf_state self.old) (shelf_state self.new) }
         ensures fails { FailsToRead call name.now (shelf_state self.old) (shelf_state self.new) }
     {
         self.read_faults = self.read_faults.saturating_add(1);
-        self.last = MemShelf::told(call, name);
+        self.last = MemShelf::told(call, name, asked);
         Failed
     }
 
@@ -219,7 +229,7 @@ impl MemShelf {
         ensures fails { FailsToWrite call name.now (shelf_state self.old) (shelf_state self.new) }
     {
         self.write_faults = self.write_faults.saturating_add(1);
-        self.last = MemShelf::told(call, name);
+        self.last = MemShelf::told(call, name, None);
         Failed
     }
 }
@@ -247,7 +257,7 @@ impl Shelf for MemShelf {
         ensures memory { SizesInMemory name.now (mem_state self.old) (mem_state self.new) result }
     {
         if self.sizes.count() {
-            return Err(self.read_failed(Call::Size, name));
+            return Err(self.read_failed(Call::Size, name, None));
         }
         let size = self.file(name).map(|bytes| bytes.len() as u64);
         if size.is_none() {
@@ -260,13 +270,17 @@ impl Shelf for MemShelf {
         ensures kept { Looks (shelf_state self.old) (shelf_state self.new) }
         ensures ok { OnOk result (HasRange name.now at into.new
             (shelf_state self.old) (shelf_state self.new)) }
-        ensures err { OnErr result (FailsToRead Read name.now
+        ensures err { OnErr result (FailsToReadRange name.now (record { at = at; len = length into.old })
             (shelf_state self.old) (shelf_state self.new)) }
         ensures memory { ReadsInMemory name.now at into.old into.new
             (mem_state self.old) (mem_state self.new) result }
     {
+        let asked = Some(Asked {
+            at,
+            len: into.len(),
+        });
         if self.reads.count() {
-            return Err(self.read_failed(Call::Read, name));
+            return Err(self.read_failed(Call::Read, name, asked));
         }
         let at = at as usize;
         match self.file(name) {
@@ -274,7 +288,7 @@ impl Shelf for MemShelf {
                 into.copy_from_slice(&bytes[at..at + into.len()]);
                 Ok(())
             }
-            _ => Err(self.read_failed(Call::Read, name)),
+            _ => Err(self.read_failed(Call::Read, name, asked)),
         }
     }
 

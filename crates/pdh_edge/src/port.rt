@@ -1,6 +1,6 @@
 ghost use Rattle.std.specs.Prelude.{◌≡◌, ◌≤◌, ◌<◌, ◌+◌, ◌-◌, ◌^◌, ℕ, Bool, List, length, min, Some, IsTrue, IfOk, OnOk, OnErr, IsErrOf};
 ghost use Rattle.pdh_packed.specs.Gaining.{gained, IsGrown};
-ghost use Rattle.pdh_edge.specs.declared.port.FeedStop.TheVariants.{Ended};
+ghost use Rattle.pdh_edge.specs.declared.port.FeedStop.TheVariants.{Ended, Failed as FeedFailed};
 ghost use Rattle.pdh_edge.specs.Ports.{Inputs, Outputs, Takes, Puts, PutsPart, HasCause, HasFeedCause, only, for_leaf, nothing};
 
 use crate::Failed;
@@ -28,6 +28,9 @@ pub trait Feed: Drop {
     /// What calls that only take bits may change.
     ghost fed: { Self → Self → Type 0 };
 
+    /// A call for bits of this leaf's list has failed, and no call came since.
+    ghost unread: { Self → ℕ → Type 0 };
+
     /// How many calls have failed.
     fn feed_faults(&self) -> u64
         ensures { result ≡ feed_faults self.now };
@@ -40,6 +43,7 @@ pub trait Feed: Drop {
         ensures err { OnErr result (Takes nothing (inputs self.old) (inputs self.new)) }
         ensures cause { HasFeedCause (feed_faults self.old) (feed_faults self.new) result }
         ensures ended { IsErrOf result Ended → (inputs self.old).left leaf ≡ 0 }
+        ensures unread { IsErrOf result FeedFailed → unread self.new leaf }
         ensures fed { fed self.old self.new };
 
     /// Takes next bits of a leaf's list, at least one and at most so many, appends them to `into`,
@@ -57,6 +61,7 @@ pub trait Feed: Drop {
         ensures same { OnErr result (into.new ≡ into.old) }
         ensures cause { HasFeedCause (feed_faults self.old) (feed_faults self.new) result }
         ensures ended { IsErrOf result Ended → (inputs self.old).left leaf ≡ 0 }
+        ensures unread { IsErrOf result FeedFailed → unread self.new leaf }
         ensures fed { fed self.old self.new }
     {
         into.push(self.bit(leaf)?);

@@ -1,6 +1,6 @@
 ghost use Rattle.std.specs.Prelude.{◌≡◌, length, IfOk, OnOk, OnErr, true};
-ghost use Rattle.pdh_edge.specs.declared.shelf.Call.TheVariants.{Size, Read};
-ghost use Rattle.pdh_edge.specs.Files.{ShelfState, Looks, Touches, FailsToRead, HasSize, HasRange, Starts, FailsToStart, Appends, FailsToAppend};
+ghost use Rattle.pdh_edge.specs.declared.shelf.Call.TheVariants.{Size};
+ghost use Rattle.pdh_edge.specs.Files.{ShelfState, Looks, Touches, FailsToRead, FailsToReadRange, HasSize, HasRange, Starts, FailsToStart, Appends, FailsToAppend};
 
 /// A kind of call of a shelf.
 #[derive(Clone, Copy, Debug, PartialEq, Eq)]
@@ -45,12 +45,13 @@ pub trait Shelf: Drop {
         ensures err { OnErr result (FailsToRead Size name.now (state self.old) (state self.new)) };
 
     /// Fills the buffer whole with a file's bytes from a place on. A range past the end, or of a
-    /// file that isn't held, is a failure.
+    /// file that isn't held, is a failure, which tells the range where it tells the name.
     fn read_at(&mut self, name: &str, at: u64, into: &mut [u8]) -> Result<(), Failed>
         requires { (state self.old).readable name.now at (length into.old) ≡ true }
         ensures kept { Looks (state self.old) (state self.new) }
         ensures ok { OnOk result (HasRange name.now at into.new (state self.old) (state self.new)) }
-        ensures err { OnErr result (FailsToRead Read name.now (state self.old) (state self.new)) };
+        ensures err { OnErr result (FailsToReadRange name.now (record { at = at; len = length into.old })
+            (state self.old) (state self.new)) };
 
     /// Makes a file empty, new or not. After a failure it is as before or empty.
     fn start(&mut self, name: &str) -> Result<(), Failed>
@@ -58,7 +59,8 @@ pub trait Shelf: Drop {
         ensures ok { OnOk result (Starts name.now (state self.old) (state self.new)) }
         ensures err { OnErr result (FailsToStart name.now (state self.old) (state self.new)) };
 
-    /// Adds all the bytes at a file's end. After a failure a prefix of them was added.
+    /// Adds all the bytes at a file's end. After a failure a prefix of them was added. Of a file that
+    /// isn't told once it is started nothing is told any more.
     fn append(&mut self, name: &str, bytes: &[u8]) -> Result<(), Failed>
         ensures kept { Touches name.now (state self.old) (state self.new) }
         ensures ok { OnOk result (Appends name.now bytes.now (state self.old) (state self.new)) }

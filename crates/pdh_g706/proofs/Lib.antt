@@ -10,3 +10,4 @@ pub mod HoldsLaws
 pub mod EventLaws
 pub mod HeldLaws
 pub mod AlignSteps
+pub mod PayloadLaws

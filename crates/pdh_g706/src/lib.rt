@@ -5,8 +5,10 @@
 mod align;
 mod counts;
 mod held;
+mod laws;
 mod payload;
 mod stage;
 mod tell;
 
 pub use align::E1Align;
+pub use laws::payload_fits_the_stream;

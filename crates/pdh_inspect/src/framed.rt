@@ -1,10 +1,11 @@
-ghost use Rattle.std.specs.Prelude.{◌≡◌, ◌<◌, ◌≤◌, Bool, List, [], ◌++◌, map, IsTrue, IfOk, IfErr, OnOk};
+ghost use Rattle.std.specs.Prelude.{◌≡◌, ◌<◌, ◌≤◌, Bool, List, [], ◌++◌, map, IsTrue, IfOk, IfErr, OnOk, IsErrOf};
 ghost use Rattle.pdh_edge.specs.Ports.{HasFeedCause};
 ghost use Rattle.pdh_edge.specs.declared.port.FeedStop.TheVariants.{Failed};
 ghost use Rattle.pdh_g706.specs.View.{StandsFor};
 ghost use Rattle.pdh_g706.specs.Tracking.{multiframes_in, counted};
 ghost use Rattle.pdh_g706.specs.Events.{e1_events};
 ghost use Rattle.pdh_watch.specs.Monitors.{SawEach};
+ghost use Rattle.pdh_inspect.specs.declared.seen.LineStop.TheVariants.{Failed as StopFailed};
 ghost use Rattle.pdh_inspect.specs.Seen.{SeesFramed, SeesAll, SeesFewer, IsLineStop, faults_seen};
 
 use crate::line_port::LinePort;
@@ -61,6 +62,7 @@ fn push_line<F: Feed, W: Watch>(
     requires whole { bits ≤ (F.inputs port.old.feed).left 0 }
     ensures fed { F.fed port.old.feed port.new.feed }
     ensures faults { HasFeedCause (F.feed_faults port.old.feed) (F.feed_faults port.new.feed) result }
+    ensures unread { IsErrOf result Failed → F.unread port.new.feed 0 }
     ensures ok { OnOk result (SeesAll (λ given. StandsFor align.new given × W.saw watch.old (e1_events given) watch.new)
         bits (F.inputs port.old.feed) (F.inputs port.new.feed)) }
     ensures err { IfErr result (λ why. (why ≡ Failed) × SeesFewer (λ given. W.saw watch.old (e1_events given) watch.new)
@@ -88,6 +90,7 @@ fn watch_framed<F: Feed, W: Watch>(
     requires whole { bits ≤ (F.inputs port.old.feed).left 0 }
     ensures fed { F.fed port.old.feed port.new.feed }
     ensures faults { F.feed_faults port.new.feed ≡ faults_seen result (F.feed_faults port.old.feed) }
+    ensures unread { IsErrOf result StopFailed → F.unread port.new.feed 0 }
     ensures ok { IfOk result (λ multiframes. SeesAll (λ given. W.saw watch.old (e1_events given) watch.new
         × (multiframes ≡ counted (multiframes_in given))) bits (F.inputs port.old.feed) (F.inputs port.new.feed)) }
     ensures err { IfErr result (IsLineStop (λ given. W.saw watch.old (e1_events given) watch.new) (watch.new ≡ watch.old)
@@ -107,7 +110,7 @@ fn watch_framed<F: Feed, W: Watch>(
 
 /// Shows each event of a framed 2048 kbit/s line, which has so many bits in list 0 of the feed, to each monitor, in order, and
 /// answers how many multiframes are delivered and how many events there are. Where memory is wanting no monitor has seen any;
-/// where the feed fails each has seen those of the bits that came before.
+/// where the feed fails each has seen those of the bits that came before, and no call came since.
 pub fn inspect_framed<F: Feed, M: Monitor>(
     alloc: Global,
     bits: u64,
@@ -118,6 +121,7 @@ pub fn inspect_framed<F: Feed, M: Monitor>(
     requires whole { bits ≤ (F.inputs feed).left 0 }
     ensures fed { F.fed feed result.feed }
     ensures faults { F.feed_faults result.feed ≡ faults_seen result.result (F.feed_faults feed) }
+    ensures unread { IsErrOf result.result StopFailed → F.unread result.feed 0 }
     ensures ok { let old = map M.state monitors.old.items in let new = map M.state monitors.new.items in
         IfOk result.result (λ seen. SeesAll (λ given. SeesFramed given old new seen)
         bits (F.inputs feed) (F.inputs result.feed)) }

@@ -1,4 +1,5 @@
-ghost use Rattle.std.specs.Prelude.{◌≡◌, ◌<◌, ◌≤◌, ◌^◌, map, IsTrue, IfOk, IfErr};
+ghost use Rattle.std.specs.Prelude.{◌≡◌, ◌<◌, ◌≤◌, ◌^◌, map, IsTrue, IfOk, IfErr, IsErrOf};
+ghost use Rattle.pdh_inspect.specs.declared.seen.LineStop.TheVariants.{Failed};
 ghost use Rattle.pdh_watch.specs.Monitors.{SawEach};
 ghost use Rattle.pdh_chain.specs.Chains.{shapes_of};
 ghost use Rattle.pdh_chain.specs.Demuxes.{top_delivered};
@@ -35,6 +36,7 @@ fn watch_line<F: Feed, W: Watch>(
     requires whole { bits ≤ (F.inputs port.old.feed).left 0 }
     ensures fed { F.fed port.old.feed port.new.feed }
     ensures faults { F.feed_faults port.new.feed ≡ faults_seen result (F.feed_faults port.old.feed) }
+    ensures unread { IsErrOf result Failed → F.unread port.new.feed 0 }
     ensures ok { IfOk result (λ frames. SeesAll (λ given. W.saw watch.old (line_bits_events chain given) watch.new
         × (frames ≡ top_delivered (shapes_of chain) given)) bits (F.inputs port.old.feed) (F.inputs port.new.feed)) }
     ensures err { IfErr result (IsLineStop (λ given. W.saw watch.old (line_bits_events chain given) watch.new)
@@ -52,7 +54,7 @@ fn watch_line<F: Feed, W: Watch>(
 
 /// Shows each event of a chain's line, which has so many bits in list 0 of the feed, to each monitor, in order, and answers how
 /// many frames of the top are delivered and how many events there are. Where memory is wanting no monitor has seen any; where
-/// the feed fails each has seen those of the bits that came before.
+/// the feed fails each has seen those of the bits that came before, and no call came since.
 pub fn inspect_line<F: Feed, M: Monitor>(
     alloc: Global,
     chain: Chain,
@@ -65,6 +67,7 @@ pub fn inspect_line<F: Feed, M: Monitor>(
     requires whole { bits ≤ (F.inputs feed).left 0 }
     ensures fed { F.fed feed result.feed }
     ensures faults { F.feed_faults result.feed ≡ faults_seen result.result (F.feed_faults feed) }
+    ensures unread { IsErrOf result.result Failed → F.unread result.feed 0 }
     ensures ok { let old = map M.state monitors.old.items in let new = map M.state monitors.new.items in
         IfOk result.result (λ seen. SeesAll (λ given. SeesLine chain given old new seen)
         bits (F.inputs feed) (F.inputs result.feed)) }

@@ -48,6 +48,8 @@ impl<F: Feed> Feed for LinePort<F> {
 
     ghost fed = { λ a b. F.fed a.feed b.feed × (b.ready ≡ a.ready) × (b.fresh ≡ a.fresh) };
 
+    ghost unread = { λ p k. F.unread p.feed k };
+
     ghost fed_same = { λ a. (F.fed_same a.feed, refl, refl) };
 
     ghost fed_join = { λ a b c p q. (F.fed_join a.feed b.feed c.feed p.0 q.0, q.1 ∙ p.1, q.2 ∙ p.2) };

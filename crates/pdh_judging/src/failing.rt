@@ -54,10 +54,11 @@ fn judge_failed_text(
     note_text(sweep.line, found, findings)
 }
 
-// Whether a file is as before, or a front of what it would be.
+// Whether a file is as before or, where the run changes it, a front of what it would be.
 fn is_part(found: &[u8], before: Option<&[u8]>, whole: Option<&[u8]>) -> bool {
     match (before, whole) {
         (Some(before), _) if before == found => true,
+        (Some(before), Some(whole)) if before == whole => false,
         (_, Some(whole)) => whole.starts_with(found),
         _ => false,
     }
@@ -81,7 +82,7 @@ fn judge_part(
     findings.note(line, difference.as_str())
 }
 
-// Each file that is held is as before, or a front of what it would be.
+// Each file that is held is as before or, where the run changes it, a front of what it would be.
 fn judge_parts(
     line: usize,
     before: &Files,
@@ -120,8 +121,8 @@ fn judge_held_still(
 }
 
 /// Compares what a run left in which a call failed with what was there before, and with what the run leaves where that call
-/// doesn't fail: the status is that of a failed call, the text names the file whose call failed, and each file is as before or
-/// a front of what it would be.
+/// doesn't fail: the status is that of a failed call, the text names the file whose call failed, and each file is as before or,
+/// where the run changes it, a front of what it would be.
 pub fn judge_failed(
     sweep: Sweep,
     before: &Files,

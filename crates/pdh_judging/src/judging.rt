@@ -271,15 +271,16 @@ fn judge_status(run: &Run, found: u8, findings: &mut Findings) -> Result<(), All
     }
 }
 
-/// Compares the outcome of a run, over the files that were there before, with all that is expected of it.
+/// Compares the outcome of a run of this row of words, over the files that were there before, with all that is expected of it.
 pub fn judge(
     run: &Run,
+    row: &[String],
     before: &Files,
     outcome: &Outcome,
     findings: &mut Findings,
 ) -> Result<(), AllocError> {
     judge_status(run, outcome.status, findings)?;
-    judge_text(run, before, outcome, findings)?;
+    judge_text(run, row, before, outcome, findings)?;
     for want in run.wants.iter() {
         judge_want(want, before, outcome, findings)?;
     }

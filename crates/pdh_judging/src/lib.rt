@@ -19,4 +19,5 @@ pub use findings::Findings;
 pub use judging::judge;
 pub use known::known_names;
 pub use outcome::Outcome;
+pub use saying::joined;
 pub use showing::show;

@@ -1,14 +1,17 @@
 -- What an alignment machine leaves of a whole line.
-use Rattle.std.proofs.Common.{◌≡◌, ℕ, Bool, List, [], ◌∷◌, ◌++◌, Some, ap, sym, ◌∙◌, arith, lit<}
+use Rattle.std.proofs.Common.{◌≡◌, ℕ, ◌<◌, ◌≤◌, Bool, List, [], ◌∷◌, ◌++◌, length, Option, Some, None, ap, sym, ◌∙◌, subst, arith, lit<, length-append}
 use Rattle.std.specs.Prelude.{IsTrue, flat_map}
-use Rattle.std.proofs.lemmas.Bool.{lt-ltb}
+use Rattle.std.proofs.lemmas.Bool.{lt-ltb, ltb-true}
+use Rattle.std.proofs.lemmas.List.{append-nil}
 use Rattle.pdh_bits.specs.Bits.{bits_of, bytes_of}
-use Rattle.pdh_edge.specs.Ports.{Outputs, after}
-use Rattle.pdh_edge.specs.MemLists.{outputs_of}
+use Rattle.pdh_edge.specs.Ports.{Outputs, PrefixOf, after}
+use Rattle.pdh_edge.specs.MemLists.{outputs_of, length_of, bits_held}
 use Rattle.pdh_g706.specs.declared.align.E1Align.{E1Align}
 use Rattle.pdh_g706.specs.Tracking.{Share, track, e1_far, multiframes_in, blocks_in, errors_in, counted}
 use Rattle.pdh_g706.specs.Machine.{nothing}
-use Rattle.pdh_g706.specs.View.{StandsFor, Gains}
+use Rattle.pdh_g706.specs.View.{StandsFor, Gains, GainsPart}
+use Rattle.pdh_g706.proofs.AlignSteps.{part_join}
+use Rattle.pdh_g706.proofs.PayloadLaws.{payload_fits}
 use Rattle.pdh_g706.proofs.SearchLaws.{short_search}
 use Rattle.pdh_g706.proofs.TrackLaws.{not_over, track_open}
 use Rattle.pdh_g706.proofs.TurnLaws.{one_search_none}
@@ -44,6 +47,26 @@ is_unpacked line bits got align old new multiframes blocks errored unpacked made
       found_is = found ∙ ap (λ (x : ℕ). record { multiframes = x; blocks = blocks; errored = errored }) m ∙ ap (λ (x : ℕ). record { multiframes = counted (multiframes_in (bits_of line)); blocks = x; errored = errored }) n
           ∙ ap (λ (x : ℕ). record { multiframes = counted (multiframes_in (bits_of line)); blocks = counted (blocks_in (bits_of line)); errored = x }) e;
     }
+
+-- what a list that was empty holds of bits of which a part was put
+held_few : (bits : List Bool) (before now : Option (List Bool)) → before ≡ Some [] → PrefixOf bits before now → length_of now ≤ length bits
+held_few bits None now e p = cc
+held_few bits (Some old) None e p = omega arith
+held_few bits (Some old) (Some new) e p =
+    let none : old ≡ [] = cc in
+    let all : bits ≡ new ++ p.0 = sym (ap (λ (l : List Bool). l ++ bits) none) ∙ p.1 in
+    omega (arith, ap length all, length-append new p.0)
+
+-- a port with one list, which was empty, isn't full where a part of a line's payload was put, if it has room for the line
+pub payload_in_room : (taken now : List Bool) (room k : ℕ) (old mid new : Outputs) → old ≡ outputs_of ([] ∷ []) → new.holds ≡ old.holds → Gains [] taken old mid → GainsPart taken now mid new
+    → 0 < length now → length now ≤ room → IsTrue (new.holds k) → (k ≡ 0) × (bits_held new k < room)
+payload_in_room taken now room k old mid new empty holds gains part some enough held =
+    let one : k < 1 = ltb-true k 1 (subst IsTrue (ap (λ (h : ℕ → Bool). h k) holds ∙ ap (λ (o : Outputs). o.holds k) empty) held) in
+    let first : k ≡ 0 = omega (arith, one) in
+    let all : GainsPart [] now old new = part_join [] taken now now old mid new ([], sym (append-nil (e1_far now))) gains part in
+    let payload : e1_far now ≡ all.more = all.gained ∙ ap (λ (l : List Bool). l ++ all.more) far_empty in
+    let few : bits_held new 0 ≤ length all.more = held_few all.more (old.told 0) (new.told 0) (ap (λ (o : Outputs). o.told 0) empty) (all.puts 0) in
+    (first, subst (λ i. bits_held new i < room) (sym first) (omega (arith, few, ap length payload, payload_fits now, some, enough)))
 
 -- a port with one list holds it
 pub first_holds : {outputs : Outputs} → outputs ≡ outputs_of ([] ∷ []) → IsTrue (outputs.holds 0)

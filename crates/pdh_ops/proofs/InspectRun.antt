@@ -1,6 +1,7 @@
 -- A command that reads all bits of one file in its run and writes nothing: the port that it opens, what it comes to, and what
 -- the monitors see.
-use Rattle.std.proofs.Common.{◌≡◌, ℕ, zero, suc, ◌*◌, Bool, true, List, [], ◌∷◌, length, take, Option, Some, Ok, Err, slice_get, ap, sym, subst, ◌∙◌, arith}
+use Rattle.std.proofs.Common.{◌≡◌, ℕ, zero, suc, ◌*◌, ◌-◌, Bool, true, List, [], ◌∷◌, length, map, take, Option, Some, Ok, Err, slice_get, ap, sym, refl, subst, ◌∙◌, arith}
+use Rattle.std.specs.Option.{option_map_or}
 use Rattle.std.specs.Prelude.{unwrap_or}
 use Rattle.std.proofs.lemmas.Option.{none-some, same_Some}
 use Rattle.std.proofs.Math.Seq.{take-length, take-append_seam}
@@ -8,12 +9,15 @@ use Rattle.pdh_bits.specs.Bits.{bits_of}
 use Rattle.pdh_bits.proofs.BitsLemmas.{length-bits_of}
 use Rattle.pdh_edge.specs.Counts.{one_more}
 use Rattle.pdh_edge.specs.declared.shelf.Call.TheVariants.{Read as ReadCall}
-use Rattle.pdh_edge.specs.Files.{ShelfState, Looks, FailsToRead}
+use Rattle.pdh_edge.specs.Files.{ShelfState, Looks, FailsToRead, TellsFailed}
 use Rattle.pdh_edge.specs.Files.Told.{Known}
 use Rattle.pdh_edge.specs.Ports.{Takes, IsPrefix}
 use Rattle.pdh_chain.specs.Muxing.{as_line}
-use Rattle.pdh_blocks.specs.State.{PortState}
-use Rattle.pdh_blocks.specs.Lists.{inputs_of}
+use Rattle.pdh_blocks.specs.Leaves.{Leaf, IsNextBlock}
+use Rattle.pdh_blocks.specs.State.{PortState, Origin, origin_of}
+use Rattle.pdh_blocks.specs.Lists.{inputs_of, left_of}
+use Rattle.pdh_blocks.specs.Done.{IsUnread}
+use Rattle.pdh_blocks.proofs.Places.{get_mapped}
 use Rattle.pdh_blocks.specs.Held.{IsPort}
 use Rattle.pdh_blocks.specs.Kept.{Feeds}
 use Rattle.pdh_watch.specs.declared.event.Event.{Event}
@@ -24,8 +28,8 @@ use Rattle.pdh_answers.specs.Answer.{Answer}
 use Rattle.pdh_ops.specs.Reading.{HasLength}
 use Rattle.pdh_ops.specs.Schedules.{Files, bytes_in}
 use Rattle.pdh_ops.specs.Commands.{AreTold, OfInputs, outputs, comes_to, reaches_outputs, IsReadDue}
-use Rattle.pdh_ops.specs.Run.{GoesOn, is_read_in_run, Performs, SeeEvents, SeeFirst}
-use Rattle.pdh_ops.specs.PortFiles.{AreRead, HasFiles, IsOpenFor, IsStopOf, opened_for}
+use Rattle.pdh_ops.specs.Run.{GoesOn, is_read_in_run, Performs, SeeEvents, SeeBlocksBefore}
+use Rattle.pdh_ops.specs.PortFiles.{AreRead, HasFiles, IsOpenFor, IsStopOf, unread_file, opened_for}
 use Rattle.pdh_answers.specs.declared.file.File.{File}
 use Rattle.pdh_ops.specs.declared.port.Input.{Input}
 use Rattle.pdh_answers.specs.declared.answer.Done.{Done}
@@ -50,6 +54,11 @@ module _ (line : Input) (reads : List Input) (one : reads ≡ line ∷ []) where
       go zero here = sym (same_Some _ _ here)
       go (suc k) here = absurd (none-some input here)
 
+-- the first leaf of those of which these are the origins
+first_leaf : (leaves : List Leaf) (origin : Origin) → slice_get (map origin_of leaves) 0 ≡ Some origin → (leaf : Leaf) × (slice_get leaves 0 ≡ Some leaf) × (origin_of leaf ≡ origin)
+first_leaf [] origin here = absurd (none-some origin here)
+first_leaf (leaf ∷ leaves) origin here = (leaf, refl, same_Some (origin_of leaf) origin here)
+
 -- ---- the command
 
 -- A command begins with a file, of which it reads all bits in its run, and writes nothing; the file isn't refused.
@@ -70,6 +79,7 @@ pub record IsLinePort (command : Command) (file : File) (next : List ℕ → Ans
   pub file_is : line.file ≡ file
   pub one : reads ≡ line ∷ []
   pub files : HasFiles reads writes p
+  pub leaf : slice_get p.leaves 0 ≡ Some (unread_file line)
   pub due : AreRead command a reads
   pub comes : OfInputs command a (λ files. comes_to command files ≡ next (bytes_in files (name_of file)))
   pub gives : OfInputs command a (λ files. (inputs_of p).told 0 ≡ Some (bits_of (bytes_in files (name_of file))))
@@ -122,6 +132,7 @@ module _ (command : Command) (file : File) (judge : Judge) (next : List ℕ → 
         file_is = is.file_is;
         one = one;
         files = has_files b reads writes;
+        leaf = ap (λ (all : List Input). slice_get (map unread_file all) 0) one;
         due = one_read;
         comes = comes;
         gives = gives;
@@ -147,9 +158,9 @@ module _ {command : Command} {file : File} {next : List ℕ → Answer} {line : 
   all_seen events_of before after given count takes saw = (events_of given, saw, λ files told. ap events_of (given_all given count takes files told))
 
   -- or of the first ones
-  pub first_seen : (events_of : List Bool → List Event) (before after : List State) (given : List Bool) → Takes (as_line given) (inputs_of p) (inputs_of q) → SawEach before (events_of given) after
-      → SeeFirst command a (λ n files. events_of (take n (bits_of (bytes_in files (name_of file))))) before after
-  first_seen events_of before after given takes saw = (length given, (events_of given, saw, λ files told. ap events_of (given_first given takes files told)))
+  first_seen : (events_of : List Bool → List Event) (before after : List State) (given : List Bool) → Takes (as_line given) (inputs_of p) (inputs_of q) → SawEach before (events_of given) after
+      → SeeEvents command a (λ files. events_of (take (length given) (bits_of (bytes_in files (name_of file))))) before after
+  first_seen events_of before after given takes saw = (events_of given, saw, λ files told. ap events_of (given_first given takes files told))
 
   -- how it ends
   module _ (fed : Feeds p q) (port : IsPort q) where
@@ -167,3 +178,29 @@ module _ {command : Command} {file : File} {next : List ℕ → Answer} {line : 
         let found = fed_failed is.open_for is.no_outputs fed port reads writes stop failed is.files stops in
         let same : found.1.file ≡ file = ap (λ (input : Input). input.file) (the_line line reads is.one found.0 found.1 found.2) ∙ is.file_is in
         (found.3 ∙ ap Read same, subst (λ file. FailsToRead ReadCall (name_of file) a q.shelf) same found.4)
+
+    -- the file as the port's leaf, in the end
+    the_leaf : (leaf : Leaf) × (slice_get q.leaves 0 ≡ Some leaf) × (origin_of leaf ≡ origin_of (unread_file line))
+    the_leaf = first_leaf q.leaves (origin_of (unread_file line)) (ap (λ (all : List Origin). slice_get all 0) fed.keeps.origins ∙ get_mapped origin_of p.leaves 0 (unread_file line) is.leaf)
+
+    -- it has given as many bits as were taken
+    given_is : (given : List Bool) → Takes (as_line given) (inputs_of p) (inputs_of q) → length given ≡ the_leaf.0.given
+    given_is given takes =
+        let was : (inputs_of p).left 0 ≡ line.bits - 0 = ap (λ (o : Option Leaf). option_map_or left_of o 0) is.leaf in
+        let now : (inputs_of q).left 0 ≡ the_leaf.0.bits - the_leaf.0.given = ap (λ (o : Option Leaf). option_map_or left_of o 0) the_leaf.1 in
+        let bits : the_leaf.0.bits ≡ line.bits = ap (λ (origin : Origin). origin.bits) the_leaf.2 in
+        omega (arith, takes.counts 0, was, now, bits, (port.blocks.leaves 0 the_leaf.0 the_leaf.1).within)
+
+    -- and the monitors saw what came before the block that it asked for
+    pub unread_seen : (events_of : List Bool → List Event) (before after : List State) (given : List Bool) → Takes (as_line given) (inputs_of p) (inputs_of q) → SawEach before (events_of given) after
+        → IsUnread q 0 → FailsToRead ReadCall (name_of file) a q.shelf
+        → SeeBlocksBefore command file a q.shelf (λ n files. events_of (take n (bits_of (bytes_in files (name_of file))))) before after
+    unread_seen events_of before after given takes saw unread fails =
+        let named : the_leaf.0.name ≡ name_of file = ap (λ (origin : Origin). origin.name) the_leaf.2 ∙ ap name_of is.file_is in
+        record {
+          bits = length given;
+          range = unread.range;
+          block = subst (λ (n : ℕ). IsNextBlock n unread.range) (sym (given_is given takes)) (unread.block the_leaf.0 the_leaf.1);
+          fails = record { fails = fails; asked = subst (λ (name : List ℕ). TellsFailed (q.shelf.tells_name name) unread.range q.shelf.failed_range) named (unread.asked the_leaf.0 the_leaf.1) };
+          seen = first_seen events_of before after given takes saw;
+        }

@@ -16,6 +16,7 @@ use Rattle.pdh_blocks.specs.State.{PortState}
 use Rattle.pdh_blocks.specs.Lists.{inputs_of}
 use Rattle.pdh_blocks.specs.Held.{IsPort}
 use Rattle.pdh_blocks.specs.Kept.{Feeds}
+use Rattle.pdh_blocks.specs.Done.{IsUnread}
 use Rattle.pdh_watch.specs.Monitors.{State, SawEach}
 use Rattle.pdh_words.specs.declared.commands.Bits.{Bits}
 use Rattle.pdh_words.specs.declared.commands.Command.TheVariants.{Inspect, InspectE1}
@@ -35,7 +36,7 @@ use Rattle.pdh_answers.specs.declared.answer.Done.TheVariants.{Inspected, E1Insp
 use Rattle.pdh_answers.specs.declared.answer.Stop.{Stop}
 use Rattle.pdh_ops.proofs.E1Files.{whole_framed}
 use Rattle.pdh_ops.proofs.InspectFiles.{inspect_begins, framed_begins}
-use Rattle.pdh_ops.proofs.InspectRun.{ReadsWhole, IsLinePort, line_port, given_all, all_seen, first_seen, run_done, run_stops, run_failed}
+use Rattle.pdh_ops.proofs.InspectRun.{ReadsWhole, IsLinePort, line_port, given_all, all_seen, unread_seen, run_done, run_stops, run_failed}
 use Rattle.pdh_ops.proofs.OneInput.{ServesAll}
 use Rattle.pdh_shape.specs.OwnNumbers.{most_frames}
 
@@ -89,12 +90,12 @@ module _ (chain : Chain) (bits : Bits) (line : Input) (reads : List Input) (writ
   pub inspect_stops : (stop : Stop) → q.feed_faults ≡ one_more p.feed_faults → IsStopOf reads writes q stop → Performs (Inspect chain bits) a q.shelf (Err stop)
   inspect_stops stop failed stops = run_stops is q fed port stop failed stops
 
-  pub inspect_watched_first : (stop : Stop) → q.feed_faults ≡ one_more p.feed_faults → IsStopOf reads writes q stop → SeesFewer (λ given. SawEach before (line_bits_events chain given) after) line.bits (inputs_of p) (inputs_of q)
+  pub inspect_watched_first : (stop : Stop) → q.feed_faults ≡ one_more p.feed_faults → IsStopOf reads writes q stop → SeesFewer (λ given. SawEach before (line_bits_events chain given) after) line.bits (inputs_of p) (inputs_of q) → IsUnread q 0
       → Watches (Some (Inspect chain bits)) a q.shelf (Err stop) before after
-  inspect_watched_first stop failed stops sees =
+  inspect_watched_first stop failed stops sees unread =
       let read = run_failed is q fed port stop failed stops in
       subst (λ stop. Watches (Some (Inspect chain bits)) a q.shelf (Err stop) before after) (sym read.0)
-      (inr (read.1, first_seen is q (line_bits_events chain) before after sees.given sees.takes sees.seen))
+      (inr (unread_seen is q fed port (line_bits_events chain) before after sees.given sees.takes sees.seen unread read.1))
 
 -- ---- a framed line
 
@@ -137,9 +138,9 @@ module _ (line : Input) (reads : List Input) (writes : List File) (a : ShelfStat
   pub framed_stops : (stop : Stop) → q.feed_faults ≡ one_more p.feed_faults → IsStopOf reads writes q stop → Performs InspectE1 a q.shelf (Err stop)
   framed_stops stop failed stops = run_stops is q fed port stop failed stops
 
-  pub framed_watched_first : (stop : Stop) → q.feed_faults ≡ one_more p.feed_faults → IsStopOf reads writes q stop → SeesFewer (λ given. SawEach before (e1_events given) after) line.bits (inputs_of p) (inputs_of q)
+  pub framed_watched_first : (stop : Stop) → q.feed_faults ≡ one_more p.feed_faults → IsStopOf reads writes q stop → SeesFewer (λ given. SawEach before (e1_events given) after) line.bits (inputs_of p) (inputs_of q) → IsUnread q 0
       → Watches (Some InspectE1) a q.shelf (Err stop) before after
-  framed_watched_first stop failed stops sees =
+  framed_watched_first stop failed stops sees unread =
       let read = run_failed is q fed port stop failed stops in
       subst (λ stop. Watches (Some InspectE1) a q.shelf (Err stop) before after) (sym read.0)
-      (inr (read.1, first_seen is q e1_events before after sees.given sees.takes sees.seen))
+      (inr (unread_seen is q fed port e1_events before after sees.given sees.takes sees.seen unread read.1))

@@ -24,6 +24,10 @@ pub mod OneOutput
 pub mod MuxFiles
 pub mod ClockComes
 pub mod MuxGivesBack
+pub mod MuxIsSent
+pub mod BentRejoins
+pub mod DemuxRejoins
+pub mod FilesComeBack
 pub mod MuxTolerated
 pub mod OneInput
 pub mod E1Packing
@@ -35,3 +39,4 @@ pub mod DisturbFiles
 pub mod DrillComes
 pub mod InspectRun
 pub mod InspectWatched
+pub mod NeverFailing

@@ -111,7 +111,7 @@ mux_done chain feac files done h = by_rows (rows_of chain (bytes_in files schedu
 
 -- ---- the line
 
-line_bits : (chain : Chain) (feac : Option ℕ) (files : Files) (rows : List Row) → event_of chain rows ≡ None → bits_of (line_bytes chain feac files rows) ≡ front (mux_line chain feac files rows) (line_len chain rows)
+pub line_bits : (chain : Chain) (feac : Option ℕ) (files : Files) (rows : List Row) → event_of chain rows ≡ None → bits_of (line_bytes chain feac files rows) ≡ front (mux_line chain feac files rows) (line_len chain rows)
 unfolding event_of line_bytes
 line_bits chain feac files rows none =
     let line = mux_line chain feac files rows in
@@ -139,11 +139,11 @@ line_front chain feac files rows line n done is few =
     ∙ take-front (mux_line chain feac files rows) (n * top_len (shapes_of chain)) (line_len chain rows) (mul-le-mul_right (top_len (shapes_of chain)) few)
 
 -- a leaf's file has the bits that enter
-long_there : (chain : Chain) (files : Files) (rows : List Row) (leaf : ℕ) → IsDone chain files rows → leaf < leaves_of chain → bits_needed chain rows leaf ≤ length (leaf_bits files leaf)
+pub long_there : (chain : Chain) (files : Files) (rows : List Row) (leaf : ℕ) → IsDone chain files rows → leaf < leaves_of chain → bits_needed chain rows leaf ≤ length (leaf_bits files leaf)
 long_there chain files rows leaf done low = let test = done.long leaf low in let e = length-bits_of (bytes_in files (leaf_name leaf)) in grind (arith, nat_tests)
 
 -- the rows of a text are of the chain's nodes
-rows_sound : (chain : Chain) (text : List ℕ) (rows : List Row) → rows_of chain text ≡ Ok rows → All (IsRowOf (levels_of chain)) rows
+pub rows_sound : (chain : Chain) (text : List ℕ) (rows : List Row) → rows_of chain text ≡ Ok rows → All (IsRowOf (levels_of chain)) rows
 unfolding rows_of
 rows_sound chain text rows h = schedule_of_sound (levels_of chain) text rows (judged (schedule_of (levels_of chain) text) h)
   where

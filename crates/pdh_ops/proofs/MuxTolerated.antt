@@ -119,7 +119,7 @@ no_eight chain feac a b (BadScriptRow l) files eight cause told none = absurd (o
 no_eight chain feac a b (PastEnd l) files eight cause told none = absurd (omega arith)
 
 answer_no_event : (chain : Chain) (feac : Option ℕ) (a b : ShelfState) (k l : SinkState) (v : List State) (status : ℕ) (answer : Answer) → Performs (Mux chain feac) a b answer → IsTold v answer k l status → HasNoEvent (Some (Mux chain feac)) a status
-answer_no_event chain feac a b k l v status (Ok done) performs tells files told within eight = elim tells.2 [ inl sent ↦ absurd (omega (arith, sent.0, eight)) | inr failed ↦ absurd (omega (arith, failed.0, eight)) ]
+answer_no_event chain feac a b k l v status (Ok done) performs tells files told within eight = elim tells [ inl sent ↦ absurd (omega (arith, sent.0, eight)) | inr failed ↦ absurd (omega (arith, failed.0, eight)) ]
 answer_no_event chain feac a b k l v status (Err stop) performs tells files told within eight =
     no_eight chain feac a b stop files (sym tells.0 ∙ eight) performs.cause told (comes_none chain feac files (λ none. within_none chain files none within))
 

@@ -1,5 +1,5 @@
 -- How a command with one output leaves the files.
-use Rattle.std.proofs.Common.{◌≡◌, ◌⊎◌, ℕ, zero, suc, ◌<◌, List, [], ◌++◌, take, None, Some, Ok, Err, refl, ap, sym, subst, ◌∙◌, inl, inr, arith, lit<}
+use Rattle.std.proofs.Common.{◌≡◌, ◌⊎◌, ℕ, zero, suc, ◌<◌, Bool, true, false, List, [], ◌++◌, take, None, Some, Ok, Err, refl, ap, sym, subst, ◌∙◌, inl, inr, arith, lit<}
 use Rattle.pdh_edge.specs.declared.shelf.Call.TheVariants.{Start as StartCall, Append as AppendCall}
 use Rattle.pdh_edge.specs.Files.{ShelfState, Told, Looks, Touches, Holds, HoldsPrefix, Starts, Appends, FailsToWrite, Grows, GrowsInPart, with_write_fault, told_empty}
 use Rattle.pdh_edge.specs.Files.Told.{Untold, Known}
@@ -17,10 +17,11 @@ use Rattle.pdh_ops.proofs.Touching.{write_fails_since, touches_then, started_hol
 -- ---- one file
 
 -- what a file holds after an append, by what it held
-grows_holds : (old new : Told) (bytes held : List ℕ) → Grows old bytes new → Holds old held → Holds new (held ++ bytes)
-grows_holds Untold new bytes held grows holds now told = absurd (cc)
-grows_holds (Known None) new bytes held grows holds now told = absurd grows
-grows_holds (Known (Some was)) new bytes held grows holds now told =
+grows_holds : (tells : Bool) (old new : Told) (bytes held : List ℕ) → Grows tells old bytes new → Holds old held → Holds new (held ++ bytes)
+grows_holds tells Untold new bytes held grows holds now told = absurd (cc)
+grows_holds false (Known was) new bytes held grows holds now told = absurd (cc)
+grows_holds true (Known None) new bytes held grows holds now told = absurd grows
+grows_holds true (Known (Some was)) new bytes held grows holds now told =
     let same : Some was ≡ Some held = holds (Some was) refl in
     let bytes_same : was ≡ held = cc in
     let now_is : now ≡ Some (was ++ bytes) = cc in
@@ -110,7 +111,7 @@ pub whole : (command : Command) (file : File) (a b c d : ShelfState) (bytes : Li
 whole command file a b c d bytes output writes started appends i low files told =
     let first : i ≡ 0 = first_output i (subst (λ n. i < n) output.count low) in
     subst (λ i. Holds (d.told ((outputs command).name i)) (output_bytes command files i)) (sym first)
-    (subst (λ name. Holds (d.told name) (output_bytes command files 0)) (sym output.name) (subst (Holds (d.told (name_of file))) (writes.content files told) (grows_holds _ _ bytes [] appends.told (started_holds (name_of file) b c started))))
+    (subst (λ name. Holds (d.told name) (output_bytes command files 0)) (sym output.name) (subst (Holds (d.told (name_of file))) (writes.content files told) (grows_holds (d.tells_started (name_of file)) _ _ bytes [] appends.told (started_holds (name_of file) b c started))))
 
 pub writing_done : (command : Command) (file : File) (a b c d : ShelfState) (bytes : List ℕ) (done : Done) → HasOutput command file → Writes command a b bytes → Touches (name_of file) b c → Starts (name_of file) b c →
     Touches (name_of file) c d → Appends (name_of file) bytes c d → Comes command a (Ok done) → Performs command a d (Ok done)

@@ -17,6 +17,7 @@ pub mod MuxSteps
 pub mod E1Steps
 pub mod DisturbSteps
 pub mod GivesBack
+pub mod Rejoined
 pub mod Packs
 pub mod Tolerated
 pub mod InTime

@@ -1,8 +1,9 @@
 -- What a run does, whatever its command.
 use Rattle.std.specs.Prelude.{◌≡◌, ◌⊎◌, ℕ, ◌<◌, List, [], take, ⊤, Bool, true, false, Option, Some, None, Result, Ok, Err}
 use Rattle.pdh_bits.specs.Bits.{bits_of}
-use Rattle.pdh_edge.specs.Files.{ShelfState, Looks, Counts, with_read_fault, with_write_fault, with_miss, SinkState, Rose, FailsToRead, FailsToWrite, Holds, HoldsPrefix, told_empty}
+use Rattle.pdh_edge.specs.Files.{ShelfState, Looks, Counts, with_read_fault, with_write_fault, with_miss, SinkState, Rose, Range, FailsToRead, FailsToReadRange, FailsToWrite, Holds, HoldsPrefix, told_empty}
 use Rattle.pdh_edge.specs.declared.shelf.Call.TheVariants.{Size as SizeCall, Read as ReadCall, Start as StartCall, Append as AppendCall}
+use Rattle.pdh_blocks.specs.Leaves.{IsNextBlock}
 use Rattle.pdh_watch.specs.declared.event.Event.{Event}
 use Rattle.pdh_watch.specs.Monitors.{State, SawEach}
 use Rattle.pdh_events.specs.Chain.{chain_events}
@@ -11,7 +12,7 @@ use Rattle.pdh_g706.specs.Events.{e1_events}
 use Rattle.pdh_inspect.specs.Seen.{line_events, framed_events}
 use Rattle.pdh_answers.specs.Names.{name_of, line_file, e1_name}
 use Rattle.pdh_ops.specs.Schedules.{Files, bytes_in}
-use Rattle.pdh_answers.specs.Answer.{Answer}
+use Rattle.pdh_answers.specs.Answer.{Answer, status_of}
 use Rattle.pdh_answers.specs.Lines.{IsTold}
 use Rattle.pdh_ops.specs.Commands.{inputs, outputs, output_bytes, comes_to, AreTold, OfInputs, IsOutput, reaches_outputs, AreHeld, IsReadDue}
 use Rattle.pdh_words.specs.declared.commands.Command.{Command}
@@ -177,18 +178,22 @@ Does (Some command) old new answer = Performs command old new answer
 abbrev pub SeeEvents : Command → ShelfState → (Files → List Event) → List State → List State → Type 0
 SeeEvents command old events_of before after = (events : List Event) × SawEach before events after × OfInputs command old (λ files. events ≡ events_of files)
 
--- they saw the events of its first bits, so many
-abbrev pub SeeFirst : Command → ShelfState → (ℕ → Files → List Event) → List State → List State → Type 0
-SeeFirst command old events_of before after = (bits : ℕ) × SeeEvents command old (events_of bits) before after
+-- A call for a block of the input failed: they saw the events of exactly the bits that stand before that block.
+pub record SeeBlocksBefore (command : Command) (file : File) (old new : ShelfState) (events_of : ℕ → Files → List Event) (before after : List State) : Type 0 where
+  pub bits : ℕ
+  pub range : Range
+  pub block : IsNextBlock bits range
+  pub fails : FailsToReadRange (name_of file) range old new
+  pub seen : SeeEvents command old (events_of bits) before after
 
 -- what the monitors saw where a call for the input failed: nothing where it asked for the size, and else the events of the
--- bits that were read
+-- bits before the block that it asked for
 abbrev pub SeeUnread : Command → File → ShelfState → ShelfState → (ℕ → Files → List Event) → List State → List State → Type 0
 SeeUnread command file old new events_of before after =
-    (FailsToRead SizeCall (name_of file) old new × (after ≡ before)) ⊎ (FailsToRead ReadCall (name_of file) old new × SeeFirst command old events_of before after)
+    (FailsToRead SizeCall (name_of file) old new × (after ≡ before)) ⊎ SeeBlocksBefore command file old new events_of before after
 
--- An inspection that did its work showed the monitors the events of its line, and one of which a call for the line's bytes failed
--- those of the line's first bits; every other run leaves them as they were.
+-- An inspection that did its work showed the monitors the events of its line, and one of which a call for a block of the line failed
+-- those of the bits before the block; every other run leaves them as they were.
 abbrev pub Watches : Option Command → ShelfState → ShelfState → Answer → List State → List State → Type 0
 Watches (Some (Inspect chain bits)) old new (Ok done) before after = SeeEvents (Inspect chain bits) old (λ files. line_events chain (bytes_in files (name_of (line_file bits)))) before after
 Watches (Some (Inspect chain bits)) old new (Err (Read file)) before after =
@@ -212,3 +217,16 @@ Completes None old new before after seen_after status = ⊤
 Completes (Some command) old new before after seen_after status =
     (files : Files) → AreTold command old.told files → ¬ Rose old.counts.read_faults new.counts.read_faults → ¬ Rose old.counts.write_faults new.counts.write_faults
     → IsTold seen_after (Err Memory) before after status ⊎ IsTold seen_after (comes_to command files) before after status
+
+-- ---- over devices that never fail
+
+-- the status of an answer
+abbrev pub status_with : Answer → ℕ
+status_with (Ok done) = 0
+status_with (Err stop) = status_of stop
+
+-- Words that are no row of the table have status 2. Where the inputs are told, a run has the status of what they come to, or that
+-- of want of memory, whatever else there is.
+abbrev pub CompletesAlways : Option Command → ShelfState → ℕ → Type 0
+CompletesAlways None old status = status ≡ 2
+CompletesAlways (Some command) old status = OfInputs command old (λ files. (status ≡ 1) ⊎ (status ≡ status_with (comes_to command files)))

@@ -17,6 +17,7 @@ use pdh_answers::{Done, File, Stop};
 use pdh_blocks::ShelfPort;
 use pdh_chain::{Chain, frame_bytes};
 use pdh_edge::Shelf;
+use pdh_packed::Packed;
 use pdh_script::{ApplyStop, MOST_SCRIPT_BYTES, Script};
 use pdh_shape::MOST_FRAMES;
 use std::alloc::Global;
@@ -89,6 +90,7 @@ fn read_plan<S: Shelf>(alloc: Global, chain: Chain, shelf: &mut S) -> Result<Pla
 
 // Puts the disturbed line to the port, and appends what waits of it.
 fn apply<S: Shelf>(
+    alloc: Global,
     chain: Chain,
     plan: &Plan,
     files: &PortFiles,
@@ -104,7 +106,8 @@ fn apply<S: Shelf>(
     ensures { (a : ShelfState) → IsBendPort chain plan.now.script a (over (S.state port.old.shelf) port.old.blocks)
         → Performs (Disturb chain) a (S.state port.new.shelf) result }
 {
-    match plan.script.apply(plan.bits, port) {
+    let mut buffer = Packed::short(alloc);
+    match plan.script.apply(plan.bits, &mut buffer, port) {
         Ok(()) => {
             files.finish(port)?;
             Ok(Done::Disturbed(chain, plan.script.bits_of(plan.bits)))
@@ -130,7 +133,7 @@ fn bend<S: Shelf>(alloc: Global, chain: Chain, plan: &Plan, shelf: S) -> Ended<S
     };
     match files.open(alloc, shelf) {
         Ok(mut port) => {
-            let answer = apply(chain, plan, &files, &mut port);
+            let answer = apply(alloc, chain, plan, &files, &mut port);
             Ended::new(port.close(), answer)
         }
         Err(none) => Ended::new(none.shelf, Err(Stop::Memory)),

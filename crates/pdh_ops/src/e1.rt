@@ -1,7 +1,7 @@
-ghost use Rattle.std.specs.Prelude.{◌≡◌, ◌<◌, ◌≤◌, ◌/◌, ◌%◌, ◌^◌, [], ◌∷◌, length, IsTrue, IfOk, IfErr, OnOk, Some, Ok};
+ghost use Rattle.std.specs.Prelude.{◌≡◌, ◌*◌, ◌<◌, ◌≤◌, ◌/◌, ◌%◌, ◌^◌, [], ◌∷◌, length, IsTrue, IfOk, IfErr, OnOk, Some, Ok};
 ghost use Rattle.pdh_bits.specs.Bits.{bits_of};
 ghost use Rattle.pdh_edge.specs.Files.{Looks, Holds};
-ghost use Rattle.pdh_edge.specs.MemLists.{outputs_of};
+ghost use Rattle.pdh_edge.specs.MemLists.{outputs_of, room_of};
 ghost use Rattle.pdh_g706.specs.View.{StandsFor, Gains};
 ghost use Rattle.pdh_words.specs.declared.commands.Command.TheVariants.{E1Pack, E1Unpack};
 ghost use Rattle.pdh_answers.specs.Names.{payload_name, e1_name};
@@ -107,17 +107,18 @@ fn read_framed<S: Shelf>(alloc: Global, shelf: &mut S) -> Result<Vec<u8>, Stop>
     read(alloc, shelf, File::E1Line, line.bits / 8)
 }
 
-// A port that takes the payload of a line of so many bits.
+// A port that takes the payload of a line of so many bits, with room for as many.
 fn payload_port(alloc: Global, bits: usize) -> Result<MemPort, AllocError>
-    ensures { IfOk result (λ port. ⟦<MemPort as Drain>⟧.outputs port ≡ outputs_of ([] ∷ [])) }
+    ensures outputs { IfOk result (λ port. ⟦<MemPort as Drain>⟧.outputs port ≡ outputs_of ([] ∷ [])) }
+    ensures faults { IfOk result (λ port. ⟦<MemPort as Drain>⟧.drain_faults port ≡ 0) }
+    ensures room { IfOk result (λ port. bits ≤ room_of port 0) }
 {
     let mut port = MemPort::open(alloc, Vec::new(alloc), 1)?;
     port.room(0, bits)?;
     Ok(port)
 }
 
-// Gives a machine that has taken no bit the bits of a line, a piece at a time. Memory is wanting where a piece finds none, or
-// the port has no room left.
+// Gives a machine that has taken no bit the bits of a line, a piece at a time. Memory is wanting where a piece finds none.
 fn deliver(
     alloc: Global,
     line: &[u8],
@@ -125,25 +126,30 @@ fn deliver(
     port: &mut MemPort,
 ) -> Result<(), AllocError>
     requires stands { StandsFor align.old [] }
-    requires list { IsTrue ((⟦<MemPort as Drain>⟧.outputs port.old).holds 0) }
+    requires outputs { ⟦<MemPort as Drain>⟧.outputs port.old ≡ outputs_of ([] ∷ []) }
+    requires faults { ⟦<MemPort as Drain>⟧.drain_faults port.old ≡ 0 }
+    requires room { 8 * length line.now ≤ room_of port.old 0 }
     ensures stands { OnOk result (StandsFor align.new (bits_of line.now)) }
     ensures put { OnOk result (Gains [] (bits_of line.now) (⟦<MemPort as Drain>⟧.outputs port.old) (⟦<MemPort as Drain>⟧.outputs port.new)) }
     ensures list { IsTrue ((⟦<MemPort as Drain>⟧.outputs port.new).holds 0) }
 {
     for octets in line.chunks(MOST_OCTETS) {
         let bits = bits_of(alloc, octets)?;
-        let Ok(()) = align.take(&bits, port) else {
-            return Err(AllocError);
-        };
+        match align.take(&bits, port) {
+            Ok(()) => (),
+            // A payload has fewer bits than its line, for which the port has room.
+            Err(_) => unreachable!(),
+        }
     }
     Ok(())
 }
 
 // What a framed line gives.
 fn unpack(alloc: Global, line: &[u8]) -> Result<Unpacked, AllocError>
+    requires few { length line.now / 32 ≤ most_frames }
     ensures { IfOk result (IsUnpacked line.now) }
 {
-    let mut port = payload_port(alloc, line.len().saturating_mul(8))?;
+    let mut port = payload_port(alloc, 8 * line.len())?;
     let mut align = E1Align::open(alloc)?;
     deliver(alloc, line, &mut align, &mut port)?;
     let payload = port.output(0).to_bytes(alloc)?;

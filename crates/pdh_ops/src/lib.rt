@@ -8,12 +8,15 @@ mod drill;
 mod e1;
 mod files;
 mod inspect;
+pub mod laws;
 mod leaf;
 mod line;
 mod mux;
+mod never_failing;
 mod port;
 mod program;
 mod schedule;
 mod show;
 
+pub use never_failing::run_never_failing;
 pub use program::{Ran, run};

@@ -3,6 +3,7 @@ ghost use Rattle.std.specs.String.{string_bytes};
 ghost use Rattle.pdh_words.specs.Commands.{command_of};
 ghost use Rattle.pdh_ops.specs.Run.{Does, Watches, Runs, Completes};
 ghost use Rattle.pdh_ops.specs.GivesBack.{GivesBack};
+ghost use Rattle.pdh_ops.specs.Rejoined.{AreRejoined};
 ghost use Rattle.pdh_ops.specs.Packs.{Packs};
 ghost use Rattle.pdh_ops.specs.Tolerated.{HasNoEvent, IsDelayed};
 ghost use Rattle.pdh_ops.specs.InTime.{AreInTime};
@@ -101,6 +102,8 @@ pub fn run<S: Shelf, K: Sink>(
     ensures runs { Runs (command_of (map string_bytes words.now)) (S.state shelf) (S.state result.shelf) (K.state out) (K.state result.out) (map ⟦<Box<dyn Monitor> as Monitor>⟧.state monitors.old.items) (map ⟦<Box<dyn Monitor> as Monitor>⟧.state monitors.new.items) result.status }
     // What `mux` wrote, `demux` gives back in order.
     ensures gives_back { GivesBack (command_of (map string_bytes words.now)) (S.state shelf) (S.state result.shelf) result.status }
+    // After the last error of a line, what `demux` puts out is what was sent.
+    ensures rejoined { AreRejoined (command_of (map string_bytes words.now)) (S.state shelf) (S.state result.shelf) result.status }
     // What `e1pack` wrote is the packed line of its payload.
     ensures packs { Packs (command_of (map string_bytes words.now)) (S.state shelf) (S.state result.shelf) result.status }
     // Where each tributary of each node is within the tolerance, `mux` meets no event, and what its

@@ -13,7 +13,6 @@ use std::marker::Model;
 #[derive(Drop)]
 pub struct Script {
     rows: StoredRows,
-    alloc: Global,
 }
 
 /// The most bytes of a script's text.
@@ -50,7 +49,7 @@ impl Script {
             });
         }
         let rows = read_rows(alloc, text, bits)?;
-        Ok(Script { rows, alloc })
+        Ok(Script { rows })
     }
 
     /// How many bytes its rows add.
@@ -75,10 +74,17 @@ impl Script {
     }
 
     /// Takes a line of so many bits, as the script was read for, from the port's list 0, and puts the disturbed line to its
-    /// list 0. The port is fresh, and is started first. Where the line has fewer bits or a call fails, what was put is a part
-    /// of the disturbed line from its beginning on. No memory is taken.
-    pub fn apply<P: Port>(&self, bits: u64, port: &mut P) -> Result<(), ApplyStop>
+    /// list 0; `buffer` holds bits on their way, as many at once as it has room for. The port is fresh, and is started first.
+    /// Where the line has fewer bits or a call fails, what was put is a part of the disturbed line from its beginning on. No
+    /// memory is taken.
+    pub fn apply<P: Port>(
+        &self,
+        bits: u64,
+        buffer: &mut Packed,
+        port: &mut P,
+    ) -> Result<(), ApplyStop>
         requires fit { FitIn bits self.now }
+        requires room { 8 ≤ buffer.old.capacity }
         requires fresh { P.fresh port.old }
         requires line { IsTrue ((P.inputs port.old).holds 0) }
         requires out { IsTrue ((P.outputs port.old).holds 0) }
@@ -93,8 +99,7 @@ impl Script {
             (P.feed_faults port.old) (P.feed_faults port.new)
             (P.drain_faults port.old) (P.drain_faults port.new)) }
     {
-        let mut buffer = Packed::short(self.alloc);
         port.start()?;
-        disturb(&self.rows.steps, &self.rows.added, bits, &mut buffer, port)
+        disturb(&self.rows.steps, &self.rows.added, bits, buffer, port)
     }
 }

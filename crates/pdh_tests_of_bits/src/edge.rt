@@ -1,8 +1,7 @@
-use pdh_edge::{Call, Failed, Folder, MemShelf, MemSink, Out, Shelf, Sink};
+//! Files and an output in memory.
+
+use pdh_edge::{Call, Failed, MemShelf, MemSink, NeverFails, Shelf, Sink};
 use std::alloc::{AllocError, Global};
-use std::fs::Files;
-use std::process::Abort;
-use std::{fs, io};
 
 // A shelf with two files, the second of which has room for fewer bytes than its memory.
 fn shelf_of_two(alloc: Global) -> Result<MemShelf, AllocError> {
@@ -118,72 +117,31 @@ fn sink_in_memory(rt: HostRuntime) -> Result<(), AllocError> {
     Ok(())
 }
 
-// Writes a file in a folder, twice anew, and then more to it.
-fn write_file<R: Files + Drop>(rt: &impl Abort, folder: &mut Folder<R>, name: &str) {
-    for piece in ["wrong", "right"] {
-        assert_eq!(rt; folder.start(name), Ok(()));
-        assert_eq!(rt; folder.append(name, piece.as_bytes()), Ok(()));
-    }
-    assert_eq!(rt; folder.append(name, b" end"), Ok(()));
-    assert_eq!(rt; folder.size(name), Ok(Some(9)));
+// A shelf that never fails, with two files.
+fn never_failing(alloc: Global) -> Result<NeverFails, AllocError> {
+    let names = vec![in alloc;
+        String::from_str(alloc, "line")?,
+        String::from_str(alloc, "script")?,
+    ]?;
+    let files = vec![in alloc; Vec::from_slice(alloc, b"abcdef")?, Vec::new(alloc)]?;
+    NeverFails::open(alloc, &names, &files)
 }
 
-// Reads parts of that file: one behind the other, back and forth, past the file's end, and from the
-// same place again.
-fn read_file<R: Files + Drop>(rt: &impl Abort, folder: &mut Folder<R>, name: &str) {
-    let mut four = [b'-'; 4];
-    assert_eq!(rt; folder.read_at(name, 0, &mut four), Ok(()));
-    assert_eq!(rt; &four[..], &b"righ"[..]);
-    let mut buffer = [b'-'; 5];
-    for (at, found) in [(4, b"t end"), (3, b"ht en"), (0, b"right")] {
-        assert_eq!(rt; folder.read_at(name, at, &mut buffer), Ok(()));
-        assert_eq!(rt; &buffer[..], &found[..]);
-    }
-    assert_eq!(rt; folder.read_at(name, 5, &mut buffer), Err(Failed));
-    assert_eq!(rt; folder.read_at(name, 5, &mut four), Ok(()));
-    assert_eq!(rt; &four[..], &b" end"[..]);
-}
-
-// What a folder does with one file.
-fn use_file<R: Files + Drop>(rt: &impl Abort, mut folder: Folder<R>, name: &str, below: &str) {
-    assert_eq!(rt; folder.size(name), Ok(None));
-    assert_eq!(rt; folder.append(name, b"ab"), Err(Failed));
-    write_file(rt, &mut folder, name);
-    // A name below a file isn't a file that is missing.
-    assert_eq!(rt; folder.size(below), Err(Failed));
-    read_file(rt, &mut folder, name);
+#[test]
+fn files_that_never_fail(rt: HostRuntime) -> Result<(), AllocError> {
+    let mut shelf = never_failing(rt.alloc())?;
+    assert_eq!(rt; shelf.size("line"), Ok(Some(6)));
+    assert_eq!(rt; shelf.size("script"), Ok(Some(0)));
+    assert_eq!(rt; shelf.size("none"), Ok(None));
+    assert_eq!(rt; shelf.start("out"), Ok(()));
+    assert_eq!(rt; shelf.append("out", b"1234"), Ok(()));
+    assert_eq!(rt; Sink::write(&mut shelf, b"text"), Ok(()));
+    assert_eq!(rt; shelf.append("line", b"56"), Ok(()));
+    assert_eq!(rt; shelf.size("line"), Ok(None));
+    assert_eq!(rt; shelf.taken(), 10);
     assert_eq!(rt;
-        (folder.read_faults(), folder.write_faults(), folder.misses()),
-        (2, 1, 1)
+        (shelf.read_faults(), shelf.write_faults(), shelf.misses()),
+        (0, 0, 2)
     );
-}
-
-#[test]
-fn folder_of_a_file_that_stays_open(rt: HostRuntime) -> io::Result<()> {
-    use_file(
-        &rt,
-        Folder::new(rt.clone()?),
-        "pdh_edge_file",
-        "pdh_edge_file/below",
-    );
-    fs::remove_file(&rt, "pdh_edge_file")
-}
-
-#[test]
-fn folder_of_a_file_with_a_long_name(rt: HostRuntime) -> io::Result<()> {
-    use_file(
-        &rt,
-        Folder::new(rt.clone()?),
-        "pdh_edge_test_file",
-        "pdh_edge_test_file/below",
-    );
-    fs::remove_file(&rt, "pdh_edge_test_file")
-}
-
-#[test]
-fn standard_output(rt: HostRuntime) -> io::Result<()> {
-    let mut out = Out::new(rt.clone()?);
-    assert_eq!(rt; out.write(b"written\n"), Ok(()));
-    assert_eq!(rt; out.faults(), 0);
     Ok(())
 }

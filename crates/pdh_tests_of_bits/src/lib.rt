@@ -14,6 +14,8 @@ mod edge;
 #[cfg(test)]
 mod edge_ports;
 #[cfg(test)]
+mod folder;
+#[cfg(test)]
 mod interleaving;
 #[cfg(test)]
 mod packed;

@@ -47,11 +47,11 @@ struct Losses {
 }
 
 impl Monitor for Losses {
-    ghost use Rattle.std.specs.Prelude.{None};
+    ghost use Rattle.std.specs.Prelude.{None, codes};
     ghost use Rattle.pdh_watch.specs.declared.kind.TheConstants.Kind.{LOST};
     ghost use Rattle.pdh_watch.specs.Monitors.Form.{Own};
 
-    ghost state = { λ m. record { form = Own; wants = LOST; hits = m.hits; first = None; alarms = 0 } };
+    ghost state = { λ m. record { form = Own; wants = LOST; hits = m.hits; first = None; alarms = 0; own_text = codes "!" } };
 
     fn wants(&self) -> Kind {
         Kind::LOST
@@ -68,8 +68,9 @@ impl Monitor for Losses {
     }
 
     fn line(&self, out: &mut [u8]) -> usize {
-        out[0] = b'!';
-        1
+        let text = "!".as_bytes();
+        out[..text.len()].copy_from_slice(text);
+        text.len()
     }
 }
 

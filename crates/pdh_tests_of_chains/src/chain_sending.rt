@@ -39,7 +39,7 @@ fn packed(alloc: Global, lists: &[Vec<bool>]) -> Result<Vec<Packed>, AllocError>
 
 // What a run of `mux` over a schedule makes of these lists, with this code sent where its top has a channel for it: its line, if it ends well, and how many
 // bits it leaves of each list.
-fn sent(
+pub fn sent(
     alloc: Global,
     chain: Chain,
     clock: &Schedule,
@@ -52,7 +52,7 @@ fn sent(
     ensures { IfOk result (λ sent. length sent.1.items ≡ leaves_of chain) }
 {
     let mut port = MemPort::open(alloc, packed(alloc, &lists)?, 1)?;
-    port.room(0, 100_000)?;
+    port.room(0, 200_000)?;
     if mux(alloc, chain, clock, clock.frames(&TOP), feac, &mut port).is_err() {
         return Err(Fail::new("mux stopped"));
     }

@@ -27,6 +27,8 @@ impl Feed for Faulty {
 
     ghost fed = { λ a b. ((⟦<MemPort as Feed>⟧.inputs b.lists).holds ≡ (⟦<MemPort as Feed>⟧.inputs a.lists).holds) × (a.faults ≤ b.faults) };
 
+    ghost unread = { λ f k. f.good ≡ 0 };
+
     ghost fed_same = { λ a. (refl, Prim.omega arith) };
 
     ghost fed_join = { λ a b c p q. (q.0 ∙ p.0, Prim.omega (arith, p.1, q.1)) };

@@ -12,6 +12,8 @@ mod inspect;
 #[cfg(test)]
 mod lab;
 #[cfg(test)]
+mod recovery;
+#[cfg(test)]
 mod script;
 #[cfg(test)]
 mod show;

@@ -56,7 +56,8 @@ fn disturbed(
     lists.push(list)?;
     let mut port = MemPort::open(alloc, lists, 1)?;
     port.room(0, room)?;
-    let end = script.apply(bits, &mut port);
+    let mut buffer = Packed::short(alloc);
+    let end = script.apply(bits, &mut buffer, &mut port);
     let put = port.output(0);
     let mut shown = String::new(alloc);
     for place in 0..put.len() {

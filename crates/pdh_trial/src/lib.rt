@@ -1,6 +1,7 @@
 //! The running of worked cases: each by the program's own call, over files and an output in memory.
 #![tactic(auto)]
 
+mod performing;
 mod running;
 mod suite;
 mod sweep;

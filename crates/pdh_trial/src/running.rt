@@ -1,16 +1,19 @@
 //! The running of the program over files in memory.
 
+use crate::performing::perform;
 use crate::watched::Watched;
 use pdh_case::{Given, Kind, Run};
 use pdh_edge::{Call, MemShelf, MemSink, Shelf, Sink};
 use pdh_judging::{Files, Outcome, content_of, known_names};
-use pdh_main::run_with_monitors;
 use pdh_ops::Ran;
 use std::alloc::{AllocError, Global};
 use std::collections::BTreeSet;
 
 // The room that each file gets beside twice what all files hold, and the room of the output, in bytes.
 const ROOM: u64 = 65_536;
+
+// The most that a file gets for what all files hold, which is more than any output has.
+const MOST_ROOM: u64 = 16_777_216;
 
 // ---- what a run is given
 
@@ -38,7 +41,7 @@ pub fn prepared(run: &Run, before: &Files) -> Result<Files, AllocError> {
         match given {
             Given::File { names, .. } => set_files(&mut files, names.as_slice(), given)?,
             Given::Gone { names } => remove_files(&mut files, names.as_slice()),
-            Given::Room { .. } | Given::Fail { .. } => (),
+            Given::Room { .. } | Given::Monitors { .. } | Given::Fail { .. } => (),
         }
     }
     Ok(files)
@@ -88,7 +91,8 @@ fn shelf_of(
 ) -> Result<MemShelf, AllocError> {
     let mut shelf = MemShelf::open(alloc)?;
     hold_all(&mut shelf, files)?;
-    let room = files.total().saturating_mul(2).saturating_add(ROOM);
+    let held = files.total().saturating_mul(2).min(MOST_ROOM);
+    let room = held.saturating_add(ROOM);
     make_rooms(&mut shelf, known, room)?;
     set_given_rooms(&mut shelf, run)?;
     Ok(shelf)
@@ -120,20 +124,6 @@ fn let_given_fail(shelf: &mut MemShelf, sink: &mut MemSink, run: &Run) -> Result
 }
 
 // ---- the run
-
-// Runs the program, with its own monitors. None of its clauses is used here.
-fn perform(
-    alloc: Global,
-    words: &[String],
-    shelf: MemShelf,
-    sink: MemSink,
-) -> Result<Ran<Watched, MemSink>, AllocError> {
-    let shelf = Watched {
-        shelf,
-        failed: None,
-    };
-    run_with_monitors(alloc, words, shelf, sink)
-}
 
 fn files_on(
     alloc: Global,
@@ -196,7 +186,7 @@ fn run_known(
     if let Some((kind, number)) = fails {
         let_fail(&mut shelf, &mut sink, kind, number)?;
     }
-    perform(alloc, row, shelf, sink)
+    perform(alloc, run, row, shelf, sink)
 }
 
 /// Runs the program with a row of words over these files, with one more failing call.

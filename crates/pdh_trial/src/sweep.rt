@@ -89,14 +89,14 @@ fn cut_one(
     let mut files = before.duplicate()?;
     files.copy(name, front)?;
     let found = run_over(findings.alloc, run, row, &files, None)?;
-    judge(run, &files, &found, findings)
+    judge(run, row, &files, &found, findings)
 }
 
 fn cut_name(alloc: Global, row: &str, bytes: usize, name: &str) -> Result<String, AllocError> {
     format!(in alloc; "{row}{bytes} bytes of {name}: ")
 }
 
-// Runs with each front of a file.
+// Runs with each front of a file that has at least the bytes that are asked for.
 fn cut(
     run: &Run,
     row: &[String],
@@ -106,8 +106,11 @@ fn cut(
 ) -> Result<(), AllocError> {
     let name = cut.name.as_str();
     let whole = before.get(name).unwrap_or(&[]);
+    if cut.least > whole.len() {
+        return findings.note(cut.line, "the file has fewer bytes");
+    }
     let row_name = findings.run.clone()?;
-    for bytes in 0..=whole.len() {
+    for bytes in cut.least..=whole.len() {
         findings.run = cut_name(findings.alloc, row_name.as_str(), bytes, name)?;
         cut_one(run, row, name, &whole[..bytes], before, findings)?;
     }

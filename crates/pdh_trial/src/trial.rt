@@ -3,18 +3,12 @@
 use crate::running::{prepared, run_over};
 use crate::sweep::{cut_all, sweep_all};
 use pdh_case::{Case, Run};
-use pdh_judging::{Files, Findings, judge};
+use pdh_judging::{Files, Findings, joined, judge};
 use std::alloc::{AllocError, Global};
 
 // The words of a row, with a colon behind them.
 fn row_name(alloc: Global, row: &[String]) -> Result<String, AllocError> {
-    let mut name = String::new(alloc);
-    for word in row {
-        if !name.is_empty() {
-            name.push(' ')?;
-        }
-        name.push_str(word.as_str())?;
-    }
+    let mut name = joined(alloc, row)?;
     name.push_str(": ")?;
     Ok(name)
 }
@@ -27,7 +21,7 @@ fn judge_row(
     findings: &mut Findings,
 ) -> Result<Files, AllocError> {
     let whole = run_over(findings.alloc, run, row, files, None)?;
-    judge(run, files, &whole, findings)?;
+    judge(run, row, files, &whole, findings)?;
     sweep_all(run, row, files, &whole, findings)?;
     cut_all(run, row, files, findings)?;
     Ok(whole.files)

@@ -24,10 +24,12 @@ pub record State : Type 0 where
   pub first : Option Event
   -- how many alarms are open
   pub alarms : ℕ
+  -- the text of its owner's own monitor
+  pub own_text : List ℕ
 
 -- a monitor that saw nothing yet
 abbrev pub new_monitor : Form → Kind → State
-new_monitor form kinds = record { form = form; wants = kinds; hits = 0; first = None; alarms = 0 }
+new_monitor form kinds = record { form = form; wants = kinds; hits = 0; first = None; alarms = 0; own_text = [] }
 
 -- the kinds that a latch wants: that an alarm begins, and that it ends
 abbrev pub alarm_kinds : Kind
@@ -59,7 +61,8 @@ abbrev pub alarms_with : ℕ → Event → ℕ
 alarms_with alarms event =
     (if event.kind.0 == ALARM_ON.0 then count_with alarms event else (if event.kind.0 == ALARM_OFF.0 then alarms - 1 else alarms))
 
--- A monitor saw these events in order. Its form and what it wants never change.
+-- A monitor saw these events in order. Its form and what it wants never change. What its owner's own monitor says then is
+-- left open.
 pub record Saw (old : State) (events : List Event) (new : State) : Type 0 where
   pub form_is : new.form ≡ old.form
   pub wants_is : new.wants ≡ old.wants
@@ -97,13 +100,13 @@ abbrev pub first_text : Option Event → List ℕ
 first_text None = codes "none"
 first_text (Some event) = place_text event
 
--- the text of a monitor of this form; its owner's own says what it will
-abbrev pub SaysAs : Form → State → List ℕ → Type 0
-SaysAs Counts state text = text ≡ names_of state.wants ++ codes ": " ++ decimal state.hits
-SaysAs KeepsFirst state text = text ≡ codes "first " ++ names_of state.wants ++ codes ": " ++ first_text state.first
-SaysAs Latches state text = text ≡ codes "alarms open: " ++ decimal state.alarms
-SaysAs Own state text = Unit {0}
+-- the text of a monitor of this form
+abbrev pub says_as : Form → State → List ℕ
+says_as Counts state = names_of state.wants ++ codes ": " ++ decimal state.hits
+says_as KeepsFirst state = codes "first " ++ names_of state.wants ++ codes ": " ++ first_text state.first
+says_as Latches state = codes "alarms open: " ++ decimal state.alarms
+says_as Own state = state.own_text
 
 -- the text of a monitor
-abbrev pub Says : State → List ℕ → Type 0
-Says state text = SaysAs state.form state text
+abbrev pub says : State → List ℕ
+says state = says_as state.form state

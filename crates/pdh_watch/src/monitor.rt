@@ -1,5 +1,5 @@
 ghost use Rattle.std.specs.Prelude.{◌≡◌, ◌≤◌, [], ◌∷◌, length, take};
-ghost use Rattle.pdh_watch.specs.Monitors.{State, Saw, Says};
+ghost use Rattle.pdh_watch.specs.Monitors.{State, Saw, says};
 
 use crate::{Event, Kind};
 
@@ -20,9 +20,10 @@ pub trait Monitor: Drop {
     fn see(&mut self, event: &Event)
         ensures { Saw (state self.old) (event.now ∷ []) (state self.new) };
 
-    /// Writes its line, of at most 160 bytes and without a line feed, and answers the line's length.
+    /// Writes its text, of at most 160 bytes and without a line feed, and answers the text's length.
     fn line(&self, out: &mut [u8]) -> usize
         requires { length out.old ≡ 160 }
-        ensures len { result ≤ 160 }
-        ensures text { Says (state self.now) (take result out.new) };
+        ensures len { result ≡ length (says (state self.now)) }
+        ensures short { result ≤ 160 }
+        ensures text { take result out.new ≡ says (state self.now) };
 }

@@ -1,4 +1,4 @@
-ghost use Rattle.std.specs.Prelude.{◌≡◌, ◌+◌, ◌++◌, ◌≤◌, length, take, None};
+ghost use Rattle.std.specs.Prelude.{◌≡◌, ◌+◌, ◌++◌, ◌≤◌, [], length, take, None};
 ghost use Rattle.pdh_watch.specs.Monitors.{State, new_monitor, alarm_kinds, hits_with, alarms_with, place_text, first_text};
 ghost use Rattle.pdh_watch.specs.Monitors.Form.{Counts, KeepsFirst, Latches};
 
@@ -22,7 +22,7 @@ fn counted(wants: Kind, hits: u64, event: &Event) -> u64
 fn copy_out(text: &Text, out: &mut [u8]) -> usize
     requires short { length text.now ≤ 160 }
     requires room { length out.old ≡ 160 }
-    ensures len { result ≤ 160 }
+    ensures len { result ≡ length text.now }
     ensures text { take result out.new ≡ text.now }
 {
     let bytes = text.bytes();
@@ -47,7 +47,7 @@ impl Counter {
 }
 
 impl Monitor for Counter {
-    ghost state = { λ m. record { form = Counts; wants = m.kind; hits = m.hits; first = None; alarms = 0 } };
+    ghost state = { λ m. record { form = Counts; wants = m.kind; hits = m.hits; first = None; alarms = 0; own_text = [] } };
 
     fn wants(&self) -> Kind {
         self.kind
@@ -117,7 +117,7 @@ fn append_first(text: &mut Text, first: &Option<Event>)
 }
 
 impl Monitor for First {
-    ghost state = { λ m. record { form = KeepsFirst; wants = m.kind; hits = m.hits; first = m.first; alarms = 0 } };
+    ghost state = { λ m. record { form = KeepsFirst; wants = m.kind; hits = m.hits; first = m.first; alarms = 0; own_text = [] } };
 
     fn wants(&self) -> Kind {
         self.kind
@@ -181,7 +181,7 @@ fn open_after(alarms: u64, event: &Event) -> u64
 }
 
 impl Monitor for Latch {
-    ghost state = { λ m. record { form = Latches; wants = alarm_kinds; hits = m.hits; first = None; alarms = m.alarms } };
+    ghost state = { λ m. record { form = Latches; wants = alarm_kinds; hits = m.hits; first = None; alarms = m.alarms; own_text = [] } };
 
     fn wants(&self) -> Kind {
         latched_kinds()

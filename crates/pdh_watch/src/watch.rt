@@ -37,7 +37,10 @@ impl Watch for Quiet {
 
     fn note(&mut self, _event: &Event) {}
 
-    fn ignores(&self) -> bool {
+    fn ignores(&self) -> bool
+        ensures always { result ≡ true }
+        ensures unchanged { result ≡ true → (events : List Event) → self.now ≡ self.now }
+    {
         true
     }
 }

@@ -1,8 +1,9 @@
-ghost use Rattle.std.specs.Prelude.{◌≡◌, length, IfOk};
+ghost use Rattle.std.specs.Prelude.{◌≤◌, length, IfOk};
 
 use super::ShelfPort;
 use crate::source::Source;
-use pdh_edge::{Drain, Failed, Feed, FeedStop, Folder, Port, Shelf};
+use pdh_edge::{Drain, Failed, Feed, FeedStop, Port, Shelf};
+use pdh_folder::Folder;
 use pdh_packed::Packed;
 use std::alloc::{AllocError, Global};
 use std::fs;
@@ -20,18 +21,20 @@ fn pattern(alloc: Global, count: usize) -> Result<Vec<u8>, AllocError> {
     Ok(bytes)
 }
 
-// A port with two leaves of so many bits and two outputs.
+// A port with two leaves of so many bits and two outputs, the second of this name.
 fn port_over<R: Files + Drop>(
     alloc: Global,
     folder: Folder<R>,
     bits: u64,
+    second: &str,
 ) -> Result<ShelfPort<Folder<R>>, AllocError>
+    requires { 7 ≤ length second.now }
     ensures { IfOk result ⟦<ShelfPort<Folder<R>> as Port>⟧.fresh }
 {
     let one = String::from_str(alloc, "pb_1")?;
     let two = String::from_str(alloc, "pb_22")?;
     let three = String::from_str(alloc, "pb_333")?;
-    let four = String::from_str(alloc, "pb_4444")?;
+    let four = String::from_str(alloc, second)?;
     let reads = [Source { name: one, bits }, Source { name: two, bits }];
     let writes = [three, four];
     match ShelfPort::open(alloc, folder, &reads, &writes) {
@@ -77,7 +80,7 @@ fn leaves_over_borders(rt: HostRuntime) -> Result<(), Fail> {
     assert_eq!(rt; folder.append("pb_1", &bytes), Ok(()));
     assert_eq!(rt; folder.start("pb_22"), Ok(()));
     assert_eq!(rt; folder.append("pb_22", &short), Ok(()));
-    let mut port = port_over(alloc, folder, 40000)?;
+    let mut port = port_over(alloc, folder, 40000, "pb_4444")?;
     let mut got = Packed::open(alloc, 80000)?;
     assert_eq!(rt; give(&mut port, 0, 30000, &mut got), Ok(30000));
     assert_eq!(rt; give(&mut port, 0, 10000, &mut got), Ok(2768));
@@ -111,7 +114,7 @@ fn take_bytes<R: Files + Drop>(
 fn outputs_by_blocks(rt: HostRuntime) -> Result<(), Fail> {
     let alloc = rt.alloc();
     let mut folder = Folder::new(rt.clone()?);
-    let mut port = port_over(alloc, Folder::new(rt.clone()?), 0)?;
+    let mut port = port_over(alloc, Folder::new(rt.clone()?), 0, "pb_4444")?;
     // put before start: the first full block starts all outputs
     assert!(rt; take_bytes(alloc, &mut port, 1, 4095)?);
     assert_eq!(rt; folder.size("pb_4444"), Ok(None));
@@ -129,17 +132,20 @@ fn outputs_by_blocks(rt: HostRuntime) -> Result<(), Fail> {
     Ok(())
 }
 
+// A folder keeps no file of so long a name open, so that it has to be there still.
+const LONG: &str = "pb_4444_of_a_name_that_does_not_stay_open";
+
 #[test]
 fn append_to_a_file_that_is_gone(rt: HostRuntime) -> Result<(), Fail> {
     let alloc = rt.alloc();
-    let mut port = port_over(alloc, Folder::new(rt.clone()?), 0)?;
+    let mut port = port_over(alloc, Folder::new(rt.clone()?), 0, LONG)?;
     assert_eq!(rt; port.start(), Ok(()));
-    fs::remove_file(&rt, "pb_333")?;
-    assert!(rt; take_bytes(alloc, &mut port, 0, 4095)?);
-    assert!(rt; !take_bytes(alloc, &mut port, 0, 2)?);
-    assert_eq!(rt; (port.drain_faults(), port.failed_name()), (1, Some(2)));
+    fs::remove_file(&rt, LONG)?;
+    assert!(rt; take_bytes(alloc, &mut port, 1, 4095)?);
+    assert!(rt; !take_bytes(alloc, &mut port, 1, 2)?);
+    assert_eq!(rt; (port.drain_faults(), port.failed_name()), (1, Some(3)));
     assert_eq!(rt; port.close().write_faults(), 1);
-    fs::remove_file(&rt, "pb_4444")?;
+    fs::remove_file(&rt, "pb_333")?;
     Ok(())
 }
 
@@ -150,7 +156,7 @@ fn start_makes_files_empty(rt: HostRuntime) -> Result<(), Fail> {
     assert_eq!(rt; folder.append("pb_333", b"ab"), Ok(()));
     assert_eq!(rt; folder.start("pb_4444"), Ok(()));
     assert_eq!(rt; folder.append("pb_4444", b"ab"), Ok(()));
-    let mut port = port_over(rt.alloc(), Folder::new(rt.clone()?), 0)?;
+    let mut port = port_over(rt.alloc(), Folder::new(rt.clone()?), 0, "pb_4444")?;
     assert_eq!(rt; port.start(), Ok(()));
     assert_eq!(rt; folder.size("pb_333"), Ok(Some(0)));
     assert_eq!(rt; folder.size("pb_4444"), Ok(Some(0)));

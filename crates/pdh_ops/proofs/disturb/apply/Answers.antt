@@ -29,8 +29,8 @@ returns-in_err-finish-in-Ok g c = λ a is.
     rw (error.1, error.2) (finish_fails is.open_for ran.kept c.finish.new.port.port failed.drained ran.ready ran.reads ran.writes c.args.files.now.inputs.items c.args.files.now.outputs.items _ failed.cause failed.part
     (front_of_all (Disturb c.args.chain) a (outputs_of q) puts) c.requires.files failed.err)
 
-pub returns-in_ok-finish-in-Ok : goal.returns-in_ok-finish-in-Ok
-returns-in_ok-finish-in-Ok g c = λ a is.
+pub returns-in-Ok : goal.returns-in-Ok
+returns-in-Ok g c = λ a is.
     let p = over (g.S.Shelf.state c.args.port.now.shelf) c.args.port.now.blocks in
     let q = over (g.S.Shelf.state c.apply.new.port.shelf) c.apply.new.port.blocks in
     let ran = c.in-Ok.ensures in

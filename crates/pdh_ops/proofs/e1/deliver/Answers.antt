@@ -1,36 +1,64 @@
-use Rattle.std.proofs.Common.{◌≡◌, ℕ, Bool, List, [], ◌++◌, append_assoc, rules, ap, sym, ◌∙◌, subst}
+use Rattle.std.proofs.Common.{◌≡◌, ℕ, ◌+◌, ◌*◌, ◌<◌, ◌≤◌, Bool, List, [], ◌++◌, append_assoc, length, length-append, rules, refl, ap, sym, ◌∙◌, subst, arith}
 use Rattle.std.specs.Slice.Iter.{chunks_rest}
 use Rattle.pdh_bits.specs.Bits.{bits_of}
-use Rattle.pdh_bits.proofs.BitsLemmas.{bits_of-append}
+use Rattle.pdh_bits.proofs.BitsLemmas.{bits_of-append, length-bits_of}
 use Rattle.pdh_edge.specs.Ports.{Outputs}
-use Rattle.pdh_edge.specs.MemLists.{mem_outputs}
-use Rattle.pdh_g706.specs.View.{StandsFor, Gains}
+use Rattle.pdh_edge.specs.MemLists.{mem_outputs, bits_held, room_of}
+use Rattle.pdh_edge.proofs.InRoom.{puts_in_room}
+use Rattle.pdh_g706.specs.View.{StandsFor, Gains, GainsPart}
 use Rattle.pdh_g706.proofs.AlignSteps.{gains_same, gains_join}
+use Rattle.pdh_ops.proofs.E1Unpacking.{first_holds, payload_in_room}
 use Rattle.pdh_ops.proofs.e1.deliver.Goals as goal
 
 pub loop-octets-init : goal.loop-octets-init
-loop-octets-init c = (search rules, tt, search rules, c.requires.list, [], search rules, c.requires.stands, gains_same [] (mem_outputs c.args.port.now.outputs.items))
+loop-octets-init c = (search rules, tt, search rules, refl, refl, c.requires.faults, [], search rules, c.requires.stands, gains_same [] (mem_outputs c.args.port.now.outputs.items))
 
-pub returns-in_default-clause-list : goal.returns-in_default-clause-list
-returns-in_default-clause-list c = ap (λ (h : ℕ → Bool). h 0) c.take.ensures.drained.2 ∙ c.loop-octets.invariant.3
+pub take-requires-clause-list : goal.take-requires-clause-list
+take-requires-clause-list c = ap (λ (h : ℕ → Bool). h 0) c.loop-octets.invariant.3 ∙ first_holds c.requires.outputs
+
+pub unreachable-requires : goal.unreachable-requires
+unreachable-requires c =
+    let inv = c.loop-octets.invariant in
+    let steps = c.in-Some.ensures.steps in
+    let done : List ℕ = inv.6 in
+    let octets : List ℕ = c.in-Some.octets.now in
+    let mid = c.loop-octets.port in
+    let new = c.take.new.drain in
+    let all : List Bool = bits_of (done ++ octets) in
+    let more : bits_of done ++ c.deref.result.now ≡ all = ap (λ (l : List Bool). bits_of done ++ l) (c.deref.ensures.value ∙ c.in_ok-bits.ensures) ∙ sym (bits_of-append done octets) in
+    let part = subst (λ (l : List Bool). GainsPart (bits_of done) l (mem_outputs mid.outputs.items) (mem_outputs new.outputs.items)) more (c.in-Err.ensures.put_err (bits_of done) inv.8) in
+    let long : length all ≡ 8 * length (done ++ octets) = length-bits_of (done ++ octets) in
+    let line : length done + length (chunks_rest c.loop-octets.octets-iterator) ≡ length c.args.line.now = sym (length-append done (chunks_rest c.loop-octets.octets-iterator)) ∙ ap length inv.7 in
+    let rest : length (chunks_rest c.loop-octets.octets-iterator) ≡ length octets + length (chunks_rest c.next.new.self) = ap length steps.1.0 ∙ length-append octets (chunks_rest c.next.new.self) in
+    let some : 0 < length all = omega (arith, long, length-append done octets, steps.1.1, steps.1.2, inv.2) in
+    let enough : length all ≤ room_of mid 0 = omega (arith, long, length-append done octets, line, rest, c.requires.room, inv.4) in
+    let same = puts_in_room mid new c.take.ensures.drained.4 (λ k held.
+    let room = payload_in_room (bits_of done) all (room_of mid 0) k (mem_outputs c.args.port.now.outputs.items) (mem_outputs mid.outputs.items) (mem_outputs new.outputs.items) c.requires.outputs (c.take.ensures.drained.2 ∙ inv.3) inv.9 part some enough held in
+    subst (λ i. bits_held (mem_outputs new.outputs.items) k < room_of mid i) (sym room.0) room.1) in
+    omega (arith, same, inv.5, c.in-Err.ensures.cause)
 
 pub loop-octets-preserved : goal.loop-octets-preserved
 loop-octets-preserved c =
     let inv = c.loop-octets.invariant in
     let steps = c.in-Some.ensures.steps in
-    let done : List ℕ = inv.4 in
+    let done : List ℕ = inv.6 in
     let octets : List ℕ = c.in-Some.octets.now in
     let taken : List Bool = bits_of done in
     let before : Outputs = mem_outputs c.args.port.now.outputs.items in
     let now : Outputs = mem_outputs c.take.new.drain.outputs.items in
     let more : taken ++ c.deref.result.now ≡ bits_of (done ++ octets) = ap (λ (l : List Bool). taken ++ l) (c.deref.ensures.value ∙ c.in_ok-bits.ensures) ∙ sym (bits_of-append done octets) in
-    let gains = gains_join [] taken (taken ++ c.deref.result.now) before (mem_outputs c.loop-octets.port.outputs.items) now inv.7 (c.in-Ok.ensures.put taken inv.6) in (
+    let gains = gains_join [] taken (taken ++ c.deref.result.now) before (mem_outputs c.loop-octets.port.outputs.items) now inv.9 (c.in-Ok.ensures.put taken inv.8) in (
       search rules,
       tt,
       steps.0 ∙ inv.2,
-      ap (λ (h : ℕ → Bool). h 0) c.take.ensures.drained.2 ∙ inv.3,
+      c.take.ensures.drained.2 ∙ inv.3,
+      c.take.ensures.drained.4.rooms 0 ∙ inv.4,
+      c.in-Ok.ensures.cause ∙ inv.5,
       done ++ octets,
-      append_assoc done octets (chunks_rest c.next.new.self) ∙ ap (λ (l : List ℕ). done ++ l) (sym steps.1.0) ∙ inv.5,
-      subst (StandsFor c.take.new.self) more (c.in-Ok.ensures.stands taken inv.6),
+      append_assoc done octets (chunks_rest c.next.new.self) ∙ ap (λ (l : List ℕ). done ++ l) (sym steps.1.0) ∙ inv.7,
+      subst (StandsFor c.take.new.self) more (c.in-Ok.ensures.stands taken inv.8),
       subst (λ (l : List Bool). Gains [] l before now) more gains,
     )
+
+pub returns-clause-list : goal.returns-clause-list
+returns-clause-list c = ap (λ (h : ℕ → Bool). h 0) c.loop-octets.invariant.3 ∙ first_holds c.requires.outputs

@@ -1,4 +1,4 @@
-use Rattle.std.proofs.Common.{[], sym, subst}
+use Rattle.std.proofs.Common.{[], Err, sym, ap, subst, ◌∙◌}
 use Rattle.pdh_blocks.specs.State.{over}
 use Rattle.pdh_ops.specs.PortFiles.{HasFiles}
 use Rattle.pdh_ops.proofs.PortOpen.{has_files}
@@ -48,5 +48,5 @@ returns-in-Ok-open-clause-watches g c = λ bits file_is a looks same.
           rw w.answer-is ((rw (w.in-Err-Memory.is, stop) at seen.err).1)
       | in-Err-Failed w ↦
           let stop = rw w.in-Err-Failed.is at w.in-Err-Failed.field-0-is in
-          rw w.answer-is (inspect_watched_first c.args.chain bits c.args.line reads writes a p q is seen.fed c.inspect_line-seen.result.feed.port _ _ w.stop.result (rw (w.in-Err-Failed.is, stop) at seen.faults) w.stop.ensures (rw (w.in-Err-Failed.is, stop) at seen.err))
+          rw w.answer-is (inspect_watched_first c.args.chain bits c.args.line reads writes a p q is seen.fed c.inspect_line-seen.result.feed.port _ _ w.stop.result (rw (w.in-Err-Failed.is, stop) at seen.faults) w.stop.ensures (rw (w.in-Err-Failed.is, stop) at seen.err) (seen.unread (w.in-Err-Failed.is ∙ ap Err stop)))
     ])

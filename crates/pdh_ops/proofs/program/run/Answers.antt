@@ -4,6 +4,7 @@ use Rattle.pdh_answers.specs.Lines.{IsTold}
 use Rattle.pdh_ops.proofs.Causes.{completes}
 use Rattle.pdh_ops.proofs.MuxGivesBack.{gives_back}
 use Rattle.pdh_ops.proofs.MuxTolerated.{has_no_event, is_delayed}
+use Rattle.pdh_ops.proofs.DemuxRejoins.{are_rejoined}
 use Rattle.pdh_ops.proofs.E1Files.{packs}
 use Rattle.pdh_ops.proofs.DrillComes.{are_in_time}
 use Rattle.pdh_ops.proofs.program.run.Goals as goal
@@ -33,3 +34,6 @@ returns-clause-packs g c = packs _ _ _ _ _ _ _ _ (returns-clause-runs g c)
 
 pub returns-clause-in_time : goal.returns-clause-in_time
 returns-clause-in_time g c = are_in_time _ _ _ _ _ _ _ _ (returns-clause-runs g c)
+
+pub returns-clause-rejoined : goal.returns-clause-rejoined
+returns-clause-rejoined g c = are_rejoined _ _ _ _ _ _ _ _ (returns-clause-runs g c)

@@ -13,7 +13,7 @@ invariant_of-self g c =
     let now_is : now ≡ cond c.self.inside.fresh [] c.self.inside.held.bits ++ c.args.bit ∷ [] = ap (λ b. b.bits) c.append_bit.ensures ∙ ap (λ b. b.bits ++ c.args.bit ∷ []) c.clear_ready.ensures.held in
     let room : c.append_bit.new.self.capacity ≡ c.self.inside.held.capacity = ap (λ b. b.capacity) c.append_bit.ensures ∙ ap (λ b. b.capacity) c.clear_ready.ensures.held in
     let begun = begun_push s c.self.inside.search c.push.new.self c.self.inside.fresh c.self.inside.held.bits now c.args.bit (c.self.invariant.idle c.if-self.true) now_is c.push.ensures (c.self.invariant.begun c.if-self.true) in
-    holds_search s g.S.Shape.LEN c.self.inside.signals _ _ c.append_bit.new.self c.push.new.self c.self.inside.before c.self.invariant.judges (omega (arith, room, c.self.invariant.room)) c.self.invariant.three
+    holds_search s g.S.Shape.LEN c.self.inside.signals _ _ c.append_bit.new.self c.push.new.self c.self.inside.before c.self.invariant.judges (room ∙ c.self.invariant.room) c.self.invariant.three
     c.if-self.true c.clear_ready.ensures.fresh (omega (arith, c.held.ensures.count, c.LEN.ensures, c.if-held-LEN.true)) begun.0 begun.1
 
 pub returns-then-held-LEN : goal.returns-then-held-LEN
@@ -34,7 +34,7 @@ invariant_of-self-then-is_confirmed g c =
     let some : 0 < g.S.Shape.LEN = omega (arith, g.met.S.Shape.is_frame.some_slots, g.met.S.Shape.len_is) in
     let most : length now ≤ 3 * g.S.Shape.LEN = length_search c.self.inside.fresh c.args.bit c.self.inside.held.bits now g.S.Shape.LEN some now_is (c.self.invariant.short c.if-self.true) in
     holds_aligned s g.S.Shape.LEN c.self.inside.signals c.append_bit.new.self c.push.new.self c.clean.result c.clean-then-is_confirmed.result c.clean-then-is_confirmed-2.result c.self.invariant.judges
-    (omega (arith, room, c.self.invariant.room)) some g.met.S.Shape.len_is (omega (arith, c.held.ensures.count, c.LEN.ensures, c.if-held-LEN.false, most)) (sym (c.if-is_confirmed.ensures begun.0 begun.1)) c.clean-then-is_confirmed-2.ensures
+    (room ∙ c.self.invariant.room) some g.met.S.Shape.len_is (omega (arith, c.held.ensures.count, c.LEN.ensures, c.if-held-LEN.false, most)) (sym (c.if-is_confirmed.ensures begun.0 begun.1)) c.clean-then-is_confirmed-2.ensures
 
 pub returns-then-is_confirmed : goal.returns-then-is_confirmed
 returns-then-is_confirmed g c =
@@ -61,7 +61,7 @@ invariant_of-self-then-self g c =
     let left : c.drop_oldest.new.self.capacity ≡ c.append_bit.new.self.capacity = ap (λ b. b.capacity) c.drop_oldest.ensures in
     let whole : 3 * g.S.Shape.LEN ≤ length now = (omega (arith, c.held.ensures.count, c.LEN.ensures, c.if-held-LEN.false)) in
     let kept : Searches s c.give_up.new.self c.drop_oldest.new.self.bits begun.0 = subst (λ x. Searches s c.give_up.new.self x begun.0) (sym rest) (c.give_up.ensures now begun.0 (omega (arith, whole, some)) begun.1) in
-    holds_search s g.S.Shape.LEN c.self.inside.signals _ _ c.drop_oldest.new.self c.give_up.new.self c.self.inside.before c.self.invariant.judges (omega (arith, left, room, c.self.invariant.room)) c.self.invariant.three
+    holds_search s g.S.Shape.LEN c.self.inside.signals _ _ c.drop_oldest.new.self c.give_up.new.self c.self.inside.before c.self.invariant.judges (left ∙ room ∙ c.self.invariant.room) c.self.invariant.three
     c.if-self.true c.clear_ready.ensures.fresh (omega (arith, ap length rest, length-drop 1 now, most, some)) begun.0 kept
 
 pub returns-then-self : goal.returns-then-self
@@ -101,7 +101,7 @@ invariant_of-self-2 g c =
     let room : c.append_bit.new.self.capacity ≡ c.self.inside.held.capacity = ap (λ b. b.capacity) c.append_bit.ensures ∙ ap (λ b. b.capacity) c.clear_ready.ensures.held in
     let some : 0 < g.S.Shape.LEN = omega (arith, g.met.S.Shape.is_frame.some_slots, g.met.S.Shape.len_is) in
     let most : length now ≤ g.S.Shape.LEN = length_part c.self.inside.fresh c.args.bit c.self.inside.held.bits now g.S.Shape.LEN some now_is (c.self.invariant.part c.if-self.false) in
-    holds_frame g.S.Shape.shape g.S.Shape.LEN c.self.inside.signals c.self.inside.searching c.append_bit.new.self c.self.inside.search _ _ c.wrong-d.result c.self.invariant.judges (omega (arith, room, c.self.invariant.room))
+    holds_frame g.S.Shape.shape g.S.Shape.LEN c.self.inside.signals c.self.inside.searching c.append_bit.new.self c.self.inside.search _ _ c.wrong-d.result c.self.invariant.judges (room ∙ c.self.invariant.room)
     some c.if-self.false (omega (arith, c.held-2.ensures.count, c.LEN-2.ensures, c.if-held-LEN-2.false, most)) c.wrong-d.ensures
 
 pub returns : goal.returns

@@ -22,7 +22,7 @@ invariant_of-self g c =
     let room : c.slide.new.held.capacity ≡ c.self.inside.held.capacity = ap (λ b. b.capacity) c.slide.ensures in
     let begun = begun_pass s c.self.inside.search c.push_all.new.self c.give_up.new.self items c.slide.new.held.bits more few now c.push_all.ensures gives (c.self.invariant.begun c.if-not-self.false) in
     let short : length c.slide.new.held.bits < 3 * g.S.Shape.LEN = omega (arith, ap length now, length-append (drop (length more) items) more, length-drop (length more) items, few, full) in
-    holds_search s g.S.Shape.LEN c.self.inside.signals c.self.inside.searching c.self.inside.fresh c.slide.new.held c.give_up.new.self c.self.inside.before c.self.invariant.judges (omega (arith, room, c.self.invariant.room)) c.self.invariant.three
+    holds_search s g.S.Shape.LEN c.self.inside.signals c.self.inside.searching c.self.inside.fresh c.slide.new.held c.give_up.new.self c.self.inside.before c.self.invariant.judges (room ∙ c.self.invariant.room) c.self.invariant.three
     c.if-not-self.false (c.self.invariant.idle c.if-not-self.false) short begun.0 begun.1
 
 pub returns-clause-passes : goal.returns-clause-passes

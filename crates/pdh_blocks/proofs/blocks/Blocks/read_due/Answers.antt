@@ -51,7 +51,7 @@ returns-clause-done g c =
     let failed : Option ℕ = Some k in
     rw c.feed_failed.ensures.counted
     (subst (λ (leaf : Leaf). ReadsAtMost a (record a { shelf = s; leaves = slice_set a.leaves k leaf; feed_faults = faults; failed = failed })) (sym same)
-    (read_failed a s k old old.waiting c.requires.port at c.read.ensures.looks was faults failed c.feed_failed.ensures.fits c.read.ensures.fits refl refl (at_err c.read.result no c.read.ensures.err)))
+    (read_failed a s k old old.waiting c.requires.port at c.read.ensures.looks was faults failed c.feed_failed.ensures.fits c.read.ensures.fits refl refl (at_err c.read.result no c.read.ensures.err).fails.fails))
 
 pub returns-clause-cause : goal.returns-clause-cause
 returns-clause-cause g c = rw c.feed_failed.ensures.counted refl

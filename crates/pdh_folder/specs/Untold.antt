@@ -1,7 +1,7 @@
 -- What the real devices tell and count, and what their calls do to it: they tell no contents.
 use Rattle.std.specs.Prelude.{◌≡◌, ℕ, true, false, if◌then◌else◌, Option, None, is_none, Result, IfOk, OnOk, OnErr}
-use Rattle.pdh_edge.specs.declared.real.Folder.{Folder}
-use Rattle.pdh_edge.specs.declared.real.Out.{Out}
+use Rattle.pdh_folder.specs.declared.folder.Folder.{Folder}
+use Rattle.pdh_folder.specs.declared.out.Out.{Out}
 use Rattle.pdh_edge.specs.Files.{ShelfState, SinkState, with_read_fault, with_write_fault, with_miss}
 use Rattle.pdh_edge.specs.Files.Told.{Untold}
 use Rattle.pdh_edge.specs.Counts.{one_more}
@@ -15,6 +15,7 @@ untold_files read_faults write_faults misses = record {
   readable = λ name at len. true;
   counts = record { read_faults = read_faults; write_faults = write_faults; misses = misses };
   last_failed = None;
+  failed_range = None;
   tells_name = λ name. false;
   tells_started = λ name. false;
 }

@@ -1,0 +1,13 @@
+//! What the clauses of `run` on lines with errors give together. Each function does nothing: what it ensures is the law.
+ghost use Rattle.std.specs.Prelude.{ℕ, Option, List};
+ghost use Rattle.pdh_chain.specs.declared.chain.Chain.{Chain};
+ghost use Rattle.pdh_ops.specs.Schedules.{Files};
+ghost use Rattle.pdh_ops.specs.Rejoined.{FileComesBack};
+
+/// What `mux` wrote of its files, disturbed before some bit, gives each leaf's file back by `demux`, from
+/// a stated bit on, where each node on the way to the leaf is quiet from its own rejoining place on.
+pub fn leaves_get_their_files_back()
+    ensures file { (chain : Chain) (feac : Option ℕ) (files : Files) (line bent output : List ℕ)
+        (leaf e u : ℕ) (quiet : List ℕ) →
+        FileComesBack chain feac files line bent output leaf e u quiet }
+{}

@@ -1,0 +1,12 @@
+pub mod RuleLaws
+pub mod PieceLaws
+pub mod PlaceLaws
+pub mod SettleLaws
+pub mod RecoverLaws
+pub mod DownLaws
+pub mod OnceLaws
+pub mod FlippedLaws
+pub mod Worked
+pub mod WorkedSlip
+pub mod WorkedDrop
+pub mod WorkedFlips

@@ -1,0 +1,4 @@
+pub mod Recovering
+pub mod Losing
+pub mod Flipped
+pub mod Downwards
