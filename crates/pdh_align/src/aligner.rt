@@ -1,3 +1,6 @@
+//! The aligner: it takes a received line bit by bit or many bits at once, and holds at most three
+//! frames of it.
+
 ghost use Rattle.std.specs.Prelude.{◌≡◌, ◌↔◌, ◌+◌, ◌*◌, ◌<◌, ◌≤◌, ℕ, Bool, true, false, List, [], ◌++◌, length, take, drop, cond, IfOk, IfSome, IsSome};
 ghost use Rattle.std.specs.List.{slice_index_or};
 ghost use Rattle.pdh_shape.specs.Frame.{wrong as wrong_in};

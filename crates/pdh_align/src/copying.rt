@@ -1,3 +1,5 @@
+//! Bits of the frames that an aligner holds, copied out.
+
 ghost use Rattle.std.specs.Prelude.{◌≡◌, ◌+◌, ◌≤◌, length, take, drop};
 
 use pdh_packed::{BitRing, Word};

@@ -1,5 +1,6 @@
 //! The alignment machine: it finds frame alignment in a line, and loses it, bit by bit or by many bits at
 //! once.
+//! It knows the line of one node, and no drain, no event and no other node.
 #![tactic(auto)]
 
 mod aligner;

@@ -1,3 +1,6 @@
+//! A search for frame alignment: which positions are given up, and whether the oldest is confirmed.
+//! The bits themselves are the aligner's, which hands them in.
+
 ghost use Rattle.std.specs.Prelude.{◌≡◌, ◌<◌, ◌≤◌, ◌+◌, ◌*◌, ◌↔◌, ℕ, List, Bool, [], ◌∷◌, ◌++◌, length, take, drop, IfOk, IfSome, IsSome};
 ghost use Rattle.pdh_line.specs.Tracking.{is_confirmed as is_confirmed_in};
 ghost use Rattle.pdh_phases.specs.Keeping.{StandsFor};

@@ -1,3 +1,6 @@
+//! What held frames are judged by: the alignment slots of their shape, what is wrong in them, and
+//! whether that completes a loss.
+
 ghost use Rattle.std.specs.Prelude.{◌≡◌, ◌<◌, ◌≤◌, ◌+◌, ◌*◌, ◌&&◌, ◌||◌, ℕ, true, false, length, take, drop, IfOk};
 ghost use Rattle.pdh_shape.specs.Frame.{is_right as is_right_in, wrong as wrong_in, clean as clean_marks, framing_mark, is_multi};
 ghost use Rattle.pdh_shape.specs.declared.role.Mark.TheVariants.{Framing};

@@ -1,3 +1,6 @@
+//! Positions at which no right frame begins, found 64 at a time, where the alignment slots are
+//! spread over the frame.
+
 ghost use Rattle.std.specs.Prelude.{◌≡◌, ◌<◌, ◌≤◌, ◌+◌, ◌&&◌, ℕ, true, false, length, take, drop, get_or};
 ghost use Rattle.std.specs.Bool.{beq};
 ghost use Rattle.pdh_shape.specs.Frame.{is_right as is_right_in};

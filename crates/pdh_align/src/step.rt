@@ -1,3 +1,5 @@
+//! The steps of an aligner, one for each bit that it takes.
+
 /// What an aligner tells of a line bit that it took.
 #[derive(Clone, Copy, Debug, PartialEq, Eq)]
 pub enum Step {

@@ -1,3 +1,5 @@
+//! What a command did, with the numbers of its text, or why it stopped, with the program's status.
+
 use crate::file::File;
 use pdh_chain::Chain;
 use pdh_clock::{Outside, ScheduleFault};

@@ -1,3 +1,5 @@
+//! The files of the commands, and how each is called.
+
 ghost use Rattle.std.specs.Prelude.{◌≡◌, ◌+◌, ◌%◌, ◌≤◌, length};
 ghost use Rattle.pdh_answers.specs.Names.{line_name as name_of_line, bent_name as name_of_bent, script_name as name_of_script, schedule_name as name_of_schedule, payload_name as name_of_payload, e1_name as name_of_e1, payload_out_name as name_of_payload_out, numbered_name as name_of_numbered};
 

@@ -1,3 +1,5 @@
+//! The text of each answer, and its way to the sink, behind the lines of the monitors.
+
 ghost use Rattle.std.specs.Prelude.{◌≡◌, ◌≤◌, ◌++◌, length, map, decimal, codes, OnOk, OnErr};
 ghost use Rattle.pdh_chain.specs.Chains.{name_of as name_of_chain};
 ghost use Rattle.pdh_line.specs.Paths.{steps_of, path_text};

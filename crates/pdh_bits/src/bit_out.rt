@@ -1,3 +1,5 @@
+//! Bits that wait until they fill whole bytes.
+
 ghost use Rattle.std.specs.Prelude.{◌≡◌, ◌+◌, ◌*◌, ◌/◌, ◌%◌, ◌≤◌, ◌↔◌, [], ◌∷◌, ◌++◌, length, min, take, drop, IfOk, IsErr, OnOk, OnErr};
 ghost use Rattle.pdh_bits.specs.Bits.{bytes_of};
 

@@ -1,3 +1,5 @@
+//! Lists of bits from bytes, and whole bytes from lists of bits.
+
 ghost use Rattle.std.specs.Prelude.{◌≡◌, ◌+◌, ◌*◌, ◌/◌, ◌++◌, length, min, take, drop, IfOk};
 ghost use Rattle.pdh_bits.specs.Bits.{bits_of_byte, bits_of, number_of, bytes_of};
 

@@ -1,4 +1,5 @@
 //! Bits of bytes, and whole bytes of bits, the most significant bit of each byte first.
+//! It stands on no other crate, and knows no frame and no file.
 #![tactic(auto)]
 
 mod bit_out;

@@ -1,3 +1,5 @@
+//! The table that gives each byte's bits.
+
 /// The bits of each byte, the most significant bit first.
 pub const BITS: [[bool; 8]; 256] = [
     [false, false, false, false, false, false, false, false],

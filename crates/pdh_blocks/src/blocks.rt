@@ -1,3 +1,6 @@
+//! What a port keeps beside its shelf: the blocks of its lists, its faults, and which outputs were
+//! started.
+
 ghost use Rattle.std.specs.Prelude.{◌≡◌, ◌+◌, ◌<◌, ◌^◌, length, Some};
 ghost use Rattle.pdh_edge.specs.Counts.{one_more};
 

@@ -1,3 +1,6 @@
+//! Making a bit of a leaf wait, before it is given: where its block is used up, the next one is
+//! read.
+
 ghost use Rattle.std.specs.Prelude.{◌≡◌, ◌<◌, length, OnOk, IsErrOf};
 ghost use Rattle.pdh_edge.specs.declared.port.FeedStop.TheVariants.{Ended, Failed as FeedFailed};
 ghost use Rattle.pdh_edge.specs.Ports.{HasFeedCause};

@@ -1,3 +1,5 @@
+//! A leaf's list: its file, and the block of it that was read last.
+
 ghost use Rattle.std.specs.Prelude.{◌≡◌, ◌+◌, ◌-◌, ◌%◌, ◌^◌, ◌<◌, ◌≤◌, [], ◌∷◌, ◌++◌, length, min, take, nat_lt, IfOk, OnOk, OnErr};
 ghost use Rattle.std.specs.String.{string_bytes};
 ghost use Rattle.pdh_edge.specs.Files.{Looks, Succeeds};

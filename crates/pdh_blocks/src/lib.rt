@@ -1,4 +1,5 @@
 //! A port over a shelf, which reads and writes whole blocks.
+//! It knows files by the calls of a shelf and the names that it is given alone, and no frame.
 #![tactic(auto)]
 
 mod blocks;

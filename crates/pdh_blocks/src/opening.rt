@@ -1,3 +1,5 @@
+//! Making the blocks of a port, which takes all memory that the port needs.
+
 ghost use Rattle.std.specs.Prelude.{◌≡◌, length, map, IfOk};
 ghost use Rattle.pdh_edge.specs.Files.{ShelfState};
 ghost use Rattle.pdh_blocks.specs.State.{over};

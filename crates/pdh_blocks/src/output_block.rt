@@ -1,3 +1,5 @@
+//! An output's list: its file, and the block of bits that wait to be appended.
+
 ghost use Rattle.std.specs.Prelude.{◌≡◌, ◌+◌, ◌^◌, ◌<◌, ◌≤◌, [], ◌∷◌, ◌++◌, length, take, drop, IfOk, OnOk, OnErr};
 ghost use Rattle.std.specs.String.{string_bytes};
 ghost use Rattle.pdh_edge.specs.Files.{Touches};

@@ -1,3 +1,5 @@
+//! Putting bits to outputs: before the first block is appended the outputs are started, in order.
+
 ghost use Rattle.std.specs.Prelude.{◌≡◌, ◌+◌, ◌-◌, ◌<◌, ◌≤◌, length, take, drop, OnOk, OnErr};
 ghost use Rattle.pdh_edge.specs.Ports.{for_leaf, only};
 

@@ -1,3 +1,5 @@
+//! The calls of a port, over its blocks and its shelf.
+
 ghost use Rattle.std.proofs.Common.{◌∙◌};
 ghost use Rattle.std.specs.Prelude.{◌≡◌, IfOk, IfErr, OnOk, OnErr};
 ghost use Rattle.pdh_edge.specs.Ports.{PutsPart, HasCause, nothing};

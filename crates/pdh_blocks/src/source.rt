@@ -1,3 +1,5 @@
+//! Where a leaf's bits come from.
+
 /// What a leaf's bits come from: the first bits of a file, so many.
 #[derive(Drop)]
 pub struct Source {

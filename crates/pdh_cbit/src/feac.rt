@@ -1,3 +1,6 @@
+//! The far end alarm and control channel: sending a code's word again and again, and telling the
+//! codes of received bits.
+
 ghost use Rattle.std.specs.Prelude.{◌≡◌, ℕ, ◌+◌, ◌*◌, ◌%◌, ◌^◌, ◌<◌, ◌≤◌, ◌↔◌, min, if◌then◌else◌, Bool, List, [], ◌∷◌, ◌++◌};
 ghost use Rattle.pdh_bits.specs.Bits.{bit, with_bit, number_of};
 ghost use Rattle.pdh_cbit.specs.Feac.{word_of, feac_bit, answer_of};

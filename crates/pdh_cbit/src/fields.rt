@@ -1,3 +1,5 @@
+//! The fields of the 21 C bits of a frame.
+
 ghost use Rattle.std.specs.Prelude.{◌≡◌, ℕ, ◌+◌, ◌*◌, ◌^◌, ◌<◌, ◌≤◌};
 ghost use Rattle.pdh_bits.specs.Bits.{number_of};
 ghost use Rattle.pdh_cbit.specs.CBits.{c_bit, of_subframe};

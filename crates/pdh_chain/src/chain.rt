@@ -1,3 +1,5 @@
+//! The list of chains: the name and the levels of each, and what follows from its levels.
+
 ghost use Rattle.std.specs.Prelude.{◌≡◌, ◌<◌, ◌≤◌, ◌*◌, All, length};
 ghost use Rattle.pdh_nesting.specs.Chains.{top_len};
 ghost use Rattle.pdh_levels.specs.Levels.{AreLevels};

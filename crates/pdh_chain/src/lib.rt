@@ -1,4 +1,5 @@
 //! The chains of multiplexers.
+//! From here on a chain has a name. The crate knows the lists of a port, and no file.
 #![tactic(auto)]
 
 mod by_chain;

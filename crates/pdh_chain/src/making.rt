@@ -1,3 +1,6 @@
+//! `mux` of a chain by the type of its top: its frames at once where nothing can stand in the way,
+//! and else bit by bit.
+
 ghost use Rattle.std.specs.Prelude.{◌≡◌, ◌<◌, ◌≤◌, ◌^◌, ℕ, [], length, IsTrue, OnOk, IfErr, IfSome};
 ghost use Rattle.pdh_clock.specs.Contents.{frame_count, counts};
 ghost use Rattle.pdh_nesting.specs.Chains.{width};

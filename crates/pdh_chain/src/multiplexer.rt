@@ -1,3 +1,5 @@
+//! Multiplexers with stores and without as one trait, so that a chain's top may be either.
+
 ghost use Rattle.std.specs.Prelude.{◌≡◌, ℕ};
 ghost use Rattle.pdh_nesting.specs.Chains.{top_len};
 ghost use Rattle.pdh_tx.specs.Meaning.{Plan, Supply};

@@ -1,3 +1,6 @@
+//! `demux` of a chain by the types of its nodes: bit by bit where the watch wants events, and else
+//! many bits at a time.
+
 ghost use Rattle.std.specs.Prelude.{◌≡◌, ◌<◌, ◌≤◌, ◌^◌, ℕ, [], length, ⊤, IsTrue, IfOk, IfErr, OnOk, IsErrOf, ◌∷◌, Err};
 ghost use Rattle.pdh_nesting.specs.Chains.{width};
 ghost use Rattle.pdh_rx.specs.Meaning.{HoldsAll};

@@ -1,3 +1,5 @@
+//! Sending a line that is made bit by bit: its whole frames, up to what stands in the way.
+
 ghost use Rattle.std.specs.Prelude.{◌≡◌, ◌≤◌, ◌<◌, ℕ, ◌+◌, ◌*◌, IsTrue, false, All, OnOk, IfErr, IfSome, OnErr};
 ghost use Rattle.pdh_shape.specs.declared.role.Service.{Service};
 ghost use Rattle.pdh_edge.specs.Ports.{Puts, PutsPart, HasCause};

@@ -1,3 +1,5 @@
+//! Why `mux` and `demux` end early.
+
 use crate::clear_sending::CallStop;
 use pdh_edge::{Failed, FeedStop};
 use pdh_shape::{Path, Place};

@@ -1,3 +1,6 @@
+//! Whole chains as senders and as receivers, made from their leaves up by the types of their nodes.
+//! The nodes of a level share their layout and their tables.
+
 ghost use Rattle.std.specs.Prelude.{◌≡◌, ◌+◌, ◌<◌, ◌≤◌, ◌^◌, ℕ, suc, List, [], ◌∷◌, All, length, map, IfOk, OnOk};
 ghost use Rattle.pdh_shape.specs.Frame.{FrameShape};
 ghost use Rattle.pdh_nesting.specs.Chains.{width, AreFrames, ReadEvenly};

@@ -1,4 +1,5 @@
 //! Schedules: how many bits of each tributary arrive in each frame of a recorded line.
+//! It knows levels and the bytes of a text, and no bit of a line and no file.
 //!
 //! A schedule's text is lines, each ended by a line feed, which the last may lack. An empty line, and one whose first
 //! byte is `#`, are passed over. Every other line is a row: a path, one space, a repeat, and then for each store of the

@@ -1,3 +1,5 @@
+//! The frames DS2 and DS3 as shapes, each by its plan.
+
 use crate::blocks::{block_mark, block_role};
 use crate::loss::loses;
 use crate::{Ds2Plan, Ds3Plan, Ds3cPlan, InBlocks};

@@ -1,3 +1,5 @@
+//! What tells a frame of subframes in blocks: its numbers, its overhead slots and its service bits.
+
 ghost use Rattle.std.specs.Prelude.{◌≡◌, ◌<◌, ℕ, true, Bool, List};
 ghost use Rattle.pdh_ds.specs.Blocks.{in_blocks, overhead_at, IsBlockPlan};
 ghost use Rattle.pdh_ds.specs.declared.block_plan.BlockPlan.{BlockPlan};

@@ -1,3 +1,5 @@
+//! What the slots of a frame in blocks carry, by its plan.
+
 // Frames of subframes of blocks, as ANSI T1.107 has them.
 ghost use Rattle.std.specs.Prelude.{◌≡◌, ◌<◌};
 ghost use Rattle.pdh_ds.specs.Blocks.{place_at, info_at as info_in_blocks, block_role as role_in_blocks, block_mark as mark_in_blocks, align_mark as align_mark_in, IsBlockPlan};

@@ -1,4 +1,5 @@
 //! The frames DS2 and DS3 of ANSI T1.107, and the parity of bits.
+//! It knows frames alone, and no line and no chain.
 #![tactic(auto)]
 
 mod block_frame;

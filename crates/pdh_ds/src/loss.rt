@@ -1,3 +1,5 @@
+//! Loss of alignment of a frame in blocks, by the marks of three frames in a row.
+
 // When alignment is lost: by framing slots in a row, or by multiframe slots.
 ghost use Rattle.std.specs.Prelude.{◌≡◌, ◌<◌, ◌≤◌, ◌+◌, ◌*◌, cond};
 ghost use Rattle.pdh_ds.specs.Loss.{IsLossRule, is_wrong as is_wrong_in, wrong_of_two as wrong_of_two_in, wrong_in, ends_wrong as ends_wrong_in, window_wrong as window_wrong_in, loses as loses_in};

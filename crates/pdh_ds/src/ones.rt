@@ -1,3 +1,5 @@
+//! The parity of bits.
+
 ghost use Rattle.std.specs.Prelude.{◌≡◌};
 ghost use Rattle.pdh_ds.specs.Parity.{odd_ones};
 

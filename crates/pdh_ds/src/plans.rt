@@ -1,3 +1,5 @@
+//! The plans of DS2, of DS3 in the M23 application, and of DS3 with C-bit parity (ANSI T1.107).
+
 ghost use Rattle.std.specs.Prelude.{◌≡◌, ◌<◌, not};
 ghost use Rattle.std.specs.List.{slice_index_or};
 ghost use Rattle.pdh_shape.specs.declared.role.Role.TheVariants.{Service as ServiceSlot};

@@ -1,4 +1,5 @@
 //! Framed 2048 kbit/s streams in multiframes with CRC-4 (G.704, 2.3).
+//! It knows whole payloads and whole lines, and no search for alignment, no chain and no file.
 //!
 //! A frame has 32 octets, and a multiframe has 16 frames. The first octet of a frame carries alignment signals, the bits
 //! of CRC-4 words and service bits; the 31 others are payload.

@@ -1,3 +1,5 @@
+//! Bytes that grow within room that was taken before, for a shelf or a sink in memory.
+
 ghost use Rattle.std.specs.Prelude.{◌≡◌, ◌↔◌, ◌+◌, ◌≤◌, [], ◌++◌, length, if◌then◌else◌, IfOk, IsTrue};
 
 use std::alloc::{AllocError, Global};

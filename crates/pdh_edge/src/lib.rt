@@ -1,4 +1,6 @@
 //! The edge: files, output and lists of bits as traits, with counts of their faults.
+//! What it has of its own stands in memory: it asks the system for nothing but memory, and knows no
+//! frame.
 #![tactic(auto)]
 
 mod buffer;

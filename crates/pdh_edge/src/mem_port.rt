@@ -1,3 +1,5 @@
+//! A port in memory: lists that are given, and lists with room for what is put.
+
 ghost use Rattle.std.specs.Prelude.{◌≡◌, ◌≤◌, ◌+◌, ℕ, Bool, true, IsTrue, List, [], length, map, replicate, slice_get, Some, IfOk, OnOk, OnErr};
 ghost use Rattle.std.proofs.Common.{refl, ◌∙◌, arith, ap};
 ghost use Rattle.pdh_edge.specs.Ports.{Puts, PutsPart, HasCause, only, for_leaf};

@@ -1,3 +1,5 @@
+//! A shelf in memory, whose calls fail as planned.
+
 ghost use Rattle.std.specs.Prelude.{◌≡◌, ◌≢◌, ◌↔◌, List, ℕ, true, length, option_map, is_some, IsTrue, IfOk, OnOk, OnErr};
 ghost use Rattle.std.specs.Option.{option_copied, option_and_then};
 ghost use Rattle.pdh_edge.specs.declared.shelf.Call.TheVariants.{Size};

@@ -1,3 +1,5 @@
+//! A sink in memory, whose calls fail as planned.
+
 ghost use Rattle.std.specs.Prelude.{◌≡◌, IfOk, OnOk, OnErr};
 ghost use Rattle.pdh_edge.specs.Files.{Sends, FailsToSend};
 ghost use Rattle.pdh_edge.specs.MemOutput.{mem_sink_state, sink_state, new_sink, with_planned, WritesInMemory};

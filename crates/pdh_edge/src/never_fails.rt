@@ -156,7 +156,7 @@ impl Shelf for NeverFails {
         ensures taken { self.new.taken ≡ taken_after (length bytes.now) self.old.taken }
     {
         NeverFails::write(&mut self.inputs, name);
-        self.take(bytes);
+        NeverFails::take(self, bytes);
         Ok(())
     }
 }

@@ -1,3 +1,5 @@
+//! The plan by which calls of one kind fail.
+
 ghost use Rattle.std.specs.Prelude.{◌≡◌, OnOk, OnErr};
 ghost use Rattle.pdh_edge.specs.Plan.{no_plan, is_due, plan_after_call, plan_after_fail};
 

@@ -1,3 +1,5 @@
+//! Lists of bits as traits: a feed gives them, a drain takes them, and a port does both.
+
 ghost use Rattle.std.specs.Prelude.{◌≡◌, ◌≤◌, ◌<◌, ◌+◌, ◌-◌, ◌^◌, ℕ, Bool, List, length, min, Some, IsTrue, IfOk, OnOk, OnErr, IsErrOf};
 ghost use Rattle.pdh_packed.specs.Gaining.{gained, IsGrown};
 ghost use Rattle.pdh_edge.specs.declared.port.FeedStop.TheVariants.{Ended, Failed as FeedFailed};

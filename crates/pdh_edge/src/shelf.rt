@@ -1,3 +1,5 @@
+//! Files as a trait: what each call of a shelf answers, leaves and counts.
+
 ghost use Rattle.std.specs.Prelude.{◌≡◌, length, IfOk, OnOk, OnErr, true};
 ghost use Rattle.pdh_edge.specs.declared.shelf.Call.TheVariants.{Size};
 ghost use Rattle.pdh_edge.specs.Files.{ShelfState, Looks, Touches, FailsToRead, FailsToReadRange, HasSize, HasRange, Starts, FailsToStart, Appends, FailsToAppend};

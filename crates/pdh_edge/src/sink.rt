@@ -1,3 +1,5 @@
+//! An output of bytes as a trait.
+
 ghost use Rattle.std.specs.Prelude.{◌≡◌, OnOk, OnErr};
 ghost use Rattle.pdh_edge.specs.Files.{SinkState, Sends, FailsToSend};
 

@@ -1,3 +1,5 @@
+//! AIS: where a run of ones on a line gets as long as AIS is, and where it ends.
+
 ghost use Rattle.std.specs.Prelude.{◌≡◌, Bool, List, [], ◌∷◌, ◌++◌};
 ghost use Rattle.pdh_events.specs.Telling.{tell, ais_kinds};
 ghost use Rattle.pdh_events.specs.Keeping.{CountsOnes};

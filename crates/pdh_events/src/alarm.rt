@@ -1,3 +1,5 @@
+//! The remote alarm, as its slots in a frame tell it.
+
 ghost use Rattle.std.specs.Prelude.{◌≡◌, ◌<◌, All, length, map, IfOk};
 ghost use Rattle.pdh_shape.specs.declared.role.Duty.TheVariants.{Alarm};
 ghost use Rattle.pdh_events.specs.Duties.{alarm_bit as alarm_bit_of, agreed, slots_with};

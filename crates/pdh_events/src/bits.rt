@@ -1,3 +1,5 @@
+//! Whether some of a frame's slots differ from a bit, and whether most of them are ones.
+
 ghost use Rattle.std.specs.Prelude.{◌≡◌, ◌<◌, All, not, length};
 ghost use Rattle.std.specs.Bool.{beq};
 ghost use Rattle.std.specs.List.{list_any};

@@ -1,3 +1,5 @@
+//! The codes that the far end alarm and control channel tells in a frame.
+
 ghost use Rattle.std.specs.Prelude.{◌<◌, All, Bool, List, ◌++◌, length, map, option_to_list};
 ghost use Rattle.pdh_cbit.specs.Channel.{HasReceived};
 ghost use Rattle.pdh_events.specs.Duties.{code_event};

@@ -1,3 +1,5 @@
+//! The slots of a shape whose service bits have one duty.
+
 ghost use Rattle.std.specs.Prelude.{◌≡◌, IfOk};
 ghost use Rattle.pdh_events.specs.Duties.{has_duty as has_role_duty, slots_with};
 

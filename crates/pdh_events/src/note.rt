@@ -1,3 +1,5 @@
+//! Telling a watch of an event, or that something begins or ends.
+
 ghost use Rattle.std.specs.Prelude.{if◌then◌else◌, [], ◌∷◌};
 ghost use Rattle.pdh_events.specs.Telling.{tell, changed};
 

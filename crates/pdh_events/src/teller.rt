@@ -1,3 +1,6 @@
+//! What the service bits of a node's delivered frames tell, frame by frame. A parity is told only
+//! of the frame before in the same alignment.
+
 ghost use Rattle.std.specs.Prelude.{◌≡◌, ℕ, Bool, true, Option, Some, List, [], ◌∷◌, ◌++◌, length, IfOk};
 ghost use Rattle.pdh_line.specs.Tracking.{Piece};
 ghost use Rattle.pdh_line.specs.Tracking.Piece.{Gap, Delivered};

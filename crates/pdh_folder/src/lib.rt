@@ -1,5 +1,6 @@
 //! The real devices: the files of the current folder as a shelf, and the standard output as a sink.
-//! They tell no contents. This is the one crate that asks the system for files.
+//! They tell no contents. All files of a run come and go through this crate.
+//! It knows names and bytes, and no bit of a line.
 #![tactic(auto)]
 
 mod beside;

@@ -1,3 +1,6 @@
+//! The alignment machine of a framed 2048 kbit/s line: it searches frames and then multiframes, and
+//! loses them.
+
 ghost use Rattle.std.specs.Prelude.{◌≡◌, ◌<◌, ◌≤◌, ◌+◌, ◌*◌, ◌%◌, ◌/◌, ◌-◌, ◌^◌, Bool, List, [], ◌∷◌, ◌++◌, length, drop, IsTrue, IfOk, OnOk, OnErr};
 ghost use Rattle.pdh_bits.specs.Bits.{bit_value};
 ghost use Rattle.circular_buffer.specs.Buffer.{buffer};

@@ -1,5 +1,7 @@
 //! Framed 2048 kbit/s streams with CRC-4 multiframes: frame and multiframe alignment, their loss, and what the CRC-4
 //! blocks tell (G.706, 4).
+//! It knows no file and no chain: the bits are handed to it, the payload goes to a drain, and the
+//! events go to a watch.
 #![tactic(auto)]
 
 mod align;

@@ -1,3 +1,5 @@
+//! The inspection of a framed 2048 kbit/s line.
+
 ghost use Rattle.std.specs.Prelude.{◌≡◌, ◌<◌, ◌≤◌, Bool, List, [], ◌++◌, map, IsTrue, IfOk, IfErr, OnOk, IsErrOf};
 ghost use Rattle.pdh_edge.specs.Ports.{HasFeedCause};
 ghost use Rattle.pdh_edge.specs.declared.port.FeedStop.TheVariants.{Failed};

@@ -1,3 +1,5 @@
+//! The inspection of a chain's line.
+
 ghost use Rattle.std.specs.Prelude.{◌≡◌, ◌<◌, ◌≤◌, ◌^◌, map, IsTrue, IfOk, IfErr, IsErrOf};
 ghost use Rattle.pdh_inspect.specs.declared.seen.LineStop.TheVariants.{Failed};
 ghost use Rattle.pdh_watch.specs.Monitors.{SawEach};

@@ -1,3 +1,5 @@
+//! The port over a feed that receivers get whose bits nobody wants.
+
 ghost use Rattle.std.specs.Prelude.{◌≡◌, true};
 ghost use Rattle.std.proofs.Common.{refl, sym, ◌∙◌, arith, ap, subst};
 ghost use Rattle.pdh_inspect.specs.Ports.{all_lists};

@@ -1,3 +1,5 @@
+//! What an inspection answers, with the feed that it was handed.
+
 /// Why a line wasn't seen to its end.
 #[derive(Clone, Copy, Debug, PartialEq, Eq)]
 pub enum LineStop {

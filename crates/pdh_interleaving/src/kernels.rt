@@ -1,3 +1,5 @@
+//! Eight bits of each tributary put in turn or gathered at once, by tables.
+
 ghost use Rattle.std.specs.Prelude.{◌≡◌, ◌^◌, ◌<◌, ◌≤◌, ◌∷◌, [], map};
 ghost use Rattle.pdh_bits.specs.Bits.{bits_of_byte};
 ghost use Rattle.pdh_packed.specs.Words.{low_bits};

@@ -1,5 +1,6 @@
 //! Bits of four or of seven tributaries in turn, as the payload of a frame has them: put together and
 //! dealt out, many at a time.
+//! It knows no slot of a frame: callers tell from which place on, and how many bits of each.
 #![tactic(auto)]
 
 mod kernels;

@@ -1,3 +1,5 @@
+//! The tables for bits in turn: those of a byte spread apart, and those in turn gathered.
+
 /// The bits of each byte, four places from each to the next.
 pub static SPREAD4: [u32; 256] = [
     0x00000000, 0x00000001, 0x00000010, 0x00000011, 0x00000100, 0x00000101, 0x00000110, 0x00000111,

@@ -1,3 +1,5 @@
+//! Putting lists in turn and dealing them out, at most 64 bits of each at a time.
+
 ghost use Rattle.std.specs.Prelude.{◌≡◌, ℕ, ◌+◌, ◌*◌, ◌/◌, ◌<◌, ◌≤◌, ◌⊎◌, ◌++◌, length, map, take, drop, slice_index, All};
 ghost use Rattle.pdh_bits.specs.Bits.{bits_of_byte};
 ghost use Rattle.pdh_packed.specs.Words.{low_bits};

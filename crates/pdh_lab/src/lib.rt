@@ -1,4 +1,5 @@
 //! The test pattern of a leaf, and the drill, in which a chain is tested with itself from one number.
+//! It knows no file: all that is sent and received stands in memory.
 #![tactic(auto)]
 
 mod drilling;

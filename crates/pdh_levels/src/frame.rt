@@ -1,3 +1,5 @@
+//! The bytes of a frame of the top, and by how much what a leaf gets is behind what arrived.
+
 ghost use Rattle.std.specs.Prelude.{◌≡◌, ◌≤◌, ◌<◌, ◌+◌, ◌*◌, ◌/◌, ◌^◌, All, length};
 ghost use Rattle.pdh_line.specs.Progress.{short_by as bits_short};
 ghost use Rattle.pdh_line.specs.Nodes.{top_len, delay_below as delay_below_levels, delay_of};

@@ -1,3 +1,5 @@
+//! The leaves of a chain in their order, each as a tributary of its node.
+
 ghost use Rattle.std.specs.Prelude.{◌≡◌, ◌≤◌, ◌<◌, All, length};
 ghost use Rattle.pdh_line.specs.Paths.{path_of};
 ghost use Rattle.pdh_line.specs.Nodes.{width, leaf_node, leaf_trib};

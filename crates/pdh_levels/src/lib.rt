@@ -1,5 +1,6 @@
 //! The levels of a chain of multiplexers: how many nodes and leaves it has, which stands where, and how far what is
 //! received is behind.
+//! It knows a level by its numbers alone, and no slot, no schedule and no bit of a line.
 //!
 //! A chain has one to three levels, each with multiplexers of one kind: its top is the first level's, and each tributary
 //! of a node that isn't of the last level is a node of the next one. So `/` is the top, `/2` the node of its second

@@ -1,3 +1,5 @@
+//! The nodes of a chain in their order.
+
 ghost use Rattle.std.specs.Prelude.{◌≡◌, ◌≤◌, ◌<◌, [], All, IsSome, Some, length};
 ghost use Rattle.std.specs.List.{slice_index_or};
 ghost use Rattle.pdh_line.specs.Paths.{steps_of, path_of};

@@ -1,3 +1,5 @@
+//! How many elastic stores a node of a level has.
+
 ghost use Rattle.std.specs.Prelude.{◌≡◌};
 ghost use Rattle.pdh_levels.specs.Levels.{level_stores};
 

@@ -34,7 +34,8 @@ length-front line x = length-map-range_with_len line 0 x
 pub take-front : (line : ℕ → Bool) (x y : ℕ) → x ≤ y → take x (front line y) ≡ front line x
 take-front line x y h = take-map-range_with_len line 0 y x h
 
-drop-range : (k a n : ℕ) → k ≤ n → drop k (range_with_len a n) ≡ range_with_len (a + k) (n - k)
+-- the rest of a range behind its first k numbers
+pub drop-range : (k a n : ℕ) → k ≤ n → drop k (range_with_len a n) ≡ range_with_len (a + k) (n - k)
 drop-range zero a n h = ap (λ m. range_with_len m n) (omega arith) ∙ ap (λ m. range_with_len (a + 0) m) (omega arith)
 drop-range (suc k) a zero h = absurd (omega arith)
 drop-range (suc k) a (suc n) h =

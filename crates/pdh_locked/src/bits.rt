@@ -1,3 +1,5 @@
+//! Making the line of a multiplexer without stores bit by bit.
+
 ghost use Rattle.std.specs.Prelude.{◌≡◌, ◌<◌, ◌≤◌, ℕ, suc, [], ◌∷◌, OnOk, IfOk, IfErr};
 ghost use Rattle.pdh_tx.specs.Meaning.{plan_of, IsNodeOf};
 ghost use Rattle.pdh_tx.specs.Node.{node_frame};

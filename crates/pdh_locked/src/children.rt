@@ -1,3 +1,6 @@
+//! The children of a multiplexer without stores, with the room in which its frames are put
+//! together.
+
 ghost use Rattle.std.specs.Prelude.{◌≡◌, ◌==◌, true, length, map};
 ghost use Rattle.pdh_tx.specs.Node.{IsDisjoint};
 ghost use Rattle.pdh_tx.specs.Scratch.{HasRoom};

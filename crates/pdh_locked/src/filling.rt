@@ -1,3 +1,6 @@
+//! Making the line of a multiplexer without stores a piece of a frame at a time, where nothing
+//! stands in the way.
+
 ghost use Rattle.std.specs.Prelude.{◌≡◌, ◌+◌, ◌%◌, ◌<◌, ◌≤◌, ◌==◌, ℕ, suc, false, [], length, All, IfOk, OnOk, OnErr};
 ghost use Rattle.std.specs.List.{slice_index_or};
 ghost use Rattle.pdh_packed.specs.Gaining.{gained, IsGrown};

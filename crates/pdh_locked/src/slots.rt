@@ -1,3 +1,5 @@
+//! What a slot reads or carries where nothing is justified, and whether its frame is scheduled.
+
 ghost use Rattle.std.specs.Prelude.{◌≡◌, ◌<◌, ◌^◌, suc, [], IsSome, IfSome, OnOk, IfErr, Some, None};
 ghost use Rattle.pdh_levels.specs.Levels.{level_at};
 ghost use Rattle.pdh_line.specs.Paths.{steps_of};

@@ -1,4 +1,5 @@
 //! What `main` of the program does, as a function that programs share.
+//! It alone joins `run` with the real devices, and it knows no frame and no chain.
 #![tactic(auto)]
 
 #[cfg(test)]

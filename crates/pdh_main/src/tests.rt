@@ -1,3 +1,5 @@
+//! Whole runs over devices in memory: with monitors of the caller's own, and where no call fails.
+
 use bitflags::Flags;
 use pdh_edge::{MemShelf, MemSink, NeverFails, Shelf};
 use pdh_ops::{run, run_never_failing};

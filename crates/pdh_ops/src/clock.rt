@@ -1,3 +1,5 @@
+//! `clock check` and `clock make`: judging a schedule, and making one.
+
 ghost use Rattle.std.specs.Prelude.{◌≡◌, ◌≤◌, count_by, ◌==◌, IfOk, IfErr, IsSome};
 ghost use Rattle.pdh_words.specs.declared.commands.Command.TheVariants.{ClockCheck, ClockMake};
 ghost use Rattle.pdh_levels.specs.Levels.{level_at};

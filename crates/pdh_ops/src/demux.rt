@@ -1,3 +1,5 @@
+//! `demux`: a line's file to a file for each leaf.
+
 ghost use Rattle.std.specs.Prelude.{◌≡◌, ◌∷◌, [], ◌*◌, ◌<◌, ◌^◌, ℕ, IsTrue, IfOk, true};
 ghost use Rattle.pdh_edge.specs.Files.{ShelfState};
 ghost use Rattle.pdh_blocks.specs.State.{over};

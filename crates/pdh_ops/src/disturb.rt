@@ -1,3 +1,5 @@
+//! `disturb`: a line's file changed by a script.
+
 ghost use Rattle.std.specs.Prelude.{◌≡◌, ◌*◌, ◌<◌, ◌^◌, [], ◌∷◌, IsTrue, IfOk, IfErr, Ok, true};
 ghost use Rattle.pdh_edge.specs.Files.{ShelfState, Looks};
 ghost use Rattle.pdh_blocks.specs.State.{over};

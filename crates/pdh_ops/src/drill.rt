@@ -1,3 +1,5 @@
+//! `drill`: a chain tested with itself.
+
 ghost use Rattle.std.specs.Prelude.{◌≤◌};
 ghost use Rattle.pdh_edge.specs.Files.{ShelfState};
 ghost use Rattle.pdh_words.specs.declared.commands.Command.TheVariants.{Drill};

@@ -1,3 +1,5 @@
+//! `e1pack` and `e1unpack`: a payload's file to a framed 2048 kbit/s line, and back.
+
 ghost use Rattle.std.specs.Prelude.{◌≡◌, ◌*◌, ◌<◌, ◌≤◌, ◌/◌, ◌%◌, ◌^◌, [], ◌∷◌, length, IsTrue, IfOk, IfErr, OnOk, Some, Ok};
 ghost use Rattle.pdh_bits.specs.Bits.{bits_of};
 ghost use Rattle.pdh_edge.specs.Files.{Looks, Holds};

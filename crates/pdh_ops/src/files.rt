@@ -1,3 +1,5 @@
+//! The calls of a shelf for a command's files, with each failure as a stop of the command.
+
 ghost use Rattle.std.specs.Prelude.{◌≡◌, length, IfOk, OnOk, IfErr};
 ghost use Rattle.pdh_edge.specs.Files.{Looks, Touches, Starts, FailsToStart, Appends, FailsToAppend, Holds};
 ghost use Rattle.pdh_answers.specs.Names.{name_of};

@@ -1,3 +1,5 @@
+//! `inspect`: the events of a line's file, shown to the monitors.
+
 ghost use Rattle.std.specs.Prelude.{◌≡◌, map, Some};
 ghost use Rattle.pdh_answers.specs.Names.{line_file};
 ghost use Rattle.pdh_ops.specs.Run.{OfBeginning, Performs, Watches};

@@ -1,3 +1,5 @@
+//! How many leaves a chain has, in the type that numbers their files.
+
 ghost use Rattle.std.specs.Prelude.{◌≡◌, ◌<◌, ◌≤◌};
 ghost use Rattle.pdh_chain.specs.Chains.{leaves_of};
 

@@ -1,4 +1,6 @@
 //! The top call: it does all that the program does.
+//! It asks the system for nothing but memory: it is handed a shelf for the files, a sink for the
+//! text, and the monitors.
 #![tactic(auto)]
 
 mod clock;

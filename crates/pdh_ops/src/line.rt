@@ -1,3 +1,5 @@
+//! The file of a line as an input, where it isn't too long.
+
 ghost use Rattle.std.specs.Prelude.{◌≡◌, IfOk, IfErr};
 ghost use Rattle.pdh_edge.specs.Files.{Looks};
 ghost use Rattle.pdh_ops.specs.Steps.{IsLine, IsLineCause};

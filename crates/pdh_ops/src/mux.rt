@@ -1,3 +1,5 @@
+//! `mux`: a schedule and a file for each leaf to a line's file.
+
 ghost use Rattle.std.specs.Prelude.{if◌then◌else◌, ◌≡◌, ℕ, [], ◌∷◌, ◌<◌, IfOk, OnOk, IfErr, IfSome, All, Option, IsTrue, true};
 ghost use Rattle.pdh_edge.specs.Files.{ShelfState, Looks};
 ghost use Rattle.pdh_blocks.specs.State.{over};

@@ -1,3 +1,5 @@
+//! `run`: the words to a command, the command to its answer, and the answer to its text and status.
+
 ghost use Rattle.std.specs.Prelude.{◌≡◌, map};
 ghost use Rattle.std.specs.String.{string_bytes};
 ghost use Rattle.pdh_words.specs.Commands.{command_of};

@@ -1,3 +1,5 @@
+//! The file of a schedule, read.
+
 ghost use Rattle.std.specs.Prelude.{◌≡◌, Ok, All, IfOk, IfErr};
 ghost use Rattle.pdh_edge.specs.Files.{Looks};
 ghost use Rattle.pdh_clock.specs.Contents.{IsRowOf};

@@ -1,3 +1,5 @@
+//! `show`: one frame of a line's file as text.
+
 ghost use Rattle.std.specs.Prelude.{◌≡◌, ◌≤◌, ◌*◌, [], ◌∷◌, OnOk, IfErr, true};
 ghost use Rattle.pdh_edge.specs.Files.{ShelfState, Looks};
 ghost use Rattle.pdh_blocks.specs.State.{over};

@@ -1,3 +1,5 @@
+//! Arrays of bits in words of 64, read and written at any place.
+
 ghost use Rattle.std.specs.Prelude.{◌≡◌, ◌+◌, ◌*◌, ◌%◌, ◌^◌, ◌<◌, ◌≤◌, false, not, length, take, drop, get_or, replicate, IfOk};
 ghost use Rattle.std.specs.List.{prefix_len};
 ghost use Rattle.pdh_packed.specs.Words.{low_bits, bits_of_words};

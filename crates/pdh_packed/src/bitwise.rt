@@ -1,3 +1,5 @@
+//! What is done to the bits of words place by place.
+
 ghost use Rattle.std.specs.Prelude.{◌≡◌, ◌≤◌, length, map, not, replicate};
 ghost use Rattle.std.specs.List.{prefix_len};
 ghost use Rattle.pdh_packed.specs.Places.{both, either, differing};

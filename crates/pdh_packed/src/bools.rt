@@ -1,3 +1,5 @@
+//! Packed lists from single bits, and back.
+
 ghost use Rattle.std.specs.Prelude.{◌≡◌, length, IfOk};
 
 use crate::packed::Packed;

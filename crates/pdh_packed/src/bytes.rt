@@ -1,3 +1,5 @@
+//! Packed lists from bytes, and back.
+
 ghost use Rattle.std.specs.Prelude.{◌≡◌, ◌+◌, ◌-◌, ◌*◌, ◌/◌, ◌≤◌, ◌++◌, length, min, take, drop, IfOk};
 ghost use Rattle.pdh_bits.specs.Bits.{bits_of, bytes_of};
 

@@ -1,3 +1,5 @@
+//! Packed lists that take a bit, or as many bits as there is room for.
+
 ghost use Rattle.std.specs.Prelude.{◌≡◌, ◌+◌, ◌-◌, ◌<◌, ◌≤◌, ◌∷◌, [], ◌++◌, length, min, take, drop};
 
 use crate::packed::Packed;

@@ -1,4 +1,5 @@
 //! Bits in packed words of 64: lists, rings and arrays of them.
+//! It knows bits and bytes alone, and no frame and no file.
 #![tactic(auto)]
 
 mod altering;

@@ -1,3 +1,5 @@
+//! Packed lists: bits in words of 64, with room that is taken before.
+
 ghost use Rattle.std.specs.Prelude.{◌≡◌, ◌+◌, ◌*◌, ◌%◌, ◌==◌, ◌<◌, ◌≤◌, false, not, [], ◌++◌, length, map, max, take, drop, get_or, count_by, vec_capacity, IfOk, OnOk, OnErr};
 ghost use Rattle.pdh_packed.specs.Words.{low_bits, bits_of_words};
 

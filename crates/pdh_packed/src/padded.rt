@@ -1,3 +1,5 @@
+//! Words of 64 bits that begin with bits of a packed list, for those who look at no others.
+
 ghost use Rattle.std.specs.Prelude.{◌≡◌, ◌+◌, ◌≤◌, length, take, drop};
 
 use crate::packed::Packed;

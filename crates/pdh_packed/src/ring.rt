@@ -1,3 +1,5 @@
+//! Rings of the last bits of a stream, in words of 64.
+
 ghost use Rattle.std.specs.Prelude.{◌≡◌, ◌+◌, ◌-◌, ◌*◌, ◌%◌, ◌<◌, ◌≤◌, [], ◌∷◌, ◌++◌, false, length, take, drop, get_or, IfOk};
 ghost use Rattle.circular_buffer.specs.Buffer.{buffer, keep_last};
 ghost use Rattle.pdh_packed.specs.Words.{low_bits, bits_of_words};

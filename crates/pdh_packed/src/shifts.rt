@@ -1,3 +1,5 @@
+//! Words of 64 bits, shifted.
+
 ghost use Rattle.std.specs.Prelude.{◌≡◌, ◌+◌, ◌-◌, ◌<◌, ◌≤◌, ◌++◌, length, take, drop};
 ghost use Rattle.pdh_packed.specs.Places.{between_zeros};
 

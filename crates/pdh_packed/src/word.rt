@@ -1,3 +1,5 @@
+//! Words of up to 64 bits.
+
 ghost use Rattle.std.specs.Prelude.{◌≡◌, ◌+◌, ◌^◌, ◌<◌, ◌≤◌, ◌∷◌, [], ◌++◌, false, length, take, drop, get_or, count_by, MatchOption};
 ghost use Rattle.pdh_bits.specs.Bits.{number_of};
 ghost use Rattle.pdh_packed.specs.Words.{low_bits};

@@ -1,3 +1,5 @@
+//! The phases of a frame, with how often in a row the alignment signal stands at each.
+
 ghost use Rattle.std.specs.Prelude.{◌≡◌, ◌<◌, ◌≤◌, ◌+◌, ◌==◌, ℕ, List, Bool, false, [], ◌∷◌, ◌++◌, length, take, drop, cond, eqb, IfOk};
 ghost use Rattle.pdh_phases.specs.Runs.{run_of};
 ghost use Rattle.pdh_phases.specs.Keeping.{StandsFor};

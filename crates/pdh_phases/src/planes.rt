@@ -1,3 +1,5 @@
+//! The runs of all phases, 64 of which are read or lengthened at once.
+
 // Runs of phases in planes of bits.
 ghost use Rattle.std.specs.Prelude.{◌≡◌, length};
 

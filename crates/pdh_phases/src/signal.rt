@@ -1,3 +1,5 @@
+//! The alignment signal, and at which of 64 positions it stands.
+
 // The bits of the alignment signal, and where they stand in a word.
 ghost use Rattle.std.specs.Prelude.{◌≡◌, ◌+◌, ◌++◌, length, IfOk};
 ghost use Rattle.pdh_bits.specs.Bits.{number_of};

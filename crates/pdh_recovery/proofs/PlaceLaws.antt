@@ -7,6 +7,7 @@ use Rattle.std.proofs.lemmas.Nat.{div-add-mod', mod-mul-add, mod_below}
 use Rattle.std.proofs.Math.Nat.{mul-le-mul_right}
 use Rattle.std.proofs.lemmas.Bool.{cases_lt}
 use Rattle.pdh_shape.specs.Frame.{FrameShape, is_right}
+use Rattle.pdh_line.proofs.SentFrames.{drop-range}
 use Rattle.pdh_recovery.specs.Recovering.{Rejoins, IsTruePosition, AllRight}
 
 -- a true place, some frames on
@@ -60,14 +61,6 @@ true_frame s e u t some h from =
   where
     suc_le : (a b : ℕ) → a < b → suc a ≤ b
     suc_le a b h = omega arith
-
-drop-range : (k a n : ℕ) → k ≤ n → drop k (range_with_len a n) ≡ range_with_len (a + k) (n - k)
-drop-range zero a n h = ap (λ m. range_with_len m n) (omega arith) ∙ ap (λ m. range_with_len (a + 0) m) (omega arith)
-drop-range (suc k) a zero h = absurd (omega arith)
-drop-range (suc k) a (suc n) h =
-    let e : a + 1 + k ≡ a + suc k = omega arith in
-    let f : n - k ≡ suc n - suc k = omega arith in
-    drop-range k (a + 1) n (omega arith) ∙ ap (λ m. range_with_len m (n - k)) e ∙ ap (range_with_len (a + suc k)) f
 
 -- a frame at a true place from the rejoining place on is a frame of the sent line
 pub sent_at : (s : FrameShape) (line : List Bool) (sent : ℕ → Bool) (e u t k : ℕ) → Rejoins line sent e u → e ≤ t → t + u ≡ e + k * s.len → t + s.len ≤ length line

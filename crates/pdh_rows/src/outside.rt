@@ -1,3 +1,5 @@
+//! What a table answers of a tributary that breaks the tolerance.
+
 /// A run of frames over which a tributary isn't within the tolerance.
 #[derive(Clone, Copy, Debug, PartialEq, Eq)]
 pub struct Outside {

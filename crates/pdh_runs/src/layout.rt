@@ -1,3 +1,5 @@
+//! The layout of a frame: its tables of slots, made once and shared by sending and receiving.
+
 ghost use Rattle.std.specs.Prelude.{◌≡◌, ◌<◌, ◌≤◌, ◌+◌, filter};
 ghost use Rattle.pdh_shape.specs.Frame.{slots as slots_of};
 ghost use Rattle.pdh_shape.specs.Payload.{is_payload as is_payload_role, payload_before};

@@ -1,5 +1,6 @@
 //! The runs of a frame: so many overhead slots, then so many payload slots, over the whole frame, and the payload as columns,
 //! one for each tributary.
+//! It knows one frame of any shape, and no store, no search for alignment and no chain.
 #![tactic(auto)]
 
 pub mod laws;

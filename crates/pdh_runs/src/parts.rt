@@ -1,3 +1,5 @@
+//! Frames taken apart into a column for each tributary.
+
 ghost use Rattle.std.specs.Prelude.{◌≡◌, ◌<◌, ◌≤◌, ◌+◌, ◌*◌, true, [], length, map, replicate, All, IfOk};
 ghost use Rattle.pdh_shape.specs.Tributary.{stripped};
 ghost use Rattle.pdh_runs.specs.Taking.{emptied, HasColumns};

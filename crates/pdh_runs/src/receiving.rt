@@ -1,3 +1,5 @@
+//! What a layout reads of a received frame: its justification control and its payload.
+
 ghost use Rattle.std.specs.Prelude.{◌≡◌, ◌<◌, ◌≤◌, ◌+◌, ◌*◌, ◌++◌, false, length, count_by, All};
 ghost use Rattle.std.specs.List.{slice_index_or};
 ghost use Rattle.pdh_shape.specs.Tributary.{carries_more as carries_more_in};

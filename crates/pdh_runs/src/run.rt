@@ -1,3 +1,5 @@
+//! The runs of a frame, as they are found slot by slot.
+
 ghost use Rattle.std.specs.Prelude.{◌≡◌, ◌<◌, ◌+◌, ◌^◌, if◌then◌else◌, IfOk};
 ghost use Rattle.pdh_shape.specs.Payload.{is_payload as is_payload_role};
 ghost use Rattle.pdh_runs.specs.Runs.{AreRuns};

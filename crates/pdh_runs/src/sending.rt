@@ -1,3 +1,5 @@
+//! Pieces of a frame, put together from a column for each tributary and the overhead bits.
+
 ghost use Rattle.std.specs.Prelude.{◌≡◌, ◌<◌, ◌≤◌, ◌⊎◌, ℕ, ◌+◌, ◌-◌, ◌*◌, ◌%◌, ◌==◌, true, false, [], ◌++◌, length, map, replicate, All};
 ghost use Rattle.std.specs.List.{slice_index_or};
 ghost use Rattle.pdh_shape.specs.Payload.{is_payload as is_payload_role, payload_before, payload_ones};

@@ -1,3 +1,5 @@
+//! The tables of a layout, each made from the roles of all slots.
+
 ghost use Rattle.std.specs.Prelude.{◌≡◌, ◌<◌, ℕ, filter, IfOk};
 ghost use Rattle.pdh_shape.specs.declared.role.Role.TheVariants.{Just};
 ghost use Rattle.pdh_shape.specs.Frame.{slots as slots_of};

@@ -1,3 +1,6 @@
+//! The turns of a tributary in the payload. One carries nothing in a frame without an additional
+//! bit.
+
 ghost use Rattle.std.specs.Prelude.{◌≡◌, ◌<◌, ◌≤◌, ◌+◌, ◌-◌, ◌++◌, length, map, take, drop, is_some, IfSome, true, if◌then◌else◌};
 ghost use Rattle.pdh_shape.specs.Tributary.{reads_below, turned};
 ghost use Rattle.pdh_runs.specs.Turns.{AreTurns, turn_bits};

@@ -1,3 +1,5 @@
+//! A ready frame copied out of the aligner, for those who read it slot by slot.
+
 ghost use Rattle.std.specs.Prelude.{◌≡◌, ◌<◌, length};
 ghost use Rattle.pdh_shape.specs.Tributary.{carries_more as carries_more_in};
 ghost use Rattle.pdh_align.specs.Aligning.{frame_back};

@@ -1,3 +1,6 @@
+//! What a step of the aligner brings where bits come one by one: events to the watch, and each
+//! slot's bit to its child.
+
 ghost use Rattle.std.specs.Prelude.{◌≡◌, ◌<◌, ◌++◌, ◌∷◌, ℕ, Bool, List, [], length, map, flat_map, OnOk, OnErr};
 ghost use Rattle.pdh_edge.specs.Ports.{HasCause};
 ghost use Rattle.pdh_shape.specs.Frame.{slots};

@@ -1,3 +1,5 @@
+//! Giving bits to one child.
+
 ghost use Rattle.std.specs.Prelude.{◌≡◌, ◌<◌, ℕ, suc, Bool, List, [], ◌∷◌, length, map, OnOk, OnErr};
 ghost use Rattle.pdh_edge.specs.Ports.{HasCause, for_leaf};
 ghost use Rattle.pdh_events.specs.Acts.Act.{Give};

@@ -1,3 +1,5 @@
+//! The demultiplexer: an aligner, and a receiver for each tributary.
+
 ghost use Rattle.std.specs.Prelude.{◌≡◌, ◌<◌, ◌≤◌, ◌+◌, ℕ, All, Bool, List, [], ◌∷◌, ◌++◌, length, take, drop, map, IfOk, OnOk, OnErr};
 ghost use Rattle.pdh_edge.specs.Ports.{HasCause};
 ghost use Rattle.pdh_rx.specs.Meaning.{Meaning, HoldsAll, Gains, GainsPart, TakesBits, TakesPart};

@@ -1,3 +1,6 @@
+//! What a step of the aligner brings where many bits come at once: its bits to each child by one
+//! call, and no events.
+
 // Giving the children their bits of whole frames, one child after another.
 ghost use Rattle.std.specs.Prelude.{◌≡◌, ◌<◌, ℕ, Bool, List, [], length, map, OnOk, OnErr};
 ghost use Rattle.pdh_edge.specs.Ports.{HasCause};

@@ -1,3 +1,5 @@
+//! Receivers as a trait: what leaves and demultiplexers have in common.
+
 ghost use Rattle.std.specs.Prelude.{◌≡◌, Bool, List, [], ◌∷◌, ◌++◌, OnOk, OnErr};
 ghost use Rattle.pdh_edge.specs.Ports.{HasCause};
 ghost use Rattle.pdh_watch.specs.Seen.{SawPart};

@@ -1,3 +1,5 @@
+//! What a slot of a received frame carries, given to its child.
+
 ghost use Rattle.std.specs.Prelude.{◌≡◌, ℕ, Bool, List, length, map, OnOk, OnErr};
 ghost use Rattle.pdh_edge.specs.Ports.{HasCause};
 ghost use Rattle.pdh_shape.specs.Tributary.{turned as turned_bit};

@@ -1,3 +1,5 @@
+//! A ready frame taken apart, for those who read it tributary by tributary.
+
 ghost use Rattle.std.specs.Prelude.{◌≡◌, ◌<◌, true, length, replicate};
 ghost use Rattle.pdh_shape.specs.Tributary.{stripped};
 ghost use Rattle.pdh_align.specs.Aligning.{frame_back};

@@ -1,3 +1,5 @@
+//! The receiver that is a leaf: its bits go to a drain's list.
+
 ghost use Rattle.std.specs.Prelude.{◌≡◌, Bool, List};
 ghost use Rattle.pdh_rx.specs.Tail.{tail_meaning};
 ghost use Rattle.pdh_rx.specs.laws.TailLaws.{tail_sound};

@@ -1,4 +1,5 @@
 //! Scripts that disturb a recorded line.
+//! It knows a line as bits alone: no frame, no chain and no file.
 //!
 //! A script's text is lines, each ended by a line feed, which the last may lack. An empty line, and one whose first byte
 //! is `#`, are passed over. Every other line is a row, three words with one space between:

@@ -1,4 +1,5 @@
 //! Frame shapes: what each slot of a frame carries, and when frame alignment is lost.
+//! It stands on no other crate. Of chains and files it knows numbers and places alone.
 #![tactic(auto)]
 
 mod own_numbers;

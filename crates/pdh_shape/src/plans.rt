@@ -1,3 +1,5 @@
+//! The plans of the frames of ITU-T G.742 and G.751.
+
 use crate::set_plan::{InSets, SetPlan};
 
 /// The plan of ITU-T G.742, for E2.

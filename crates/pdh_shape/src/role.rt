@@ -1,3 +1,5 @@
+//! What a slot carries, which alignment slot it is, and what a service bit tells.
+
 /// What a slot of a frame carries. Tributaries are counted from 0.
 #[derive(Clone, Copy, Debug, PartialEq, Eq)]
 pub enum Role {

@@ -1,3 +1,5 @@
+//! The frames E2, E3 and E4 as shapes, each by its plan.
+
 use crate::plans::{E2Plan, E3Plan, E4Plan};
 use crate::set_plan::InSets;
 use crate::sets::{four_wrong, set_duty, set_mark, set_role, set_service};

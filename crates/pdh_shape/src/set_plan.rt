@@ -1,3 +1,5 @@
+//! What tells a frame in sets: its numbers and its alignment signal.
+
 ghost use Rattle.std.specs.Prelude.{◌≡◌, true, Bool, List};
 ghost use Rattle.pdh_shape.specs.Sets.{in_sets, IsSetPlan};
 ghost use Rattle.pdh_shape.specs.KeptLaws.{keeps_laws};

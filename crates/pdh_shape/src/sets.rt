@@ -1,3 +1,5 @@
+//! What the slots of a frame in sets carry by its plan, and when it loses alignment.
+
 // Frames in sets of equal length, as ITU-T G.742 and G.751 have them for four tributaries.
 ghost use Rattle.std.specs.Prelude.{◌≡◌, ◌<◌};
 ghost use Rattle.pdh_shape.specs.Sets.{IsSetPlan, set_role as role_in_sets, set_mark as mark_in_sets, set_service as service_in_sets, set_duty as duty_in_sets, four_wrong as are_four_wrong};

@@ -1,3 +1,5 @@
+//! Frame shapes as a trait, with the laws that hold of each.
+
 ghost use Rattle.std.specs.Prelude.{◌≡◌, ◌<◌, ◌≤◌, ◌⊎◌, ◌%◌, ℕ};
 ghost use Rattle.pdh_shape.specs.Frame.{FrameShape, IsFrame, HasMarks, HasSignal};
 ghost use Rattle.pdh_shape.specs.Payload.{PayloadInTurn};

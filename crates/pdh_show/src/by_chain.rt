@@ -1,3 +1,5 @@
+//! The showing of a frame of each chain, by the shape of its top.
+
 ghost use Rattle.std.specs.Prelude.{◌≡◌, ◌≤◌, ◌*◌, suc, IsTrue, IfOk, Err};
 ghost use Rattle.pdh_chain.specs.Chains.{frame_bytes_of};
 ghost use Rattle.pdh_show.specs.Showing.{Shows, faults_shown};

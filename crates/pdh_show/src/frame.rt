@@ -1,3 +1,5 @@
+//! The showing of a frame of any shape: all memory first, then the frames up to it, then its text.
+
 ghost use Rattle.std.specs.Prelude.{◌≡◌, ◌<◌, ◌≤◌, ◌+◌, ◌*◌, ◌/◌, ◌%◌, ◌++◌, suc, length, IsTrue, IfOk, Err};
 ghost use Rattle.std.specs.List.{flat_map};
 ghost use Rattle.pdh_bits.specs.Bits.{bits_of};

@@ -1,3 +1,5 @@
+//! The lines of which a frame's text is made.
+
 ghost use Rattle.std.specs.Prelude.{◌≡◌, ◌<◌, ◌≤◌, ◌+◌, ◌*◌, ◌^◌, ◌++◌, length};
 ghost use Rattle.hex.specs.Hex.{encode_lower};
 ghost use Rattle.pdh_show.specs.Shown.{ended, signal_line as signal_line_of, digit as digit_of, control_digits, controls_part, carried as carried_in, tributary_line as tributary_line_of};

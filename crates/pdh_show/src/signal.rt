@@ -1,3 +1,5 @@
+//! The judgement of a frame's alignment signal.
+
 ghost use Rattle.std.specs.Prelude.{◌≡◌, length};
 ghost use Rattle.pdh_shape.specs.Frame.{is_right as is_right_in};
 

@@ -1,3 +1,5 @@
+//! Why there is no text of a frame.
+
 use std::alloc::AllocError;
 
 /// Why a frame isn't shown.

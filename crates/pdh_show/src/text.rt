@@ -1,3 +1,5 @@
+//! A text made line by line in room that was taken before.
+
 ghost use Rattle.std.specs.Prelude.{◌≡◌, ◌+◌, ◌≤◌, [], ◌++◌, length, IfOk};
 
 use pdh_text::Text;

@@ -1,3 +1,5 @@
+//! The lists in the tables of slots, each made from the roles of all slots.
+
 ghost use Rattle.std.specs.Prelude.{◌≡◌, ◌<◌, map, IfOk};
 ghost use Rattle.pdh_shape.specs.Frame.{slots as slots_of};
 ghost use Rattle.pdh_shape.specs.Payload.{is_payload as is_payload_role};

@@ -1,3 +1,5 @@
+//! The tables of slots, and what they tell of a frame.
+
 ghost use Rattle.std.specs.Prelude.{◌≡◌, ◌<◌, ◌≤◌, ◌+◌, ◌%◌, ◌==◌, false, All, length, count_by, if◌then◌else◌};
 ghost use Rattle.std.specs.List.{slice_index_or};
 ghost use Rattle.pdh_shape.specs.Tributary.{carries_more as carries_more_in};

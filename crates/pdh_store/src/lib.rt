@@ -1,4 +1,5 @@
 //! The elastic store of a tributary: bits that wait between their arrival and the line.
+//! It knows one tributary alone: neither where its bits come from nor where they go.
 #![tactic(auto)]
 
 pub mod laws;

@@ -1,3 +1,5 @@
+//! An elastic store, and its decision on justification.
+
 ghost use Rattle.std.specs.Prelude.{◌≡◌, ◌<◌, ◌≤◌, ◌+◌, ◌↔◌, [], ◌∷◌, ◌++◌, length, nat_le, IsErr, IfOk, OnOk, OnErr};
 ghost use Rattle.pdh_shape.specs.OwnNumbers.{threshold, store_size};
 

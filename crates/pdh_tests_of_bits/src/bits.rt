@@ -1,3 +1,5 @@
+//! Worked bits and bytes.
+
 use pdh_bits::{BitOut, Full, bits_of, bytes_of};
 use std::test::Fail;
 

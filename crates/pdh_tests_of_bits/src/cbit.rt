@@ -1,3 +1,5 @@
+//! Codes over the far end alarm and control channel, and worked C bits.
+
 ghost use Rattle.std.specs.Prelude.{◌<◌};
 
 use pdh_cbit::{FeacReceiver, FeacSender, Fields};

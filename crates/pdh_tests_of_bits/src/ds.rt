@@ -1,3 +1,5 @@
+//! The frames of ANSI T1.107: what their slots carry, and what loses alignment; and parity.
+
 use pdh_ds::{Ds2, Ds3, Ds3C, parity};
 use pdh_shape::{Duty, Mark, Marks, Role, Service, Shape};
 use std::test::Fail;

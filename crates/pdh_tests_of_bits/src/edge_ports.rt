@@ -1,3 +1,5 @@
+//! Ports in memory, bit by bit and many bits at a time.
+
 ghost use Rattle.std.specs.Prelude.{◌≡◌, ◌<◌, ◌≤◌, ◌^◌, IfOk};
 ghost use Rattle.pdh_packed.specs.Words.{low_bits};
 

@@ -1,3 +1,5 @@
+//! Bits of four tributaries, put in turn and dealt out.
+
 ghost use Rattle.std.specs.Prelude.{◌≡◌, IfOk};
 ghost use Rattle.pdh_bits.specs.Bits.{bits_of};
 

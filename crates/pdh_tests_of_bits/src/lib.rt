@@ -1,4 +1,5 @@
 //! Tests of the crates of bits, files and texts, by what these crates make public.
+//! It knows no command, and no crate stands on it.
 #![tactic(auto)]
 
 #[cfg(test)]

@@ -1,3 +1,5 @@
+//! Packed lists, words, rings and arrays, across words.
+
 use pdh_packed::{BitArray, BitRing, Packed, Word};
 use std::test::Fail;
 

@@ -1,3 +1,5 @@
+//! Worked texts.
+
 use pdh_text::Text;
 use std::test::Fail;
 

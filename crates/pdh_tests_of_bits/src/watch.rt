@@ -1,3 +1,5 @@
+//! Kinds by their names, and monitors that see events.
+
 ghost use Rattle.std.specs.Prelude.{◌≡◌, [], ◌∷◌};
 
 use bitflags::Flags;

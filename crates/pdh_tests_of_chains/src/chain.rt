@@ -1,3 +1,5 @@
+//! Worked ends of `mux` and `demux`, gaps, and lines taken bit by bit and many bits at a time.
+
 ghost use Rattle.std.specs.Prelude.{◌≡◌, length, IfOk};
 ghost use Rattle.pdh_chain.specs.Chains.{leaves_of};
 

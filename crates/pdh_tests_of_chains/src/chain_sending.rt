@@ -1,3 +1,5 @@
+//! Lines that are made at once and bit by bit, and lines that send a code.
+
 ghost use Rattle.std.specs.Prelude.{◌≡◌, ◌<◌, ◌≤◌, length, IfOk, IfSome};
 ghost use Rattle.pdh_chain.specs.Chains.{leaves_of, levels_of};
 ghost use Rattle.pdh_clock.specs.Contents.{frame_count};

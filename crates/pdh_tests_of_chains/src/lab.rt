@@ -1,3 +1,5 @@
+//! The beginning of a test pattern, and worked drills.
+
 use pdh_bits::bytes_of;
 use pdh_chain::Chain;
 use pdh_lab::{Drill, Pattern, drill};

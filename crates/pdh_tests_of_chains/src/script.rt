@@ -1,3 +1,5 @@
+//! Worked scripts: their rows, their faults, and what they make of lines.
+
 ghost use Rattle.std.specs.Prelude.{◌≤◌, length};
 
 use pdh_edge::MemPort;

@@ -1,3 +1,5 @@
+//! Worked frames as text.
+
 ghost use Rattle.std.specs.Prelude.{◌≡◌, ◌*◌, length, IsTrue, IfOk};
 
 use pdh_chain::Chain;

@@ -1,3 +1,5 @@
+//! A multiplexer of leaves that give zeros.
+
 ghost use Rattle.std.specs.Prelude.{◌≡◌, ◌<◌, ℕ, false, IsTrue, All, map, IfOk};
 ghost use Rattle.pdh_shape.specs.Sets.{e2};
 ghost use Rattle.pdh_tx.specs.Meaning.{plan_of, IsNodeOf, HoldsAll, IsFresh};

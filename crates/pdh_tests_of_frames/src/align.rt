@@ -1,3 +1,5 @@
+//! Worked lines, and lines that are tracked alike bit by bit and many bits at once.
+
 ghost use Rattle.std.specs.Prelude.{◌≡◌, ◌<◌, length};
 ghost use Rattle.pdh_align.specs.Aligning.{frames_gained};
 

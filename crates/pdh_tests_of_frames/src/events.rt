@@ -1,3 +1,5 @@
+//! AIS, what begins and ends, and the remote alarm.
+
 use pdh_events::{AisRun, FrameTeller, note_change, note_kind};
 use pdh_shape::{E2, TOP};
 use pdh_slots::SlotTables;

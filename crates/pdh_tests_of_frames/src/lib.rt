@@ -1,4 +1,5 @@
 //! Tests of the crates of frames and of received lines, by what these crates make public.
+//! It knows no command, and no crate stands on it.
 #![tactic(auto)]
 
 #[cfg(test)]

@@ -1,3 +1,5 @@
+//! Runs of the alignment signal, by bits that come one by one and many at a time.
+
 use pdh_packed::Packed;
 use pdh_phases::Phases;
 use pdh_shape::E2;

@@ -1,3 +1,5 @@
+//! The runs of worked frames, and a frame put together and taken apart again.
+
 ghost use Rattle.std.specs.Prelude.{◌≡◌, ◌<◌, ◌≤◌, ◌+◌, length, IfOk};
 ghost use Rattle.pdh_runs.specs.Pieces.{overhead_before, rows};
 

@@ -1,3 +1,5 @@
+//! Worked lines: what the leaves of a demultiplexer get, and its events.
+
 ghost use Rattle.std.specs.Prelude.{◌≡◌, ◌<◌, ℕ, IsTrue, Bool, List, [], map, IfOk};
 ghost use Rattle.pdh_shape.specs.Sets.{e2};
 ghost use Rattle.pdh_rx.specs.Meaning.{HoldsAll};

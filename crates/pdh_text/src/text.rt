@@ -1,3 +1,5 @@
+//! A text, put together from parts, numbers, paths and bytes.
+
 ghost use Rattle.std.specs.Prelude.{◌≡◌, ◌+◌, ◌*◌, ◌++◌, ◌≤◌, [], codes, length, decimal};
 ghost use Rattle.hex.specs.Hex.{encode_lower};
 ghost use Rattle.pdh_line.specs.Paths.{steps_of, path_text};

@@ -1,3 +1,5 @@
+//! The bits that arrive in a slot, so that those of a frame are spread over it.
+
 ghost use Rattle.std.specs.Prelude.{◌≡◌, ◌<◌, ◌≤◌, OnOk, IfErr};
 ghost use Rattle.pdh_line.specs.Sending.{arrives_at};
 ghost use Rattle.pdh_tx.specs.Meaning.{plan_of};

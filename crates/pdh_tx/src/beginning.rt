@@ -1,3 +1,6 @@
+//! What comes where a frame begins: the leads before the first one, and its decisions on
+//! justification.
+
 ghost use Rattle.std.specs.Prelude.{◌≡◌, ◌<◌, ◌≤◌, ◌^◌, ℕ, suc, map, slice_get, Some, OnOk, IfErr};
 ghost use Rattle.pdh_tx.specs.Meaning.{plan_of, IsNodeOf};
 ghost use Rattle.pdh_tx.specs.Tributary.{share_in, child_in, store_in, would_carry};

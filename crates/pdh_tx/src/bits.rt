@@ -1,3 +1,5 @@
+//! Making the line of a multiplexer with stores bit by bit.
+
 ghost use Rattle.std.specs.Prelude.{◌≡◌, ◌<◌, ◌≤◌, OnOk, IfOk, IfErr};
 ghost use Rattle.pdh_tx.specs.Meaning.{plan_of};
 ghost use Rattle.pdh_tx.specs.Tributaries.{meanings, AreFed, StandBefore, MakeBit, StopInSlot};

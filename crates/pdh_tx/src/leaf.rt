@@ -1,3 +1,5 @@
+//! The sender that is a leaf: its bits are those of a feed's list.
+
 ghost use Rattle.std.specs.Prelude.{◌≡◌, ◌+◌, ◌≤◌, length, IsTrue, OnOk, OnErr};
 ghost use Rattle.pdh_packed.specs.Gaining.{gained, IsGrown};
 ghost use Rattle.pdh_edge.specs.Ports.{Takes, HasCause, for_leaf};

@@ -1,5 +1,6 @@
 //! Multiplexers that make a line bit by bit: a tree of nodes, each with an elastic store for each of
 //! its tributaries, over leaves that pass the bits of a feed.
+//! A node knows its children by their calls alone, and the crate no file and no chain by its name.
 #![tactic(auto)]
 
 mod arrivals;

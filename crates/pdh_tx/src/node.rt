@@ -1,3 +1,5 @@
+//! The multiplexer with stores, as a sender.
+
 ghost use Rattle.std.specs.Prelude.{◌≡◌, ◌<◌, ◌≤◌, ◌+◌, ◌%◌, ◌/◌, ℕ, All, length, map, OnOk, OnErr, IfOk, IfErr, List};
 ghost use Rattle.pdh_packed.specs.Gaining.{gained, IsGrown};
 ghost use Rattle.pdh_edge.specs.Ports.{HasCause};

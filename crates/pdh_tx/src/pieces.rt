@@ -1,3 +1,6 @@
+//! Making the line of a multiplexer with stores a piece of a frame at a time, where nothing stands
+//! in the way.
+
 ghost use Rattle.std.specs.Prelude.{◌≡◌, ◌+◌, ◌%◌, ◌<◌, ◌≤◌, ◌==◌, ℕ, suc, [], length, OnOk, OnErr, IfOk};
 ghost use Rattle.std.specs.List.{slice_index_or};
 ghost use Rattle.pdh_packed.specs.Gaining.{gained, IsGrown};

@@ -1,3 +1,5 @@
+//! Where a multiplexer stands in its line. Those without stores go by it too.
+
 ghost use Rattle.std.specs.Prelude.{◌≡◌, ◌<◌, ◌^◌, ◌==◌, suc, if◌then◌else◌};
 ghost use Rattle.pdh_line.specs.Sending.{Source, odd_before};
 ghost use Rattle.pdh_shape.specs.Payload.{is_payload as is_payload_role};

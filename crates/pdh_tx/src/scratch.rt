@@ -1,3 +1,5 @@
+//! The lists in which pieces of a frame are put together. Multiplexers without stores use them too.
+
 ghost use Rattle.std.specs.Prelude.{◌≡◌, ◌≤◌, IfOk, All, length};
 ghost use Rattle.pdh_tx.specs.Scratch.{HasRoom};
 

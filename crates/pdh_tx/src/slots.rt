@@ -1,3 +1,5 @@
+//! What a slot of a sent frame carries, with a bit out of a store where it reads a tributary.
+
 ghost use Rattle.std.specs.Prelude.{◌≡◌, ◌<◌, ℕ, suc, false, length, slice_get, Some, None, OnOk, OnErr, IfOk, IfErr, IfSome};
 ghost use Rattle.pdh_shape.specs.Tributary.{turned};
 ghost use Rattle.pdh_tx.specs.declared.tx.TxStop.TheVariants.{Underflow};

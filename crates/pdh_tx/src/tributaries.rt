@@ -1,3 +1,5 @@
+//! The tributaries of a multiplexer, with the room in which its frames are put together.
+
 ghost use Rattle.std.specs.Prelude.{◌≡◌, ◌<◌, ◌==◌, false, All, [], length, map, IfOk};
 ghost use Rattle.pdh_tx.specs.Scratch.{HasRoom};
 ghost use Rattle.pdh_tx.specs.Tributary.{meaning_in, child_in};

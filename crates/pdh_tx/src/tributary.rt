@@ -1,3 +1,5 @@
+//! A tributary of a multiplexer: its child, its elastic store, and its share of the frame.
+
 ghost use Rattle.std.specs.Prelude.{◌≡◌, ◌+◌, ◌<◌, ◌≤◌, ℕ, suc, All, OnOk, OnErr, IfOk, IfErr, None, length, nat_le};
 ghost use Rattle.pdh_shape.specs.Frame.{idle};
 ghost use Rattle.pdh_edge.specs.Ports.{HasCause};

@@ -1,3 +1,5 @@
+//! Senders as a trait: what leaves and multiplexers have in common.
+
 ghost use Rattle.std.specs.Prelude.{◌≡◌, ◌≤◌, ◌+◌, ℕ, suc, Bool, true, false, All, length, IfOk, OnOk, IfErr, OnErr};
 ghost use Rattle.pdh_packed.specs.Gaining.{gained, IsGrown};
 ghost use Rattle.pdh_edge.specs.Ports.{HasCause};

@@ -1,3 +1,5 @@
+//! An event of a received line.
+
 use crate::Kind;
 use pdh_shape::Path;
 

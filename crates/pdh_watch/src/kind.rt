@@ -1,3 +1,5 @@
+//! The kinds of events, in sets.
+
 use bitflags::{Flag, Flags, bitflag_items};
 
 /// A set of kinds of events.
@@ -10,7 +12,8 @@ bitflag_items! {
         const ALIGNED = 1;
         /// A loss of alignment is complete.
         const LOST = 2;
-        /// The run of ones reaches the length of a frame.
+        /// The run of ones reaches the length of AIS: a frame of the node, or 512 bits of a 2048 kbit/s
+        /// stream.
         const AIS_ON = 4;
         /// The first 0 after that.
         const AIS_OFF = 8;

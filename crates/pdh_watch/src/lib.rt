@@ -1,4 +1,5 @@
 //! Events of a received line, and who sees them.
+//! It knows the kinds and places of events, and not what in a line brings them about.
 #![tactic(auto)]
 
 mod event;

@@ -1,3 +1,5 @@
+//! Monitors as a watch: each sees every event.
+
 ghost use Rattle.std.specs.Prelude.{◌≡◌, [], ◌∷◌, map};
 ghost use Rattle.pdh_watch.specs.Monitors.{SawEach, SawAll};
 

@@ -1,3 +1,5 @@
+//! Monitors as a trait.
+
 ghost use Rattle.std.specs.Prelude.{◌≡◌, ◌≤◌, [], ◌∷◌, length, take};
 ghost use Rattle.pdh_watch.specs.Monitors.{State, Saw, says};
 

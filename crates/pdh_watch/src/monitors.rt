@@ -1,3 +1,5 @@
+//! The program's own monitors: counts, first events, and open alarms.
+
 ghost use Rattle.std.specs.Prelude.{◌≡◌, ◌+◌, ◌++◌, ◌≤◌, [], length, take, None};
 ghost use Rattle.pdh_watch.specs.Monitors.{State, new_monitor, alarm_kinds, hits_with, alarms_with, place_text, first_text};
 ghost use Rattle.pdh_watch.specs.Monitors.Form.{Counts, KeepsFirst, Latches};

@@ -1,3 +1,5 @@
+//! The names of kinds in texts.
+
 ghost use Rattle.std.specs.Prelude.{◌≡◌, ◌+◌, ◌++◌, ◌≤◌, ◌==◌, length, codes, bit_and, if◌then◌else◌};
 ghost use Rattle.pdh_watch.specs.Monitors.{names_of};
 

@@ -1,3 +1,5 @@
+//! Watches as a trait, and the one that ignores events.
+
 ghost use Rattle.std.specs.Prelude.{◌≡◌, true, [], ◌∷◌, ◌++◌, List};
 ghost use Rattle.pdh_watch.specs.declared.event.Event.{Event};
 

@@ -1,3 +1,5 @@
+//! The commands, each with what its words tell.
+
 use pdh_chain::Chain;
 use pdh_clock::Bias;
 

@@ -1,4 +1,5 @@
-//! The words of the command line, and the texts that the program prints.
+//! The words of the command line: which words are a command, and which one.
+//! It tells what the words ask for, and does nothing of it: it touches no file.
 #![tactic(auto)]
 
 mod commands;

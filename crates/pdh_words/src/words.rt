@@ -1,3 +1,5 @@
+//! The table of commands: which words ask for which.
+
 ghost use Rattle.std.specs.Prelude.{◌≡◌, map, IfSome};
 ghost use Rattle.std.specs.String.{string_bytes};
 ghost use Rattle.pdh_words.specs.Commands.{chain_of, bias_of, framing_of, reading_of, conversion_of, showing_of, checking_of, sending_of, making_of, drilling_of, of_two as by_two, of_three as by_three, of_four as by_four, of_five as by_five, command_of, HasSmallNumbers};

@@ -1,3 +1,5 @@
+//! Ports over a real folder: lists longer than a block, and files that are short or gone.
+
 ghost use Rattle.std.specs.Prelude.{◌≤◌, length, IfOk};
 
 use super::ShelfPort;

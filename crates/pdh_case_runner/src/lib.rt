@@ -1,4 +1,5 @@
 //! The running of worked cases: each by the program's own call, over files and an output in memory.
+//! It knows the program by its words, files, text, status and monitors, and no frame and no chain.
 #![tactic(auto)]
 
 mod performing;

@@ -1,7 +1,7 @@
 //! Why a text is no list of cases.
 
 ghost use Rattle.std.specs.Prelude.{◌≡◌};
-ghost use Rattle.pdh_case.specs.declared.fault.Fault.TheVariants.{Memory};
+ghost use Rattle.pdh_case_language.specs.declared.fault.Fault.TheVariants.{Memory};
 
 use std::alloc::{AllocError, AllocFailed};
 use std::error::Error;

@@ -4,7 +4,7 @@ use crate::files::Files;
 use crate::findings::Findings;
 use crate::judging::{equal_front, note_absent, note_status};
 use crate::outcome::Outcome;
-use pdh_case::{Kind, Sweep};
+use pdh_case_language::{Kind, Sweep};
 use std::alloc::{AllocError, Global};
 
 // The status where such a call fails in a run that would answer `status`.

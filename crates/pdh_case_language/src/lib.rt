@@ -1,4 +1,5 @@
 //! Worked cases of the program as data: the language in which they are written, and its reading.
+//! It runs nothing and touches no file. Of the program it knows the kinds of events alone.
 #![tactic(auto)]
 
 mod case;

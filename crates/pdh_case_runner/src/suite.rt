@@ -1,8 +1,8 @@
 //! Files of cases, from the folder in which the program runs.
 
 use crate::trial::judge_case;
-use pdh_case::{Case, CaseFault, read};
-use pdh_judging::show;
+use pdh_case_judge::show;
+use pdh_case_language::{Case, CaseFault, read};
 use std::alloc::AllocError;
 use std::rt::{Env, Files};
 use std::{env, fs, io};

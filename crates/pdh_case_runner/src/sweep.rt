@@ -1,8 +1,8 @@
 //! A run again and again: with each call failing, and with each front of a file.
 
 use crate::running::run_over;
-use pdh_case::{Cut, Kind, Run, Sweep};
-use pdh_judging::{Files, Findings, Outcome, judge, judge_failed};
+use pdh_case_judge::{Files, Findings, Outcome, judge, judge_failed};
+use pdh_case_language::{Cut, Kind, Run, Sweep};
 use std::alloc::{AllocError, Global};
 
 // The most calls of a kind.

@@ -2,8 +2,8 @@
 
 use crate::running::{prepared, run_over};
 use crate::sweep::{cut_all, sweep_all};
-use pdh_case::{Case, Run};
-use pdh_judging::{Files, Findings, joined, judge};
+use pdh_case_judge::{Files, Findings, joined, judge};
+use pdh_case_language::{Case, Run};
 use std::alloc::{AllocError, Global};
 
 // The words of a row, with a colon behind them.

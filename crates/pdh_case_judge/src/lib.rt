@@ -1,4 +1,5 @@
 //! What differs between what a run left and what its case expects, and the files that a case gives.
+//! It runs nothing, and knows the program by its cases and by what its runs leave alone.
 #![tactic(auto)]
 
 mod content;

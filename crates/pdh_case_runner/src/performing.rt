@@ -1,7 +1,7 @@
 //! The program's own call.
 
 use crate::watched::Watched;
-use pdh_case::{Given, Observer, Run};
+use pdh_case_language::{Given, Observer, Run};
 use pdh_edge::{MemShelf, MemSink};
 use pdh_main::run_with_monitors;
 use pdh_ops::{Ran, run};

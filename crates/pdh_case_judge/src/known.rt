@@ -1,7 +1,7 @@
 //! The names of the files that a run may touch.
 
 use crate::files::Files;
-use pdh_case::{Given, Run, names_of};
+use pdh_case_language::{Given, Run, names_of};
 use std::alloc::{AllocError, Global};
 use std::collections::BTreeSet;
 

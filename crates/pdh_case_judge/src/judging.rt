@@ -5,7 +5,7 @@ use crate::files::Files;
 use crate::findings::Findings;
 use crate::outcome::Outcome;
 use crate::saying::judge_text;
-use pdh_case::{Run, Want, Wanted, at_place};
+use pdh_case_language::{Run, Want, Wanted, at_place};
 use sha2::{Digest, Sha256};
 use std::alloc::AllocError;
 

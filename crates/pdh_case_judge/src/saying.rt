@@ -3,7 +3,7 @@
 use crate::files::Files;
 use crate::findings::Findings;
 use crate::outcome::Outcome;
-use pdh_case::{Run, Said};
+use pdh_case_language::{Run, Said};
 use std::alloc::{AllocError, Global};
 
 /// The words of a row, parted by spaces.

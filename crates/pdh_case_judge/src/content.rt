@@ -2,7 +2,7 @@
 
 use crate::files::Files;
 use crate::register::add_pattern;
-use pdh_case::{Item, at_place};
+use pdh_case_language::{Item, at_place};
 use std::alloc::AllocError;
 
 // Turns a bit, where there are so many.
