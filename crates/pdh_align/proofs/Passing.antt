@@ -1,6 +1,6 @@
 -- Positions of a search that are given up, one at each bit.
-use Rattle.std.proofs.Common.{◌≡◌, ℕ, suc, ◌+◌, ◌*◌, ◌<◌, ◌≤◌, Bool, true, false, List, [], ◌∷◌, ◌++◌, length, drop, refl, sym, ap, ◌∙◌, subst, arith, append_assoc, length-append, length-drop}
-use Rattle.std.proofs.lemmas.List.{append-nil, drop-append-le, drop-drop}
+use Rattle.std.proofs.Common.{◌≡◌, ℕ, suc, ◌+◌, ◌*◌, ◌<◌, ◌≤◌, Bool, true, false, List, [], ◌∷◌, ◌++◌, length, take, drop, refl, sym, ap, ◌∙◌, subst, arith, append_assoc, length-append, length-drop}
+use Rattle.std.proofs.lemmas.List.{append-nil, drop-append-le, drop-drop, length-take-le}
 use Rattle.std.proofs.lemmas.Bool.{false≢true}
 use Rattle.pdh_shape.specs.declared.role.Marks.{Marks}
 use Rattle.pdh_shape.specs.Frame.{FrameShape, IsFrame}
@@ -81,6 +81,10 @@ takes_pass s len true fresh before items now bits search between after old line 
       gap = positions s here.follows.since;
       was = stands_now s (Searching items) line here.follows ∙ ap (λ x. here.follows.settled ++ x) (track_searching s here.follows.since here.follows.describes.0);
       is = facts.1;
+      each = λ k le.
+          let count : length (take k bits) ≡ k = length-take-le k bits le in
+          (pass_all s items line (take k bits) shape here.follows (omega (arith, full, same)) (λ i lt. rejected i (omega (arith, lt, count, le)))).1
+          ∙ ap (λ n. here.follows.settled ++ Gap (positions s here.follows.since + n) ∷ []) count;
     }
 
 -- what the search keeps, once so many positions were given up

@@ -1,6 +1,6 @@
 -- Bits of the line at which no frame ends.
-use Rattle.std.proofs.Common.{◌≡◌, ℕ, ◌*◌, ◌<◌, Bool, true, false, cond, List, [], ◌∷◌, ◌++◌, length, sym, ap, ◌∙◌, subst, arith, append_assoc, get_or, length-append, refl}
-use Rattle.std.proofs.lemmas.List.{append-nil}
+use Rattle.std.proofs.Common.{◌≡◌, ℕ, ◌*◌, ◌<◌, ◌≤◌, Bool, true, false, cond, List, [], ◌∷◌, ◌++◌, length, sym, ap, ◌∙◌, subst, arith, append_assoc, get_or, length-append, refl, take, drop}
+use Rattle.std.proofs.lemmas.List.{append-nil, take-append-drop}
 use Rattle.pdh_shape.specs.declared.role.Marks.{Marks}
 use Rattle.pdh_shape.specs.Frame.{FrameShape, IsFrame, clean}
 use Rattle.pdh_bits.specs.BitOut.{BoundedBits}
@@ -53,6 +53,12 @@ alignment_waits_all s a b c part line (bit ∷ bits) shape h short =
       ap (track s) (sym line_is) ∙ rest.1 ∙ one.1.1,
     )
 
+-- no bit of them is more than all of them
+part_short : (k : ℕ) (held bits : List Bool) → length (held ++ take k bits) ≤ length (held ++ bits)
+part_short k held bits =
+    let whole : length (take k bits ++ drop k bits) ≡ length bits = ap length (take-append-drop k bits) in
+    omega (arith, length-append held (take k bits), length-append held bits, length-append (take k bits) (drop k bits), whole)
+
 -- ---- the fields
 
 -- what is added to the fields: bits none of which ends a frame
@@ -71,7 +77,7 @@ part_waits s len true false before items now more end search after line shape sa
     let facts = search_waits_all s items line more shape h.follows short in
     let began = subst (λ x. Began s x (h.follows.since ++ more) (line ++ more)) (sym now_is) facts.0 in
     let kept : Searches s after now (h.follows.since ++ more) = subst (λ x. Searches s after x (h.follows.since ++ more)) (sym now_is) (takes refl items h.follows.since h.searches) in
-    record { stands = record { follows = began.0; searches = subst (λ x. Searches s after now x) (sym began.1) kept }; same = facts.1 }
+    record { stands = record { follows = began.0; searches = subst (λ x. Searches s after now x) (sym began.1) kept }; same = facts.1; each = λ k. (search_waits_all s items line (take k more) shape h.follows (omega (arith, short, part_short k items more))).1 }
 part_waits s len true true before items now more end search after line shape same added takes h = no (sym (added.idle refl))
 part_waits s len false fresh before items now more end search after line shape same added takes h =
     let a : Marks = get_or before 0 clean in
@@ -80,7 +86,7 @@ part_waits s len false fresh before items now more end search after line shape s
     let now_is : now ≡ cond fresh [] items ++ more = added.now_is in
     let short : length (cond fresh [] items ++ more) < s.len = rw (same, ← now_is) (omega (arith, added.less, added.end_is)) in
     let facts = alignment_waits_all s a b c (cond fresh [] items) line more shape h.follows short in
-    record { stands = record { follows = subst (λ x. Follows s (Tracking a b c x) (line ++ more)) (sym now_is) facts.0; searches = tt }; same = facts.1 }
+    record { stands = record { follows = subst (λ x. Follows s (Tracking a b c x) (line ++ more)) (sym now_is) facts.0; searches = tt }; same = facts.1; each = λ k. (alignment_waits_all s a b c (cond fresh [] items) line (take k more) shape h.follows (omega (arith, short, part_short k (cond fresh [] items) more))).1 }
 
 -- once bits were added, none of which ends a frame
 pub takes_wait : (s : FrameShape) (len : ℕ) (searching fresh fresh' : Bool) (before : List Marks) (items now more : List Bool) (end : ℕ) (search after : Sought) (old : Held) (line : List Bool) → IsFrame s → s.len ≡ len

@@ -1,5 +1,5 @@
 -- What an alignment machine holds, what it stands for, and what each of its steps says of the tracking.
-use Rattle.std.specs.Prelude.{◌≡◌, ℕ, suc, ◌+◌, ◌-◌, ◌*◌, Bool, true, false, nat_lt, if◌then◌else◌, List, [], ◌∷◌, ◌++◌, length, map, drop}
+use Rattle.std.specs.Prelude.{◌≡◌, ℕ, suc, ◌+◌, ◌-◌, ◌*◌, ◌≤◌, Bool, true, false, nat_lt, if◌then◌else◌, List, [], ◌∷◌, ◌++◌, length, map, take, drop}
 use Rattle.std.specs.List.{slice_index_or}
 use Rattle.pdh_align.specs.declared.step.Step.{Step}
 use Rattle.pdh_align.specs.declared.step.Step.TheVariants.{Nothing, Rejected, Aligned, Frame, Lost}
@@ -105,10 +105,11 @@ pub record Tracks (s : FrameShape) (before after : Held) (bit : Bool) (step : St
   pub stands : StandsFor s after (line ++ bit ∷ [])
   pub grows : Grows step after.ready (track s line) (track s (line ++ bit ∷ []))
 
--- the state after stands for the line with these bits added, by which its tracking gained nothing
+-- the state after stands for the line with these bits added, by none of which its tracking gained anything
 pub record Waits (s : FrameShape) (after : Held) (bits line : List Bool) : Type 0 where
   pub stands : StandsFor s after (line ++ bits)
   pub same : track s (line ++ bits) ≡ track s line
+  pub each : (k : ℕ) → track s (line ++ take k bits) ≡ track s line
 
 -- the state after stands for the line with these bits added, by each of which its tracking's gap grew by a position
 pub record Passes (s : FrameShape) (after : Held) (bits line : List Bool) : Type 0 where
@@ -117,3 +118,4 @@ pub record Passes (s : FrameShape) (after : Held) (bits line : List Bool) : Type
   pub gap : ℕ
   pub was : track s line ≡ others ++ Gap gap ∷ []
   pub is : track s (line ++ bits) ≡ others ++ Gap (gap + length bits) ∷ []
+  pub each : (k : ℕ) → k ≤ length bits → track s (line ++ take k bits) ≡ others ++ Gap (gap + k) ∷ []

@@ -10,7 +10,6 @@ ghost use Rattle.pdh_align.specs.Searching.{Takes};
 ghost use Rattle.pdh_align.specs.OpenGap.{EndsInGap};
 
 use crate::Step;
-use crate::copying::copy_held;
 use crate::search::Search;
 use crate::signals::{Signals, clean, completes_loss, wrong};
 use pdh_packed::{BitRing, Packed};
@@ -184,17 +183,17 @@ impl<S: Shape> Aligner<S> {
         self.turn(bit)
     }
 
-    /// Takes bits of the line from a place on, up to the one at which a frame ends, and answers how
-    /// many. Nothing is gained by them, and no frame is ready.
-    pub fn take(&mut self, bits: &Packed, from: usize) -> usize
-        requires begun { from ≤ length bits.now.bits }
-        ensures count { from + result ≤ length bits.now.bits }
+    /// Takes bits of the line from a place on, so many at most and up to the one at which a frame
+    /// ends, and answers how many. Nothing is gained by them, and no frame is ready.
+    pub fn take(&mut self, bits: &Packed, from: usize, most: usize) -> usize
+        requires begun { from + most ≤ length bits.now.bits }
+        ensures most { result ≤ most }
         ensures waits { (line : List Bool) → StandsFor S.shape self.old line → Waits S.shape self.new (take result (drop from bits.now.bits)) line }
         ensures ready { self.new.ready ≡ [] }
     {
         clear_ready(&mut self.held, &mut self.fresh);
         let room = frame_end::<S>(self.searching) - 1 - self.held.held();
-        let count = (bits.len() - from).min(room as usize);
+        let count = most.min(room as usize);
         search_all::<S>(self.searching, &mut self.search, bits, from, count);
         self.held.append_from(bits, from, count);
         count
@@ -227,16 +226,6 @@ impl<S: Shape> Aligner<S> {
         self.search.give_up(count);
         slide(&mut self.held, bits, from, count);
         taken
-    }
-
-    /// Copies out the frame that stands `back` frames before the newest of the ready ones.
-    pub fn copy_frame(&self, back: u8, into: &mut [bool])
-        requires ready { back < length self.now.ready }
-        requires room { length into.old ≡ S.LEN }
-        ensures { into.new ≡ frame_back self.now.ready back }
-    {
-        let after = (u32::from(back) + 1) * S::LEN;
-        copy_held(&self.held, self.held.held() - after, into);
     }
 
     /// Appends the frame that stands `back` frames before the newest of the ready ones to a list that

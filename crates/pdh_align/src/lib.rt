@@ -4,7 +4,6 @@
 #![tactic(auto)]
 
 mod aligner;
-mod copying;
 mod search;
 mod signals;
 mod starts;

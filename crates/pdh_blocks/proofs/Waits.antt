@@ -1,14 +1,14 @@
 -- Bits are put to an output, whose block they fill at most.
-use Rattle.std.proofs.Common.{◌≡◌, ℕ, ◌+◌, ◌<◌, Bool, true, false, cond, List, ◌++◌, length, map, Some, None, slice_get, slice_set, inl, inr, refl, sym, ap, ◌∙◌, subst, append_assoc, arith}
+use Rattle.std.proofs.Common.{◌≡◌, ℕ, ◌+◌, ◌<◌, ◌≤◌, Bool, true, false, cond, List, ◌++◌, length, map, Some, None, slice_get, slice_set, inl, inr, refl, sym, ap, ◌∙◌, subst, append_assoc, arith}
 use Rattle.std.specs.Prelude.{Ok}
-use Rattle.std.specs.Option.{option_and_then}
+use Rattle.std.specs.Option.{option_and_then, option_map_or}
 use Rattle.std.proofs.lemmas.Bool.{cases_eq}
 use Rattle.std.proofs.lemmas.Option.{same_Some, slice_get_within}
 use Rattle.std.proofs.lemmas.List.{length-set, length-append}
 use Rattle.pdh_edge.specs.Ports.{Puts, for_leaf, after}
 use Rattle.pdh_blocks.specs.Leaves.{Output, to_wait}
 use Rattle.pdh_blocks.specs.State.{PortState, names, leaf_name, output_name}
-use Rattle.pdh_blocks.specs.Lists.{outputs_of, put_in, appended}
+use Rattle.pdh_blocks.specs.Lists.{outputs_of, put_in, appended, room_of, room_in}
 use Rattle.pdh_blocks.specs.Held.{HoldsBlocks, AllDiffer, HasRoom, HasRoomBut, IsPort}
 use Rattle.pdh_blocks.specs.Kept.{Drains}
 use Rattle.pdh_blocks.specs.Done.{PutsBits}
@@ -91,6 +91,13 @@ module _ (a : PortState) (k : ℕ) (old : Output) (more : List Bool) (port : Hol
     | inr ne ↦ put_room_but room j output found ne
   ]
 
+-- an output takes bits for which there is room, and its block isn't full then
+pub room_at : (a : PortState) (k : ℕ) (output : Output) → slice_get a.outputs k ≡ Some output → room_in a k ≡ room_of output
+room_at a k output at = ap (λ found. option_map_or room_of found 0) at
+
+pub fewer : (a : PortState) (k : ℕ) (old : Output) (more : List Bool) → slice_get a.outputs k ≡ Some old → HasRoom a → length more ≤ room_in a k → length old.waiting + length more < 32768
+fewer a k old more at room fits = omega (arith, room_at a k old at, room k old at, fits)
+
 -- a block isn't full yet
 pub put_more_done : {T E : Type 0} (a : PortState) (k : ℕ) (old : Output) (more : List Bool) (done : T) → IsPort a → slice_get a.outputs k ≡ Some old → length old.waiting + length more < 32768
     → PutsBits {T = T} {E = E} (for_leaf k more) a (record a { outputs = slice_set a.outputs k (to_wait (old.waiting ++ more) old) }) (Ok done)
@@ -101,3 +108,50 @@ put_more_done a k old more done port at few = record {
   err = tt;
   cause = refl;
 }
+
+-- ---- a port that isn't fresh any more
+
+module _ (a : PortState) where
+  abbrev pub used : PortState
+  used = record a { fresh = false }
+
+  pub used_port : IsPort a → IsPort used
+  used_port port = record {
+    blocks = record {
+      differ = port.blocks.differ;
+      few = port.blocks.few;
+      leaves = port.blocks.leaves;
+      in_order = port.blocks.in_order;
+      begun = port.blocks.begun;
+      among = port.blocks.among;
+      held = port.blocks.held;
+      fresh = λ yes. absurd (no yes);
+      ready = port.blocks.ready;
+      untold = port.blocks.untold;
+      empty = port.blocks.empty;
+      failed = still_named a used refl refl refl refl refl refl refl (λ i is late yes. yes) port.blocks.failed;
+    };
+    room = port.room;
+  }
+    where
+      no : false ≡ true → ⊥
+      no h = cc
+
+  pub used_drains : Drains a used
+  used_drains = record {
+    keeps = record {
+      reads = rise_none a.feed_faults a.shelf.counts.read_faults a.shelf.counts.read_faults refl;
+      writes = rise_none a.drain_faults a.shelf.counts.write_faults a.shelf.counts.write_faults refl;
+      misses = refl;
+      origins = refl;
+      outputs = refl;
+      others = record { told = λ name no. refl; readable = λ name from len no can. can; tells_name = refl; tells_started = refl };
+      called = omega arith;
+      started = omega arith;
+      uncalled = λ j name here late. refl;
+      unstarted = λ j name here late. inl refl;
+      ready = λ ready. ready;
+    };
+    inputs = refl;
+    feed_faults = refl;
+  }

@@ -5,7 +5,7 @@ use Rattle.pdh_bits.specs.Bits.{bits_of}
 use Rattle.pdh_edge.specs.Files.{Told}
 use Rattle.pdh_edge.specs.Files.Told.{Known}
 use Rattle.pdh_edge.specs.Ports.{Inputs, Outputs}
-use Rattle.pdh_blocks.specs.Leaves.{Leaf, Output}
+use Rattle.pdh_blocks.specs.Leaves.{Leaf, Output, block_bits}
 use Rattle.pdh_blocks.specs.State.{PortState}
 
 -- ---- what it gives
@@ -51,3 +51,11 @@ outputs_of port = record {
   holds = λ k. nat_lt k (length port.outputs);
   told = λ k. option_and_then (put_in port k) (slice_get port.outputs k);
 }
+
+-- how many bits an output takes before its block is full
+abbrev pub room_of : Output → ℕ
+room_of output = block_bits - 1 - length output.waiting
+
+-- the same of output k
+abbrev pub room_in : PortState → ℕ → ℕ
+room_in port k = option_map_or room_of (slice_get port.outputs k) 0

@@ -4,13 +4,14 @@ ghost use Rattle.std.proofs.Common.{◌∙◌};
 ghost use Rattle.std.specs.Prelude.{◌≡◌, IfOk, IfErr, OnOk, OnErr};
 ghost use Rattle.pdh_edge.specs.Ports.{PutsPart, HasCause, nothing};
 ghost use Rattle.pdh_blocks.specs.State.{over};
-ghost use Rattle.pdh_blocks.specs.Lists.{inputs_of, outputs_of};
+ghost use Rattle.pdh_blocks.specs.Lists.{inputs_of, outputs_of, room_in};
 ghost use Rattle.pdh_blocks.specs.Held.{IsPort, NamesFailed, AreWritten};
 ghost use Rattle.pdh_blocks.specs.Kept.{Keeps, Feeds, Drains, IsReady, IsRefused};
 ghost use Rattle.pdh_blocks.specs.Opened.{CanOpen, opened, IsWritten};
 ghost use Rattle.pdh_blocks.specs.laws.PortProps.{IsPort-prop};
 
 use crate::blocks::Blocks;
+use crate::leaf_block::BLOCK_BITS;
 use crate::source::Source;
 use pdh_edge::{Drain, Failed, Feed, FeedStop, Port, Shelf};
 use pdh_packed::Packed;
@@ -144,6 +145,8 @@ impl<S: Shelf> Drain for ShelfPort<S> {
 
     ghost drained = { λ a b. Drains (over (S.state a.shelf) a.blocks) (over (S.state b.shelf) b.blocks) };
 
+    ghost room = { λ p k. room_in (over (S.state p.shelf) p.blocks) k };
+
     ghost drained_same = { λ a. drains_same (over (S.state a.shelf) a.blocks) };
 
     ghost drained_join = { λ a b c p q. drains_join p q };
@@ -164,6 +167,17 @@ impl<S: Shelf> Drain for ShelfPort<S> {
     fn put_all(&mut self, leaf: u32, bits: &Packed) -> Result<(), Failed> {
         self.blocks.fresh = false;
         self.blocks.put_all(&mut self.shelf, leaf, bits)
+    }
+
+    #[inline(always)]
+    fn has_room(&self, leaf: u32, bits: usize) -> bool {
+        bits < BLOCK_BITS - self.blocks.outputs[leaf as usize].len()
+    }
+
+    #[inline(always)]
+    fn put_in_room(&mut self, leaf: u32, bits: &Packed) {
+        self.blocks.fresh = false;
+        self.blocks.outputs[leaf as usize].take_all(bits);
     }
 }
 

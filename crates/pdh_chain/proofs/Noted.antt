@@ -1,7 +1,6 @@
 -- What a receiver of a whole chain notes is what the definition of the chain's events says.
-use Rattle.std.proofs.Common.{◌≡◌, ℕ, ◌+◌, ◌*◌, Bool, List, [], ◌∷◌, ◌++◌, length, refl, ap, ◌∙◌, arith, false}
-use Rattle.std.specs.Prelude.{flat_map, take}
-use Rattle.std.specs.List.{range_with_len, slice_index_or}
+use Rattle.std.proofs.Common.{◌≡◌, ℕ, ◌+◌, ◌*◌, Bool, List, [], ◌∷◌, ◌++◌, length, refl, ap, ◌∙◌, arith}
+use Rattle.std.specs.List.{range_with_len}
 use Rattle.std.proofs.lemmas.List.{length-map}
 use Rattle.std.proofs.lemmas.List.FromFn.{length-range_with_len}
 use Rattle.pdh_shape.specs.declared.place.Path.{Path}
@@ -9,7 +8,7 @@ use Rattle.pdh_shape.specs.Frame.{FrameShape}
 use Rattle.pdh_watch.specs.declared.event.Event.{Event}
 use Rattle.pdh_line.specs.Paths.{top}
 use Rattle.pdh_nesting.specs.Chains.{width, AreFrames}
-use Rattle.pdh_events.specs.Chain.{child_path, bit_events, each_bit, chain_events}
+use Rattle.pdh_events.specs.Chain.{child_path, bit_events, bits_events, chain_events}
 use Rattle.pdh_rx.specs.Meaning.{Meaning}
 use Rattle.pdh_rx.specs.laws.NodeLaws.{node_notes}
 use Rattle.pdh_chain.specs.Trees.{receiver_of}
@@ -29,13 +28,12 @@ notes_are (s ∷ below) path first are line bit =
     ap (λ (m : Meaning). m.notes own bit) is ∙ notes_are below (child_path path (0 + j)) (first + (0 + j) * width below) are.2 own bit ∙ ap (λ i. bit_events below (child_path path i) own bit) (omega arith))
     line bit
 
-flat_same : (f g : ℕ → List Event) → ((n : ℕ) → f n ≡ g n) → (xs : List ℕ) → flat_map f xs ≡ flat_map g xs
-flat_same f g same [] = refl
-flat_same f g same (x ∷ xs) = ap (λ v. v ++ flat_map f xs) (same x) ∙ ap (λ v. g x ++ v) (flat_same f g same xs)
+bits_same : (f g : List Bool → Bool → List Event) → ((line : List Bool) (bit : Bool) → f line bit ≡ g line bit) → (line bits : List Bool) → bits_events f line bits ≡ bits_events g line bits
+bits_same f g same line [] = refl
+bits_same f g same line (bit ∷ bits) = ap (λ v. v ++ bits_events f (line ++ bit ∷ []) bits) (same line bit) ∙ ap (λ v. g line bit ++ v) (bits_same f g same (line ++ bit ∷ []) bits)
 
 -- what a line brings
-pub noted_is : (shapes : List FrameShape) (m : Meaning) (line : List Bool) → m ≡ receiver_of shapes top 0 → AreFrames shapes → each_bit m.notes line ≡ chain_events shapes line
+pub noted_is : (shapes : List FrameShape) (m : Meaning) (line : List Bool) → m ≡ receiver_of shapes top 0 → AreFrames shapes → bits_events m.notes [] line ≡ chain_events shapes line
 unfolding chain_events
 noted_is shapes m line same are =
-    ap (λ (m : Meaning). each_bit m.notes line) same
-    ∙ flat_same (λ n. (receiver_of shapes top 0).notes (take n line) (slice_index_or line n false)) (λ n. bit_events shapes top (take n line) (slice_index_or line n false)) (λ n. notes_are shapes top 0 are _ _) (range_with_len 0 (length line))
+    ap (λ (m : Meaning). bits_events m.notes [] line) same ∙ bits_same (receiver_of shapes top 0).notes (bit_events shapes top) (notes_are shapes top 0 are) [] line

@@ -5,7 +5,7 @@ use Rattle.pdh_edge.specs.Ports.{Inputs, Outputs, Takes}
 use Rattle.pdh_edge.specs.declared.port.FeedStop.{FeedStop}
 use Rattle.pdh_edge.specs.declared.port.FeedStop.TheVariants.{Failed as FeedFailed, Ended as FeedEnded}
 use Rattle.pdh_watch.specs.declared.event.Event.{Event}
-use Rattle.pdh_events.specs.Chain.{each_bit}
+use Rattle.pdh_events.specs.Chain.{bits_events}
 use Rattle.pdh_rx.specs.Meaning.{Meaning, Gains, GainsPart}
 use Rattle.pdh_chain.specs.Muxing.{as_line}
 use Rattle.pdh_chain.specs.declared.stop.DemuxStop.{DemuxStop}
@@ -23,7 +23,7 @@ pub record Receives (m : Meaning) (stands : List Bool → Type 0) (sees : List E
   pub takes : Takes (as_line given) inputs inputs_now
   pub stood : stands given
   pub gains : Gains (m.got []) (m.got given) outputs outputs_now
-  pub seen : sees (each_bit m.notes given)
+  pub seen : sees (bits_events m.notes [] given)
 
 -- fewer bits were taken
 pub record ReceivesFewer (m : Meaning) (sees : List Event → Type 0) (bits : ℕ) (inputs inputs_now : Inputs) (outputs outputs_now : Outputs) : Type 0 where
@@ -31,7 +31,7 @@ pub record ReceivesFewer (m : Meaning) (sees : List Event → Type 0) (bits : �
   pub fewer : length given < bits
   pub takes : Takes (as_line given) inputs inputs_now
   pub gains : Gains (m.got []) (m.got given) outputs outputs_now
-  pub seen : sees (each_bit m.notes given)
+  pub seen : sees (bits_events m.notes [] given)
 
 -- some bits were taken, a prefix of what the leaves got by them was put, and a prefix of the events seen
 pub record ReceivesPart (m : Meaning) (sees : List Event → Type 0) (bits : ℕ) (inputs inputs_now : Inputs) (outputs outputs_now : Outputs) : Type 0 where
@@ -39,7 +39,7 @@ pub record ReceivesPart (m : Meaning) (sees : List Event → Type 0) (bits : ℕ
   pub upto : length given ≤ bits
   pub takes : Takes (as_line given) inputs inputs_now
   pub gains : GainsPart (m.got []) (m.got given) outputs outputs_now
-  pub seen : SeesPart sees (each_bit m.notes given)
+  pub seen : SeesPart sees (bits_events m.notes [] given)
 
 -- why the receiver doesn't get all bits: the line is shorter, and used up; a call for a bit failed; a call that puts a bit failed
 abbrev pub IsReceiveStop : Meaning → (List Event → Type 0) → ℕ → Inputs → Inputs → Outputs → Outputs → ℕ → ℕ → ℕ → ℕ → DemuxStop → Type 0

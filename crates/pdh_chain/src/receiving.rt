@@ -1,7 +1,6 @@
-//! `demux` of a chain by the types of its nodes: bit by bit where the watch wants events, and else
-//! many bits at a time.
+//! `demux` of a chain by the types of its nodes. Its receiver gets the line many bits at a time.
 
-ghost use Rattle.std.specs.Prelude.{◌≡◌, ◌<◌, ◌≤◌, ◌^◌, ℕ, [], length, ⊤, IsTrue, IfOk, IfErr, OnOk, IsErrOf, ◌∷◌, Err};
+ghost use Rattle.std.specs.Prelude.{◌≡◌, ◌<◌, ◌≤◌, ◌^◌, ℕ, [], length, IsTrue, IfOk, IfErr, OnOk, IsErrOf, ◌∷◌, Err};
 ghost use Rattle.pdh_nesting.specs.Chains.{width};
 ghost use Rattle.pdh_rx.specs.Meaning.{HoldsAll};
 ghost use Rattle.pdh_chain.specs.Demuxing.{Receives, IsReceiveStop};
@@ -13,40 +12,10 @@ use crate::stop::DemuxStop;
 use crate::trees::ChainRx;
 use pdh_edge::Port;
 use pdh_packed::Packed;
-use pdh_rx::{Rx, RxNode};
+use pdh_rx::{Rx, RxNode, take_watched};
 use pdh_shape::{Shape, TOP};
 use pdh_watch::Watch;
 use std::alloc::Global;
-
-// Gives a receiver that has got no bit so many bits of the port's list 0.
-fn receive<R: Rx, P: Port, W: Watch>(
-    receiver: &mut R,
-    bits: u64,
-    port: &mut P,
-    watch: &mut W,
-) -> Result<(), DemuxStop>
-    requires tells { R.tells receiver.old [] }
-    requires lists { HoldsAll (R.meaning receiver.old).leaves (P.outputs port.old) }
-    requires line { IsTrue ((P.inputs port.old).holds 0) }
-    ensures received { OnOk result
-        (Receives (R.meaning receiver.old) (R.tells receiver.new) (λ events. W.saw watch.old events watch.new) bits
-        (P.inputs port.old) (P.inputs port.new) (P.outputs port.old) (P.outputs port.new)) }
-    ensures stops { IfErr result (IsReceiveStop (R.meaning receiver.old) (λ events. W.saw watch.old events watch.new) bits
-        (P.inputs port.old) (P.inputs port.new) (P.outputs port.old) (P.outputs port.new)
-        (P.feed_faults port.old) (P.feed_faults port.new)
-        (P.drain_faults port.old) (P.drain_faults port.new)) }
-    ensures kept { P.kept port.old port.new }
-    ensures reads { P.feed_faults port.new ≡ demux_reads result (P.feed_faults port.old) }
-    ensures writes { P.drain_faults port.new ≡ demux_writes result (P.drain_faults port.old) }
-    ensures unread { IsErrOf result ReadFailed → P.unread port.new 0 }
-    ensures same { R.meaning receiver.new ≡ R.meaning receiver.old }
-{
-    for _received in 0..bits {
-        let bit = port.bit(0)?;
-        receiver.push(bit, port, watch)?;
-    }
-    Ok(())
-}
 
 // How many bits of a line are taken at once, at most.
 const BUFFER: usize = 32768;
@@ -62,44 +31,9 @@ fn part(left: u64, room: usize) -> usize
     left.min(room as u64) as usize
 }
 
-// The same with many bits at a time, for callers that want no events; `buffer` holds those that are
-// taken.
-fn receive_many<R: Rx, P: Port>(
-    receiver: &mut R,
-    bits: u64,
-    buffer: &mut Packed,
-    port: &mut P,
-) -> Result<(), DemuxStop>
-    requires some { 0 < buffer.old.capacity }
-    requires stands { R.stands receiver.old [] }
-    requires lists { HoldsAll (R.meaning receiver.old).leaves (P.outputs port.old) }
-    requires line { IsTrue ((P.inputs port.old).holds 0) }
-    ensures received { OnOk result
-        (Receives (R.meaning receiver.old) (R.stands receiver.new) (λ events. ⊤) bits
-        (P.inputs port.old) (P.inputs port.new) (P.outputs port.old) (P.outputs port.new)) }
-    ensures stops { IfErr result (IsReceiveStop (R.meaning receiver.old) (λ events. ⊤) bits
-        (P.inputs port.old) (P.inputs port.new) (P.outputs port.old) (P.outputs port.new)
-        (P.feed_faults port.old) (P.feed_faults port.new)
-        (P.drain_faults port.old) (P.drain_faults port.new)) }
-    ensures kept { P.kept port.old port.new }
-    ensures reads { P.feed_faults port.new ≡ demux_reads result (P.feed_faults port.old) }
-    ensures writes { P.drain_faults port.new ≡ demux_writes result (P.drain_faults port.old) }
-    ensures unread { IsErrOf result ReadFailed → P.unread port.new 0 }
-    ensures same { R.meaning receiver.new ≡ R.meaning receiver.old }
-{
-    let mut received = 0;
-    while received < bits {
-        let most = part(bits - received, buffer.capacity());
-        buffer.clear();
-        let count = port.bits(0, most, buffer)?;
-        receiver.take(buffer, port)?;
-        received += count as u64;
-    }
-    Ok(())
-}
-
-// The same as `receive`, with many bits at a time where the watch ignores events.
-fn receive_all<R: Rx, P: Port, W: Watch>(
+// Gives a receiver that has got no bit so many bits of the port's list 0, and shows the watch the events that they bring;
+// `buffer` holds those that are taken at once.
+fn receive<R: Rx, P: Port, W: Watch>(
     receiver: &mut R,
     bits: u64,
     buffer: &mut Packed,
@@ -107,7 +41,7 @@ fn receive_all<R: Rx, P: Port, W: Watch>(
     watch: &mut W,
 ) -> Result<(), DemuxStop>
     requires some { 0 < buffer.old.capacity }
-    requires tells { R.tells receiver.old [] }
+    requires stands { R.stands receiver.old [] }
     requires lists { HoldsAll (R.meaning receiver.old).leaves (P.outputs port.old) }
     requires line { IsTrue ((P.inputs port.old).holds 0) }
     ensures received { OnOk result
@@ -123,10 +57,15 @@ fn receive_all<R: Rx, P: Port, W: Watch>(
     ensures unread { IsErrOf result ReadFailed → P.unread port.new 0 }
     ensures same { R.meaning receiver.new ≡ R.meaning receiver.old }
 {
-    if watch.ignores() {
-        return receive_many(receiver, bits, buffer, port);
+    let mut received = 0;
+    while received < bits {
+        let most = part(bits - received, buffer.capacity());
+        buffer.clear();
+        let count = port.bits(0, most, buffer)?;
+        take_watched(receiver, buffer, port, watch)?;
+        received += count as u64;
     }
-    receive(receiver, bits, port, watch)
+    Ok(())
 }
 
 /// Takes so many bits of the line of a chain whose top has this frame and whose top's tributaries are
@@ -163,6 +102,6 @@ pub fn demux_with<S: Shape, C: ChainRx, P: Port, W: Watch>(
     let mut node = <RxNode<S, C> as ChainRx>::open(alloc, &tables, TOP, &mut next_leaf)?;
     let mut buffer = Packed::open(alloc, BUFFER)?;
     port.start()?;
-    receive_all(&mut node, bits, &mut buffer, port, watch)?;
+    receive(&mut node, bits, &mut buffer, port, watch)?;
     Ok(node.frames())
 }

@@ -1,5 +1,5 @@
 //! Whole chains as senders and as receivers, made from their leaves up by the types of their nodes.
-//! The nodes of a level share their layout and their tables.
+//! The nodes of a level share the layout of its frames.
 
 ghost use Rattle.std.specs.Prelude.{◌≡◌, ◌+◌, ◌<◌, ◌≤◌, ◌^◌, ℕ, suc, List, [], ◌∷◌, All, length, map, IfOk, OnOk};
 ghost use Rattle.pdh_shape.specs.Frame.{FrameShape};
@@ -13,7 +13,6 @@ use pdh_locked::Locked;
 use pdh_runs::Layout;
 use pdh_rx::{Rx, RxNode, Tail};
 use pdh_shape::{Path, Shape};
-use pdh_slots::SlotTables;
 use pdh_tx::{Leaf, Node, Tx};
 use std::alloc::{AllocError, Global};
 use std::rc::Rc;
@@ -38,7 +37,7 @@ fn child_path(path: Path, trib: u8) -> Path
     }
 }
 
-/// How the frames of a level are put together, and those of the levels below.
+/// How the frames of a level are put together and taken apart, and those of the levels below.
 pub struct LevelLayouts<S: Shape, T: Drop> {
     here: Rc<Layout<S>>,
     below: T,
@@ -55,37 +54,6 @@ impl<S: Shape, T: Drop> LevelLayouts<S, T> {
     fn open(alloc: Global, below: T) -> Result<LevelLayouts<S, T>, AllocError> {
         let here = Rc::new(alloc, Layout::open(alloc)?)?;
         Ok(LevelLayouts { here, below })
-    }
-}
-
-/// How the frames of a level are taken apart, bit by bit and many bits at a time, and those of the
-/// levels below.
-pub struct LevelTables<S: Shape, T: Drop> {
-    slots: Rc<SlotTables<S>>,
-    layout: Rc<Layout<S>>,
-    below: T,
-}
-
-impl<S: Shape, T: Drop> Drop for LevelTables<S, T> {
-    fn drop(self) {
-        let Self {
-            slots: _,
-            layout: _,
-            below: _,
-        } = self;
-    }
-}
-
-impl<S: Shape, T: Drop> LevelTables<S, T> {
-    // Makes the tables of a level above these, or finds no memory.
-    fn open(alloc: Global, below: T) -> Result<LevelTables<S, T>, AllocError> {
-        let slots = Rc::new(alloc, SlotTables::open(alloc)?)?;
-        let layout = Rc::new(alloc, Layout::open(alloc)?)?;
-        Ok(LevelTables {
-            slots,
-            layout,
-            below,
-        })
     }
 }
 
@@ -152,10 +120,10 @@ pub trait ChainRx: Rx {
     /// The frames of its levels, from its own down.
     ghost shapes: { List FrameShape };
 
-    /// The tables of its levels' slots, which all nodes of a level share.
+    /// The layouts of its levels' frames, which all nodes of a level share.
     type Tables: Drop;
 
-    /// Makes these tables, or finds no memory.
+    /// Makes these layouts, or finds no memory.
     fn tables(alloc: Global) -> Result<Self::Tables, AllocError>;
 
     /// Makes it, with no bit taken, or finds no memory. `path` is its place, where it is a
@@ -169,7 +137,7 @@ pub trait ChainRx: Rx {
         requires levels { path.depth + length shapes ≤ 3 }
         requires few { next.old + width shapes < 2 ^ 32 }
         ensures meaning { IfOk result (λ receiver. Self.meaning receiver ≡ receiver_of shapes path next.old) }
-        ensures tells { IfOk result (λ receiver. Self.tells receiver []) }
+        ensures stands { IfOk result (λ receiver. Self.stands receiver []) }
         ensures next { OnOk result (next.new ≡ next.old + width shapes) };
 
     /// Each of these is a frame.
@@ -273,15 +241,15 @@ impl<S: Shape, C: ChainRx> ChainRx for RxNode<S, C> {
 
     ghost are_frames = { (S.is_frame, S.has_tributaries, C.are_frames) };
 
-    type Tables = LevelTables<S, C::Tables>;
+    type Tables = LevelLayouts<S, C::Tables>;
 
-    fn tables(alloc: Global) -> Result<LevelTables<S, C::Tables>, AllocError> {
-        LevelTables::open(alloc, C::tables(alloc)?)
+    fn tables(alloc: Global) -> Result<LevelLayouts<S, C::Tables>, AllocError> {
+        LevelLayouts::open(alloc, C::tables(alloc)?)
     }
 
     fn open(
         alloc: Global,
-        tables: &LevelTables<S, C::Tables>,
+        tables: &LevelLayouts<S, C::Tables>,
         path: Path,
         next: &mut u32,
     ) -> Result<Self, AllocError> {
@@ -289,12 +257,6 @@ impl<S: Shape, C: ChainRx> ChainRx for RxNode<S, C> {
         for trib in 0..S::TRIBS {
             children.push(C::open(alloc, &tables.below, child_path(path, trib), next)?)?;
         }
-        RxNode::open(
-            alloc,
-            path,
-            tables.slots.clone()?,
-            tables.layout.clone()?,
-            children,
-        )
+        RxNode::open(alloc, path, tables.here.clone()?, children)
     }
 }

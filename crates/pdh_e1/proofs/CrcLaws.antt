@@ -104,17 +104,3 @@ halves_lt register octet small byte = xor_lt 4 register (octet / 16) small (omeg
 
 pub four_bits_lt : (n : ℕ) → n < 16 → slice_index four_bits n < 16
 four_bits_lt n small = ltb-true _ _ (at_below (λ k. nat_lt (slice_index four_bits k) 16) 16 n refl small)
-
--- the register after one more bit, by whether its first bit differs from it
-abbrev pub by_first : ℕ → Bool → Bool → ℕ
-by_first register bit differs = if differs then bit_xor (2 * (register % 8)) 3 else 2 * (register % 8)
-
-firsts_computed : (b : Bool) → all_below (λ register. eqb (by_first register b (not (beq (nat_le 8 register) b))) (next register b)) 16 ≡ true
-firsts_computed true = refl
-firsts_computed false = refl
-
-pub crc4_bit : (register : ℕ) (bit differs : Bool) (bits : List Bool) → register ≡ crc4 bits → not (beq (nat_le 8 register) bit) ≡ differs → by_first register bit differs ≡ crc4 (bits ++ bit ∷ [])
-crc4_bit register b differs bits holds test =
-    let small : register < 16 = omega (arith, crc4_lt bits) in
-    let computed = eqb-true _ _ (at_below (λ register. eqb (by_first register b (not (beq (nat_le 8 register) b))) (next register b)) 16 register (firsts_computed b) small) in
-    sym (ap (by_first register b) test) ∙ computed ∙ ap (λ (n : ℕ). next n b) holds ∙ sym (crc4_more bits b)

@@ -11,5 +11,5 @@ mod fault;
 mod multiframe;
 
 pub use codec::{pack, packed_is_given_back, unpack};
-pub use crc::crc4;
+pub use crc::crc4_after;
 pub use fault::{PackFault, UnpackFault};

@@ -3,7 +3,7 @@
 ghost use Rattle.std.specs.Prelude.{◌≡◌, ◌+◌, ◌*◌, ◌<◌, ◌≤◌, length};
 ghost use Rattle.pdh_e1.specs.Multiframe.{octet_right, packed_octet, sent_word};
 
-use crate::crc::crc4_of_octets;
+use crate::crc::crc4_after;
 
 /// The first octets of the frames of a multiframe whose C bits are 0, without alarm and with ones in the Sa and E bits.
 const FIRST_OCTETS: [u8; 16] = [
@@ -55,5 +55,5 @@ pub(crate) fn sent_word(line: &[u8], number: usize) -> u8
     octets[64] %= 128;
     octets[128] %= 128;
     octets[192] %= 128;
-    crc4_of_octets(&octets)
+    crc4_after(0, &octets)
 }

@@ -159,6 +159,10 @@ held_at lists i y here = ap length_of (slice_get-map items_of lists i ∙ ap (op
 pub held_now : (lists : List BoundedBits) (i : ℕ) (y : BoundedBits) → i < length lists → bits_held (mem_outputs (slice_set lists i y)) i ≡ length (items_of y)
 held_now lists i y h = held_at (slice_set lists i y) i y (get_set_same lists i y h)
 
+-- the others hold what they held
+pub held_other : (lists : List BoundedBits) (i : ℕ) (y : BoundedBits) (k : ℕ) → (k ≡ i → ⊥) → bits_held (mem_outputs (slice_set lists i y)) k ≡ bits_held (mem_outputs lists) k
+held_other lists i y k other = ap length_of (slice_get-map items_of (slice_set lists i y) k ∙ ap (option_map items_of) (get_set_other lists i k y other) ∙ sym (slice_get-map items_of lists k))
+
 -- no list holds fewer bits
 pub held_grows : (lists : List BoundedBits) (i : ℕ) (y d : BoundedBits) → i < length lists → slice_get lists i ≡ Some d → length (items_of d) ≤ length (items_of y) → (k : ℕ) → bits_held (mem_outputs lists) k ≤ bits_held (mem_outputs (slice_set lists i y)) k
 held_grows lists i y d h here more k = elim (cases_eq k i) [
@@ -166,10 +170,7 @@ held_grows lists i y d h here more k = elim (cases_eq k i) [
       let old : bits_held (mem_outputs lists) k ≡ length (items_of d) = ap (bits_held (mem_outputs lists)) same ∙ held_at lists i d here in
       let now : bits_held (mem_outputs (slice_set lists i y)) k ≡ length (items_of y) = ap (bits_held (mem_outputs (slice_set lists i y))) same ∙ held_now lists i y h in
       omega arith
-  | inr other ↦
-      let kept : bits_held (mem_outputs (slice_set lists i y)) k ≡ bits_held (mem_outputs lists) k =
-      ap length_of (slice_get-map items_of (slice_set lists i y) k ∙ ap (option_map items_of) (get_set_other lists i k y other) ∙ sym (slice_get-map items_of lists k)) in
-      omega arith
+  | inr other ↦ (let kept : bits_held (mem_outputs (slice_set lists i y)) k ≡ bits_held (mem_outputs lists) k = held_other lists i y k other in omega arith)
 ]
 
 -- ---- a put
@@ -214,6 +215,10 @@ module _ (lists : List BoundedBits) (i : ℕ) (old new : BoundedBits) (bits : Li
   pub put_stays : (faults : ℕ) → StaysInRoom lists (slice_set lists i new) faults faults
   put_stays faults = stays faults faults (inl refl)
 
+  -- the others have as much room as before
+  pub others_room : (k : ℕ) → (k ≡ i → ⊥) → room_left (slice_set lists i new) k ≡ room_left lists k
+  others_room k other = (let held : bits_held (mem_outputs (slice_set lists i new)) k ≡ bits_held (mem_outputs lists) k = held_other lists i new k other in omega (arith, held, room_same lists i new old within same_room k))
+
   -- and the list is full then
   pub full_stays : (faults now : ℕ) → capacity_of old ≤ length (items_of old) + length bits → StaysInRoom lists (slice_set lists i new) faults now
   full_stays faults now full =
@@ -239,6 +244,10 @@ module _ (lists : List BoundedBits) (i : ℕ) (old : BoundedBits) (within : i < 
   -- the list has room for so many bits more
   pub had_room_for : (count faults : ℕ) → length (items_of old) + count ≤ capacity_of old → PutAllInRoom i count lists faults faults
   had_room_for count faults room = record { room = omega (arith, held_here, room_here, room); uncounted = refl }
+
+  -- for how many bits more the list has room
+  pub left_here : room_left lists i ≡ capacity_of old - length (items_of old)
+  left_here = omega (arith, held_here, room_here)
 
   -- it is full
   pub nothing_put : old ≡ record old { bits = old.bits ++ [] }

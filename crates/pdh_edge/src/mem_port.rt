@@ -3,7 +3,7 @@
 ghost use Rattle.std.specs.Prelude.{◌≡◌, ◌≤◌, ◌+◌, ℕ, Bool, true, IsTrue, List, [], length, map, replicate, slice_get, Some, IfOk, OnOk, OnErr};
 ghost use Rattle.std.proofs.Common.{refl, ◌∙◌, arith, ap};
 ghost use Rattle.pdh_edge.specs.Ports.{Puts, PutsPart, HasCause, only, for_leaf};
-ghost use Rattle.pdh_edge.specs.MemLists.{inputs_of, outputs_of, mem_inputs, mem_outputs, items_of, length_of, bits_held, room_of, PutInRoom, IsRefused, PutAllInRoom, IsCutShort, KeepsReady, StaysInRoom};
+ghost use Rattle.pdh_edge.specs.MemLists.{inputs_of, outputs_of, mem_inputs, mem_outputs, items_of, length_of, bits_held, room_of, PutInRoom, IsRefused, PutAllInRoom, IsCutShort, room_left, KeepsReady, StaysInRoom};
 ghost use Rattle.pdh_edge.specs.laws.InRoom.{stays_same, stays_join, stays_alike};
 
 use crate::{Drain, Failed, Feed, FeedStop, Port};
@@ -160,6 +160,8 @@ impl Drain for MemPort {
         × ((mem_outputs b.outputs.items).holds ≡ (mem_outputs a.outputs.items).holds)
         × (b.ready ≡ a.ready) × StaysInRoom a.outputs.items b.outputs.items a.faults b.faults };
 
+    ghost room = { λ p k. room_left p.outputs.items k };
+
     ghost drained_same = { λ a. (refl, Prim.omega arith, refl, refl, stays_same a.outputs.items a.faults) };
 
     ghost drained_join = { λ a b c p q. (
@@ -221,6 +223,16 @@ impl Drain for MemPort {
             return Err(Failed);
         }
         Ok(())
+    }
+
+    fn has_room(&self, leaf: u32, bits: usize) -> bool {
+        let list = &self.outputs[leaf as usize];
+        bits <= list.capacity() - list.len()
+    }
+
+    fn put_in_room(&mut self, leaf: u32, bits: &Packed) {
+        self.fresh = false;
+        self.outputs[leaf as usize].append_some(bits, 0);
     }
 }
 

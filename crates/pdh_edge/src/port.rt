@@ -1,6 +1,6 @@
 //! Lists of bits as traits: a feed gives them, a drain takes them, and a port does both.
 
-ghost use Rattle.std.specs.Prelude.{◌≡◌, ◌≤◌, ◌<◌, ◌+◌, ◌-◌, ◌^◌, ℕ, Bool, List, length, min, Some, IsTrue, IfOk, OnOk, OnErr, IsErrOf};
+ghost use Rattle.std.specs.Prelude.{◌≡◌, ◌≤◌, ◌<◌, ◌+◌, ◌-◌, ◌^◌, ℕ, Bool, true, List, length, min, Some, IsTrue, IfOk, OnOk, OnErr, IsErrOf};
 ghost use Rattle.pdh_packed.specs.Gaining.{gained, IsGrown};
 ghost use Rattle.pdh_edge.specs.declared.port.FeedStop.TheVariants.{Ended, Failed as FeedFailed};
 ghost use Rattle.pdh_edge.specs.Ports.{Inputs, Outputs, Takes, Puts, PutsPart, HasCause, HasFeedCause, only, for_leaf, nothing};
@@ -102,6 +102,9 @@ pub trait Drain: Drop {
     /// What calls that only put bits may change.
     ghost drained: { Self → Self → Type 0 };
 
+    /// How many bits a leaf's list takes without a call that may fail.
+    ghost room: { Self → ℕ → ℕ };
+
     /// How many calls have failed.
     fn drain_faults(&self) -> u64
         ensures { result ≡ drain_faults self.now };
@@ -132,6 +135,21 @@ pub trait Drain: Drop {
         }
         Ok(())
     }
+
+    /// Whether a leaf's list takes so many bits without a call that may fail.
+    fn has_room(&self, leaf: u32, bits: usize) -> bool
+        requires { IsTrue ((outputs self.now).holds leaf) }
+        ensures { result ≡ true → bits ≤ room self.now leaf };
+
+    /// Appends bits to a leaf's list that has room for them, and leaves the other lists and their
+    /// room. It never fails.
+    fn put_in_room(&mut self, leaf: u32, bits: &Packed)
+        requires held { IsTrue ((outputs self.old).holds leaf) }
+        requires room { length bits.now.bits ≤ room self.old leaf }
+        ensures put { Puts (for_leaf leaf bits.now.bits) (outputs self.old) (outputs self.new) }
+        ensures others { (k : ℕ) → (k ≡ leaf → ⊥) → room self.new k ≡ room self.old k }
+        ensures faults { drain_faults self.new ≡ drain_faults self.old }
+        ensures drained { drained self.old self.new };
 
     ghost drained_same: { (a : Self) → drained a a };
 

@@ -1,16 +1,20 @@
 -- The slots of a duty, and their bits.
-use Rattle.std.proofs.Common.{◌≡◌, ℕ, zero, suc, ◌+◌, ◌<◌, ◌≤◌, Bool, true, false, not, ◌&&◌, ◌==◌, nat_lt, cond, List, [], ◌∷◌, ◌++◌, length, map, filter, All, get_or, slice_index_or, refl, sym, ap, ◌∙◌, subst, arith, zero-add}
+use Rattle.std.proofs.Common.{◌≡◌, ℕ, zero, suc, ◌+◌, ◌<◌, ◌≤◌, Bool, true, false, not, ◌&&◌, ◌==◌, nat_lt, cond, List, [], ◌∷◌, ◌++◌, length, map, filter, All, get_or, slice_index_or, take, inl, inr, refl, sym, ap, ◌∙◌, subst, arith}
 use Rattle.std.specs.Bool.{beq}
 use Rattle.std.specs.List.{range_with_len, list_any}
-use Rattle.std.proofs.lemmas.Bool.{lt-ltb, le-ltb}
+use Rattle.std.proofs.lemmas.Bool.{lt-ltb, le-ltb, cases_Bool, false≢true}
 use Rattle.std.proofs.lemmas.Bool.Decides.{nat_tests}
-use Rattle.std.proofs.lemmas.List.{append-nil, map-append, length-map}
+use Rattle.std.proofs.lemmas.List.{map-append, length-map, take_all, take_more}
 use Rattle.std.proofs.lemmas.List.Elements.{All-filter, All-map, filter-append}
 use Rattle.std.proofs.lemmas.Simd.{map-map}
 use Rattle.pdh_shape.specs.declared.role.Duty.{Duty}
 use Rattle.pdh_shape.specs.declared.role.Duty.TheVariants.{Alarm}
+use Rattle.pdh_shape.specs.declared.role.Role.{Role}
+use Rattle.pdh_shape.specs.declared.role.Role.TheVariants.{Align, Service, Control, Just, Info}
 use Rattle.pdh_shape.specs.Frame.{FrameShape, slots as slots_of}
-use Rattle.pdh_line.proofs.Ranges.{range_push, length-range}
+use Rattle.pdh_shape.specs.Payload.{is_payload}
+use Rattle.pdh_line.proofs.Ranges.{length-range}
+use Rattle.pdh_runs.specs.Tables.{is_overhead}
 use Rattle.pdh_events.specs.declared.alarm.AlarmSlot.{AlarmSlot}
 use Rattle.pdh_events.specs.Duties.{has_duty, slots_with, duty_bits, alarm_says, most_are_ones}
 use Rattle.pdh_events.specs.Keeping.{alarm_slot, says_alarm, bits_at}
@@ -21,32 +25,50 @@ use Rattle.pdh_events.specs.Keeping.{alarm_slot, says_alarm, bits_at}
 abbrev pub has_slot : FrameShape → Duty → ℕ → Bool
 has_slot s duty slot = has_duty s duty (s.role slot)
 
--- one slot more
-pub slots_push : (p : ℕ → Bool) (n : ℕ) → filter p (range_with_len 0 (n + 1)) ≡ filter p (range_with_len 0 n) ++ cond (p n) (n ∷ []) []
-slots_push p n =
-    let next : n + 1 ≡ suc n = omega arith in
-    ap (λ k. filter p (range_with_len 0 k)) next ∙ ap (filter p) (range_push 0 n) ∙ filter-append p (range_with_len 0 n) ((0 + n) ∷ [])
-    ∙ ap (λ k. filter p (range_with_len 0 n) ++ filter p (k ∷ [])) (zero-add n)
+-- it carries no bit of a tributary
+duty_overhead : (s : FrameShape) (duty : Duty) (slot : ℕ) → has_slot s duty slot ≡ true → is_overhead s slot ≡ true
+duty_overhead s duty slot h = of_role (s.role slot) h
+  where
+    of_role : (r : Role) → has_duty s duty r ≡ true → not (is_payload r) ≡ true
+    of_role (Service n) h = refl
+    of_role (Align bit) h = refl
+    of_role (Control j copy) h = refl
+    of_role (Info j) h = absurd (false≢true h)
+    of_role (Just j) h = absurd (false≢true h)
 
--- that is one of them
-pub slots_yes : (p : ℕ → Bool) (n : ℕ) (is : Bool) (old now : List ℕ) → old ≡ filter p (range_with_len 0 n) → is ≡ p n → is ≡ true → now ≡ old ++ n ∷ [] → now ≡ filter p (range_with_len 0 (n + 1))
-slots_yes p n is old now before test holds new =
-    new ∙ ap (λ l. l ++ n ∷ []) before ∙ ap (λ b. filter p (range_with_len 0 n) ++ cond b (n ∷ []) []) (sym holds ∙ test) ∙ sym (slots_push p n)
+-- those that pass a test are among those that pass a wider one
+filter_wider : (p q : ℕ → Bool) → ((x : ℕ) → p x ≡ true → q x ≡ true) → (xs : List ℕ) → filter p (filter q xs) ≡ filter p xs
+filter_wider p q wider [] = refl
+filter_wider p q wider (x ∷ xs) = elim (cases_Bool (q x)) [
+  | inl pass ↦ ap (λ b. filter p (cond b (x ∷ filter q xs) (filter q xs))) pass ∙ ap (λ l. cond (p x) (x ∷ l) l) (filter_wider p q wider xs)
+  | inr fail ↦ ap (λ b. filter p (cond b (x ∷ filter q xs) (filter q xs))) fail ∙ filter_wider p q wider xs ∙ ap (λ b. cond b (x ∷ filter p xs) (filter p xs)) (sym (fails (p x) (λ h. false≢true (sym fail ∙ wider x h))))
+]
+  where
+    fails : (b : Bool) → (b ≡ true → ⊥) → b ≡ false
+    fails true no_way = absurd (no_way refl)
+    fails false no_way = refl
 
--- or isn't
-pub slots_no : (p : ℕ → Bool) (n : ℕ) (is : Bool) (old now : List ℕ) → old ≡ filter p (range_with_len 0 n) → is ≡ p n → is ≡ false → now ≡ old → now ≡ filter p (range_with_len 0 (n + 1))
-slots_no p n is old now before test fails new =
-    new ∙ before ∙ sym (append-nil (filter p (range_with_len 0 n))) ∙ ap (λ b. filter p (range_with_len 0 n) ++ cond b (n ∷ []) []) (sym fails ∙ test) ∙ sym (slots_push p n)
+-- all slots of a duty, by those that carry no bit of a tributary
+pub slots_all : (s : FrameShape) (duty : Duty) (overhead : List ℕ) (n : ℕ) → overhead ≡ filter (is_overhead s) (slots_of s) → length overhead ≤ n → filter (has_slot s duty) (take n overhead) ≡ slots_with s duty
+slots_all s duty overhead n is all = ap (filter (has_slot s duty)) (take_all n overhead all ∙ is) ∙ filter_wider (has_slot s duty) (is_overhead s) (duty_overhead s duty) (slots_of s)
+
+-- one slot more of a list, which passes or doesn't
+pub slots_more : (p : ℕ → Bool) (xs : List ℕ) (i : ℕ) (is : Bool) (old now : List ℕ) → i < length xs → old ≡ filter p (take i xs) → is ≡ p (get_or xs i 0) → now ≡ old ++ cond is (get_or xs i 0 ∷ []) [] → now ≡ filter p (take (i + 1) xs)
+slots_more p xs i is old now inside before test new =
+    let x : ℕ = get_or xs i 0 in
+    new ∙ ap (λ l. l ++ cond is (x ∷ []) []) before ∙ ap (λ b. filter p (take i xs) ++ cond b (x ∷ []) []) test
+    ∙ sym (filter-append p (take i xs) (x ∷ [])) ∙ ap (filter p) (sym (take_more xs i 0 inside))
 
 -- the same of what is kept of each
-pub kept_yes : {X : Type 0} (f : ℕ → X) (p : ℕ → Bool) (n : ℕ) (is : Bool) (old now : List X) (x : X) → old ≡ map f (filter p (range_with_len 0 n)) → is ≡ p n → is ≡ true → x ≡ f n → now ≡ old ++ x ∷ [] → now ≡ map f (filter p (range_with_len 0 (n + 1)))
-kept_yes f p n is old now x before test holds one new =
-    new ∙ ap (λ l. l ++ x ∷ []) before ∙ ap (λ y. map f (filter p (range_with_len 0 n)) ++ y ∷ []) one ∙ sym (map-append f (filter p (range_with_len 0 n)) (n ∷ []))
-    ∙ ap (λ b. map f (filter p (range_with_len 0 n) ++ cond b (n ∷ []) [])) (sym holds ∙ test) ∙ ap (map f) (sym (slots_push p n))
-
-pub kept_no : {X : Type 0} (f : ℕ → X) (p : ℕ → Bool) (n : ℕ) (is : Bool) (old now : List X) → old ≡ map f (filter p (range_with_len 0 n)) → is ≡ p n → is ≡ false → now ≡ old → now ≡ map f (filter p (range_with_len 0 (n + 1)))
-kept_no f p n is old now before test fails new =
-    new ∙ before ∙ ap (map f) (slots_no p n is (filter p (range_with_len 0 n)) (filter p (range_with_len 0 n)) refl test fails refl)
+pub kept_more : {X : Type 0} (f : ℕ → X) (p : ℕ → Bool) (xs : List ℕ) (i : ℕ) (is : Bool) (old now : List X) → i < length xs → old ≡ map f (filter p (take i xs)) → is ≡ p (get_or xs i 0) → now ≡ old ++ cond is (f (get_or xs i 0) ∷ []) [] → now ≡ map f (filter p (take (i + 1) xs))
+kept_more f p xs i is old now inside before test new =
+    let x : ℕ = get_or xs i 0 in
+    new ∙ ap (λ l. l ++ cond is (f x ∷ []) []) before ∙ ap (λ b. map f (filter p (take i xs)) ++ cond b (f x ∷ []) []) test ∙ ap (λ l. map f (filter p (take i xs)) ++ l) (kept (p x))
+    ∙ sym (map-append f (filter p (take i xs)) (cond (p x) (x ∷ []) [])) ∙ ap (map f) (slots_more p xs i (p x) (filter p (take i xs)) _ inside refl refl refl)
+  where
+    kept : (b : Bool) → cond b (f (get_or xs i 0) ∷ []) [] ≡ map f (cond b (get_or xs i 0 ∷ []) [])
+    kept true = refl
+    kept false = refl
 
 range_at : (a n k d : ℕ) → k < n → get_or (range_with_len a n) k d ≡ a + k
 range_at a zero k d lt = absurd (omega (arith, lt))
@@ -58,7 +80,13 @@ range_below n m le k d lt =
     let inside : k < n = omega (arith, lt, length-range 0 n) in
     omega (arith, range_at 0 n k d inside, inside, le)
 
--- each is a slot of the frame
+-- each slot that carries no bit of a tributary is one of the frame
+pub overhead_inside : (s : FrameShape) (overhead : List ℕ) (i d : ℕ) → overhead ≡ filter (is_overhead s) (slots_of s) → i < length overhead → get_or overhead i d < s.len
+overhead_inside s overhead i d is inside =
+    let all : All (λ slot. slot < s.len) overhead = subst (All (λ slot. slot < s.len)) (sym is) (All-filter (is_overhead s) (λ slot. slot < s.len) (slots_of s) (range_below s.len s.len (omega arith))) in
+    all i d inside
+
+-- so is each of a duty
 pub slots_inside : (s : FrameShape) (duty : Duty) (slots : List ℕ) (m : ℕ) → slots ≡ slots_with s duty → s.len ≡ m → All (λ slot. slot < m) slots
 slots_inside s duty slots m is long = subst (All (λ slot. slot < m)) (sym is) (All-filter (has_slot s duty) (λ slot. slot < m) (slots_of s) (range_below s.len m (omega (arith, long))))
 

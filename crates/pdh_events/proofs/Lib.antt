@@ -3,3 +3,4 @@ pub mod DutyLaws
 pub mod ToldCodes
 pub mod Noting
 pub mod Worked
+pub mod CalmLaws

@@ -1,36 +1,33 @@
 -- What is kept and noted of a frame.
-use Rattle.std.proofs.Common.{◌≡◌, inl, inr, ℕ, suc, Bool, true, false, not, ◌||◌, nat_lt, cond, Option, Some, None, List, [], ◌∷◌, ◌++◌, length, map, refl, sym, ap, ◌∙◌, arith}
+use Rattle.std.proofs.Common.{◌≡◌, ℕ, Bool, false, Some, None, List, [], ◌∷◌, ◌++◌, map, sym, ap, ◌∙◌}
 use Rattle.std.specs.Prelude.{flat_map}
-use Rattle.std.specs.Bool.{beq}
-use Rattle.std.specs.List.{list_any, slice_index_or}
-use Rattle.std.proofs.lemmas.Bool.{cases_Bool, ltb-false}
 use Rattle.std.proofs.lemmas.List.{append-nil, map-append}
 use Rattle.std.proofs.lemmas.List.Sums.{fold-append}
 use Rattle.std.proofs.lemmas.Grind.{flat_map-append}
 use Rattle.pdh_shape.specs.declared.place.Path.{Path}
-use Rattle.pdh_shape.specs.declared.role.Duty.TheVariants.{Parity, PathParity, Feac}
+use Rattle.pdh_shape.specs.declared.role.Duty.TheVariants.{Feac}
 use Rattle.pdh_shape.specs.Frame.{FrameShape}
 use Rattle.pdh_watch.specs.declared.event.Event.{Event}
 use Rattle.pdh_watch.specs.declared.kind.Kind.{Kind}
-use Rattle.pdh_watch.specs.declared.kind.TheConstants.Kind.{ALARM_ON, ALARM_OFF, PARITY, PATH_PARITY}
+use Rattle.pdh_watch.specs.declared.kind.TheConstants.Kind.{ALARM_ON, ALARM_OFF}
 use Rattle.pdh_line.specs.Tracking.{Piece}
 use Rattle.pdh_line.specs.Tracking.Piece.{Gap, Delivered}
 use Rattle.pdh_cbit.specs.Channel.{HasReceived}
 use Rattle.pdh_events.specs.Telling.{event_of, tell, changed}
-use Rattle.pdh_events.specs.Duties.{frames_of, slots_with, duty_bits, alarm_says, agreed, alarm_after, alarm_kinds, is_odd, breaks_parity, breaks_path_parity, odd_before, parity_kinds, febe_kinds, channel_bits, codes_answered, code_event, frame_events}
-use Rattle.pdh_events.specs.Keeping.{Kept, Remembers, tells_parity, codes_told}
+use Rattle.pdh_events.specs.Duties.{frames_of, duty_bits, alarm_says, agreed, alarm_after, alarm_kinds, is_odd, odd_before, parity_kinds, febe_kinds, channel_bits, codes_answered, code_event, frame_events}
+use Rattle.pdh_events.specs.Keeping.{Kept, Remembers, codes_told}
 use Rattle.pdh_events.specs.laws.KeepingLaws.{frames_gap, frames_more, odd_gap, odd_more}
 
 -- ---- what is kept
 
 pub remembers_none : (s : FrameShape) (kept : Kept) → kept.alarm ≡ false → kept.odd ≡ None → HasReceived kept.channel [] → Remembers s kept []
 unfolding alarm_after channel_bits
-remembers_none s kept alarm odd channel = record { alarm_is = alarm; odd_is = λ tells. odd; channel_is = channel }
+remembers_none s kept alarm odd channel = record { alarm_is = alarm; odd_is = odd; channel_is = channel }
 
 pub remembers_lost : (s : FrameShape) (old new : Kept) (pieces : List Piece) (n : ℕ) → new.alarm ≡ old.alarm → new.odd ≡ None → new.channel ≡ old.channel → Remembers s old pieces → Remembers s new (pieces ++ Gap n ∷ [])
 remembers_lost s old new pieces n alarm odd channel is = record {
   alarm_is = alarm ∙ is.alarm_is ∙ ap (alarm_after s) (sym (frames_gap pieces n));
-  odd_is = λ tells. odd ∙ sym (odd_gap s pieces n);
+  odd_is = odd ∙ sym (odd_gap s pieces n);
   channel_is = rw (channel, frames_gap pieces n) is.channel_is;
 }
 
@@ -45,11 +42,11 @@ channel_more s frames frame = flat_map-append (duty_bits s Feac) frames (frame �
 alarm_goes : (s : FrameShape) (old : Kept) (pieces : List Piece) (frame : List Bool) (alarm : Bool) → Remembers s old pieces → alarm ≡ agreed old.alarm (alarm_says s frame) → alarm ≡ alarm_after s (frames_of pieces ++ frame ∷ [])
 alarm_goes s old pieces frame alarm is e = e ∙ ap (λ b. agreed b (alarm_says s frame)) is.alarm_is ∙ sym (alarm_more s (frames_of pieces) frame)
 
-pub remembers_more : (s : FrameShape) (old new : Kept) (pieces : List Piece) (frame : List Bool) → new.alarm ≡ agreed old.alarm (alarm_says s frame) → (tells_parity s ≡ true → new.odd ≡ Some (is_odd s frame))
+pub remembers_more : (s : FrameShape) (old new : Kept) (pieces : List Piece) (frame : List Bool) → new.alarm ≡ agreed old.alarm (alarm_says s frame) → new.odd ≡ Some (is_odd s frame)
     → ((before : List Bool) → HasReceived old.channel before → HasReceived new.channel (before ++ duty_bits s Feac frame)) → Remembers s old pieces → Remembers s new (pieces ++ Delivered frame ∷ [])
 remembers_more s old new pieces frame alarm odd channel is = record {
   alarm_is = alarm_goes s old pieces frame new.alarm is alarm ∙ ap (alarm_after s) (sym (frames_more pieces frame));
-  odd_is = λ tells. odd tells ∙ sym (odd_more s pieces frame);
+  odd_is = odd ∙ sym (odd_more s pieces frame);
   channel_is = rw (frames_more pieces frame, channel_more s (frames_of pieces) frame) (channel (channel_bits s (frames_of pieces)) is.channel_is);
 }
 
@@ -58,36 +55,6 @@ remembers_more s old new pieces frame alarm odd channel is = record {
 -- two lists of kinds, one after the other
 pub tell_append : (path : Path) (bit : ℕ) (first then_ : List Kind) → tell path bit (first ++ then_) ≡ tell path bit first ++ tell path bit then_
 tell_append path bit first then_ = map-append (event_of path bit) first then_
-
-or_first : (a b : Bool) → (a || b) ≡ false → a ≡ false
-or_first true b h = h
-or_first false b h = refl
-
-or_second : (a b : Bool) → (a || b) ≡ false → b ≡ false
-or_second true b h = absurd (let differ : true ≡ false = h in cc)
-or_second false b h = h
-
-none_of : (slots : List ℕ) → nat_lt 0 (length slots) ≡ false → slots ≡ []
-none_of [] h = refl
-none_of (slot ∷ slots) h = absurd (omega (arith, ltb-false 0 (suc (length slots)) h))
-
--- where no bits tell parity, none is wrong
-parity_none : (s : FrameShape) (odd : Option Bool) (frame : List Bool) → tells_parity s ≡ false → parity_kinds s odd frame ≡ []
-unfolding duty_bits
-parity_none s None frame fails = refl
-parity_none s (Some odd) frame fails =
-    let bits : List ℕ → List Bool = λ slots. map (λ slot. slice_index_or frame slot false) slots in
-    let parity : slots_with s Parity ≡ [] = none_of (slots_with s Parity) (or_first _ _ fails) in
-    let path_parity : slots_with s PathParity ≡ [] = none_of (slots_with s PathParity) (or_second _ _ fails) in
-    let right : breaks_parity s odd frame ≡ false = ap (λ slots. list_any (λ bit. not (beq bit odd)) (bits slots)) parity in
-    let path_right : breaks_path_parity s odd frame ≡ false = rw path_parity refl in
-    ap (λ b. cond b (PARITY ∷ []) [] ++ cond (breaks_path_parity s odd frame) (PATH_PARITY ∷ []) []) right ∙ ap (λ b. cond b (PATH_PARITY ∷ []) []) path_right
-
-parity_same : (s : FrameShape) (old : Kept) (pieces : List Piece) (frame : List Bool) → Remembers s old pieces → parity_kinds s (odd_before s pieces) frame ≡ parity_kinds s old.odd frame
-parity_same s old pieces frame is = elim (cases_Bool (tells_parity s)) [
-  | inl holds ↦ ap (λ odd. parity_kinds s odd frame) (sym (is.odd_is holds))
-  | inr fails ↦ parity_none s (odd_before s pieces) frame fails ∙ sym (parity_none s old.odd frame fails)
-]
 
 -- the events of a frame, one after another
 pub events_are : (s : FrameShape) (path : Path) (bit : ℕ) (old : Kept) (pieces : List Piece) (frame : List Bool) (alarm : Bool) → Remembers s old pieces → alarm ≡ agreed old.alarm (alarm_says s frame)
@@ -101,5 +68,5 @@ events_are s path bit old pieces frame alarm is e =
     let alarms : List Kind = alarm_kinds s (frames_of pieces) frame in
     let same : changed ALARM_ON ALARM_OFF old.alarm alarm ≡ alarms = ap (λ was. changed ALARM_ON ALARM_OFF was alarm) is.alarm_is ∙ ap (changed ALARM_ON ALARM_OFF (alarm_after s (frames_of pieces))) (alarm_goes s old pieces frame alarm is e) in
     ap (λ kinds. tell path bit kinds ++ tell path bit (parity_kinds s old.odd frame) ++ tell path bit febe ++ codes) same
-    ∙ ap (λ kinds. tell path bit alarms ++ tell path bit kinds ++ tell path bit febe ++ codes) (sym (parity_same s old pieces frame is))
+    ∙ ap (λ kinds. tell path bit alarms ++ tell path bit kinds ++ tell path bit febe ++ codes) (ap (λ odd. parity_kinds s odd frame) is.odd_is)
     ∙ ap (λ x. x ++ tell path bit febe ++ codes) (sym (tell_append path bit alarms parity)) ∙ ap (λ x. x ++ codes) (sym (tell_append path bit (alarms ++ parity) febe))

@@ -1,6 +1,5 @@
 -- The events of a whole chain.
-use Rattle.std.specs.Prelude.{ℕ, suc, Bool, false, ◌==◌, if◌then◌else◌, List, [], ◌∷◌, length, flat_map, take}
-use Rattle.std.specs.List.{range_with_len, slice_index_or}
+use Rattle.std.specs.Prelude.{ℕ, suc, Bool, ◌==◌, if◌then◌else◌, List, [], ◌∷◌, ◌++◌}
 use Rattle.pdh_shape.specs.declared.place.Path.{Path}
 use Rattle.pdh_shape.specs.Frame.{FrameShape}
 use Rattle.pdh_watch.specs.declared.event.Event.{Event}
@@ -19,10 +18,11 @@ unfoldable pub bit_events : List FrameShape → Path → List Bool → Bool → 
 bit_events [] path line bit = []
 bit_events (s ∷ below) path line bit = acts_events (λ j. bit_events below (child_path path j)) (λ j. received s j line) (bit_acts s path line bit)
 
--- the events of a list of bits, by what each brings after those before it
-abbrev pub each_bit : (List Bool → Bool → List Event) → List Bool → List Event
-each_bit notes line = flat_map (λ n. notes (take n line) (slice_index_or line n false)) (range_with_len 0 (length line))
+-- the events that these bits bring, one after another, after this line
+abbrev pub bits_events : (List Bool → Bool → List Event) → List Bool → List Bool → List Event
+bits_events notes line [] = []
+bits_events notes line (bit ∷ bits) = notes line bit ++ bits_events notes (line ++ bit ∷ []) bits
 
 -- the events of a chain whose top's received line this is
 unfoldable pub chain_events : List FrameShape → List Bool → List Event
-chain_events shapes line = each_bit (bit_events shapes top) line
+chain_events shapes line = bits_events (bit_events shapes top) [] line

@@ -1,5 +1,5 @@
 -- What is kept of a line to tell its events.
-use Rattle.std.specs.Prelude.{◌≡◌, ◌||◌, ℕ, suc, min, Bool, true, false, nat_lt, Option, List, ◌++◌, length, map, take, filter_map}
+use Rattle.std.specs.Prelude.{◌≡◌, ℕ, suc, min, Bool, false, Option, List, ◌++◌, length, map, take, filter_map}
 use Rattle.std.specs.Bool.{beq}
 use Rattle.std.specs.List.{range_with_len, slice_index_or}
 use Rattle.pdh_shape.specs.declared.role.Duty.TheVariants.{Alarm, Parity, Feac, PathParity, Febe}
@@ -52,12 +52,8 @@ pub record DutySlots (s : FrameShape) (alarm : List AlarmSlot) (parity path_pari
   pub febe_are : febe ≡ slots_with s Febe
   pub feac_are : feac ≡ slots_with s Feac
 
--- some bits of the frame tell parity
-abbrev pub tells_parity : FrameShape → Bool
-tells_parity s = nat_lt 0 (length (slots_with s Parity)) || nat_lt 0 (length (slots_with s PathParity))
-
 -- it is kept of a line with these pieces
 pub record Remembers (s : FrameShape) (kept : Kept) (pieces : List Piece) : Type 0 where
   pub alarm_is : kept.alarm ≡ alarm_after s (frames_of pieces)
-  pub odd_is : tells_parity s ≡ true → kept.odd ≡ odd_before s pieces
+  pub odd_is : kept.odd ≡ odd_before s pieces
   pub channel_is : HasReceived kept.channel (channel_bits s (frames_of pieces))

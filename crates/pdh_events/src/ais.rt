@@ -1,10 +1,12 @@
 //! AIS: where a run of ones on a line gets as long as AIS is, and where it ends.
 
-ghost use Rattle.std.specs.Prelude.{◌≡◌, Bool, List, [], ◌∷◌, ◌++◌};
+ghost use Rattle.std.specs.Prelude.{◌≡◌, ◌<◌, ◌≤◌, ◌+◌, ◌-◌, Bool, false, List, [], ◌∷◌, ◌++◌, length, take, drop, get_or};
 ghost use Rattle.pdh_events.specs.Telling.{tell, ais_kinds};
 ghost use Rattle.pdh_events.specs.Keeping.{CountsOnes};
+ghost use Rattle.pdh_events.specs.laws.QuietLaws.{IsCalm, AreOnes};
 
 use crate::note::note_kind;
+use pdh_packed::Packed;
 use pdh_shape::Path;
 use pdh_watch::{Kind, Watch};
 use std::marker::Model;
@@ -27,6 +29,43 @@ impl Model for AisRun {
     ghost view = { λ r. record { long = r.long; run = r.run } };
 
     ghost invariant = { λ r. r.run ≤ r.long };
+}
+
+// How many of so many bits from a place on are ones, one after another from the first on.
+fn leading_ones(bits: &Packed, from: usize, count: usize) -> usize
+    requires { from + count ≤ length bits.now.bits }
+    ensures most { result ≤ count }
+    ensures ones { AreOnes (take result (drop from bits.now.bits)) }
+{
+    // a place fits, since a length does
+    let _fits = bits.len();
+    let mut done = 0;
+    while done < count {
+        let some = (count - done).min(64) as u32;
+        let ones = bits.read(from + done, some).inverted().leading_zeros();
+        done += ones as usize;
+        if ones < some {
+            return done;
+        }
+    }
+    done
+}
+
+// How many of so many bits from a place on are ones, one after another from the last back.
+fn trailing_ones(bits: &Packed, from: usize, count: usize) -> usize
+    requires { from + count ≤ length bits.now.bits }
+    ensures most { result ≤ count }
+    ensures ones { AreOnes (drop (count - result) (take count (drop from bits.now.bits))) }
+    ensures zero { result < count → get_or (take count (drop from bits.now.bits)) (count - 1 - result) false ≡ false }
+{
+    // a place fits, since a length does
+    let _fits = bits.len();
+    for ones in 0..count {
+        if !bits.get(from + (count - 1 - ones)) {
+            return ones;
+        }
+    }
+    count
 }
 
 impl AisRun {
@@ -58,8 +97,40 @@ impl AisRun {
             return;
         }
         self.run += 1;
-        if self.run == self.long {
+        let is_long = self.run == self.long;
+        if is_long {
             note_kind(Kind::AIS_ON, path, number, watch);
         }
+    }
+
+    /// How many bits, of so many of a list from a place on, show nothing, one after another from the first on; it may answer
+    /// fewer.
+    pub fn calm(&self, bits: &Packed, from: usize, count: usize) -> usize
+        requires { from + count ≤ length bits.now.bits }
+        ensures most { result ≤ count }
+        ensures calm { (line : List Bool) → CountsOnes self.now line → IsCalm self.now.long line (take result (drop from bits.now.bits)) }
+    {
+        if self.run == self.long {
+            return leading_ones(bits, from, count);
+        }
+        count.min((self.long - self.run - 1) as usize)
+    }
+
+    /// Takes bits that show nothing, so many of a list from a place on.
+    pub fn skip(&mut self, bits: &Packed, from: usize, count: usize)
+        requires { from + count ≤ length bits.now.bits }
+        ensures long { self.new.long ≡ self.old.long }
+        ensures counts { (line : List Bool) → CountsOnes self.old line → IsCalm self.old.long line (take count (drop from bits.now.bits))
+            → CountsOnes self.new (line ++ take count (drop from bits.now.bits)) }
+    {
+        if self.run == self.long {
+            return;
+        }
+        let ones = trailing_ones(bits, from, count);
+        if ones == count {
+            self.run += ones.min((self.long - self.run) as usize) as u32;
+            return;
+        }
+        self.run = ones.min(self.long as usize) as u32;
     }
 }

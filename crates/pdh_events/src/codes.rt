@@ -6,6 +6,7 @@ ghost use Rattle.pdh_events.specs.Duties.{code_event};
 ghost use Rattle.pdh_events.specs.Keeping.{bits_at, codes_told};
 
 use pdh_cbit::FeacReceiver;
+use pdh_packed::Packed;
 use pdh_shape::Path;
 use pdh_watch::{Event, Kind, Watch};
 
@@ -26,20 +27,20 @@ fn note_code<W: Watch>(code: Option<u8>, path: Path, bit: u64, watch: &mut W)
 // Gives the bits of these slots of a frame to the channel's receiver, and notes the codes that it answers.
 pub(crate) fn note_codes<W: Watch>(
     slots: &[u16],
-    frame: &[bool],
+    frame: &Packed,
     channel: &mut FeacReceiver,
     path: Path,
     bit: u64,
     watch: &mut W,
 )
-    requires { All (λ slot. slot < length frame.now) slots.now }
+    requires { All (λ slot. slot < length frame.now.bits) slots.now }
     ensures received { (before : List Bool) → HasReceived channel.old before
-        → HasReceived channel.new (before ++ bits_at slots.now frame.now) }
+        → HasReceived channel.new (before ++ bits_at slots.now frame.now.bits) }
     ensures seen { (before : List Bool) → HasReceived channel.old before
-        → W.saw watch.old (map (code_event path bit) (codes_told before (bits_at slots.now frame.now))) watch.new }
+        → W.saw watch.old (map (code_event path bit) (codes_told before (bits_at slots.now frame.now.bits))) watch.new }
 {
     for slot in slots {
-        let code = channel.push(frame[usize::from(*slot)]);
+        let code = channel.push(frame.get(usize::from(*slot)));
         note_code(code, path, bit, watch);
     }
 }

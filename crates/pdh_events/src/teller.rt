@@ -1,12 +1,12 @@
 //! What the service bits of a node's delivered frames tell, frame by frame. A parity is told only
 //! of the frame before in the same alignment.
 
-ghost use Rattle.std.specs.Prelude.{◌≡◌, ℕ, Bool, true, Option, Some, List, [], ◌∷◌, ◌++◌, length, IfOk};
+ghost use Rattle.std.specs.Prelude.{◌≡◌, ℕ, true, Some, List, [], ◌∷◌, ◌++◌, length, IfOk};
 ghost use Rattle.pdh_line.specs.Tracking.{Piece};
 ghost use Rattle.pdh_line.specs.Tracking.Piece.{Gap, Delivered};
 ghost use Rattle.pdh_events.specs.Telling.{tell};
 ghost use Rattle.pdh_events.specs.Duties.{agreed, alarm_says, breaks_parity, breaks_path_parity, parity_kinds, febe_kinds, is_odd, frame_events};
-ghost use Rattle.pdh_events.specs.Keeping.{Remembers, tells_parity};
+ghost use Rattle.pdh_events.specs.Keeping.{Remembers};
 
 use crate::alarm::{AlarmSlot, agreed_alarm, alarm_slots_of};
 use crate::bits::{any_differs, most_are_ones};
@@ -14,8 +14,9 @@ use crate::codes::note_codes;
 use crate::duties::slots_of;
 use crate::note::{note_change, note_if};
 use pdh_cbit::FeacReceiver;
+use pdh_packed::Packed;
+use pdh_runs::Layout;
 use pdh_shape::{Duty, Path, Shape};
-use pdh_slots::SlotTables;
 use pdh_watch::{Kind, Watch};
 use std::alloc::{AllocError, Global};
 use std::marker::{Model, PhantomData};
@@ -30,7 +31,7 @@ pub struct FrameTeller<S: Shape> {
     febe_slots: Vec<u16>,
     feac_slots: Vec<u16>,
     alarm: bool,
-    // whether the frame before in the same alignment is odd, if there is one and parity is told
+    // whether the frame before in the same alignment is odd, if there is one
     odd: Option<bool>,
     channel: FeacReceiver,
     of: PhantomData<S>,
@@ -64,16 +65,17 @@ impl<S: Shape> Model for FrameTeller<S> {
 }
 
 impl<S: Shape> FrameTeller<S> {
-    /// For a line that has no bit yet; or it finds no memory.
-    pub fn open(alloc: Global) -> Result<FrameTeller<S>, AllocError>
+    /// For a line that has no bit yet, of frames of this layout; or it finds no memory.
+    pub fn open(alloc: Global, layout: &Layout<S>) -> Result<FrameTeller<S>, AllocError>
         ensures { IfOk result (λ teller. Remembers S.shape teller []) }
     {
+        let overhead = layout.overhead_slots();
         Ok(FrameTeller {
-            alarm_slots: alarm_slots_of::<S>(alloc)?,
-            parity_slots: slots_of::<S>(alloc, Duty::Parity)?,
-            path_parity_slots: slots_of::<S>(alloc, Duty::PathParity)?,
-            febe_slots: slots_of::<S>(alloc, Duty::Febe)?,
-            feac_slots: slots_of::<S>(alloc, Duty::Feac)?,
+            alarm_slots: alarm_slots_of::<S>(alloc, overhead)?,
+            parity_slots: slots_of::<S>(alloc, overhead, Duty::Parity)?,
+            path_parity_slots: slots_of::<S>(alloc, overhead, Duty::PathParity)?,
+            febe_slots: slots_of::<S>(alloc, overhead, Duty::Febe)?,
+            feac_slots: slots_of::<S>(alloc, overhead, Duty::Feac)?,
             alarm: false,
             odd: None,
             channel: FeacReceiver::new(),
@@ -90,34 +92,34 @@ impl<S: Shape> FrameTeller<S> {
     }
 
     // Whether there is an alarm after a frame.
-    fn alarm_after(&self, frame: &[bool]) -> bool
-        requires { length frame.now ≡ S.LEN }
-        ensures { result ≡ agreed self.now.alarm (alarm_says S.shape frame.now) }
+    fn alarm_after(&self, frame: &Packed) -> bool
+        requires { length frame.now.bits ≡ S.LEN }
+        ensures { result ≡ agreed self.now.alarm (alarm_says S.shape frame.now.bits) }
     {
         agreed_alarm(&self.alarm_slots, self.alarm, frame)
     }
 
     // Whether a frame's parity bits tell another parity than this.
-    fn breaks_parity(&self, odd: bool, frame: &[bool]) -> bool
-        requires { length frame.now ≡ S.LEN }
-        ensures { result ≡ breaks_parity S.shape odd frame.now }
+    fn breaks_parity(&self, odd: bool, frame: &Packed) -> bool
+        requires { length frame.now.bits ≡ S.LEN }
+        ensures { result ≡ breaks_parity S.shape odd frame.now.bits }
     {
         any_differs(&self.parity_slots, odd, frame)
     }
 
     // Whether a frame has path parity bits, and most of them tell another parity than this.
-    fn breaks_path_parity(&self, odd: bool, frame: &[bool]) -> bool
-        requires { length frame.now ≡ S.LEN }
-        ensures { result ≡ breaks_path_parity S.shape odd frame.now }
+    fn breaks_path_parity(&self, odd: bool, frame: &Packed) -> bool
+        requires { length frame.now.bits ≡ S.LEN }
+        ensures { result ≡ breaks_path_parity S.shape odd frame.now.bits }
     {
         let slots = &self.path_parity_slots;
         !slots.is_empty() && most_are_ones(slots, frame) != odd
     }
 
     // Notes where a frame's parity and path parity bits don't tell the parity of the frame before, if there is one.
-    fn note_parity<W: Watch>(&self, frame: &[bool], path: Path, bit: u64, watch: &mut W)
-        requires { length frame.now ≡ S.LEN }
-        ensures { W.saw watch.old (tell path bit (parity_kinds S.shape self.now.odd frame.now)) watch.new }
+    fn note_parity<W: Watch>(&self, frame: &Packed, path: Path, bit: u64, watch: &mut W)
+        requires { length frame.now.bits ≡ S.LEN }
+        ensures { W.saw watch.old (tell path bit (parity_kinds S.shape self.now.odd frame.now.bits)) watch.new }
     {
         if let Some(odd) = self.odd {
             let parity = self.breaks_parity(odd, frame);
@@ -128,40 +130,23 @@ impl<S: Shape> FrameTeller<S> {
     }
 
     // Notes where a frame tells a far end block error.
-    fn note_febe<W: Watch>(&self, frame: &[bool], path: Path, bit: u64, watch: &mut W)
-        requires { length frame.now ≡ S.LEN }
-        ensures { W.saw watch.old (tell path bit (febe_kinds S.shape frame.now)) watch.new }
+    fn note_febe<W: Watch>(&self, frame: &Packed, path: Path, bit: u64, watch: &mut W)
+        requires { length frame.now.bits ≡ S.LEN }
+        ensures { W.saw watch.old (tell path bit (febe_kinds S.shape frame.now.bits)) watch.new }
     {
         let febe = any_differs(&self.febe_slots, true, frame);
         note_if(febe, Kind::FEBE, path, bit, watch);
     }
 
-    // Whether a frame is odd, where the frame after it may tell that.
-    fn parity_of(&self, tables: &SlotTables<S>, frame: &[bool]) -> Option<bool>
-        requires { length frame.now ≡ S.LEN }
-        ensures { tells_parity S.shape ≡ true → result ≡ Some (is_odd S.shape frame.now) }
-    {
-        if self.parity_slots.is_empty() && self.path_parity_slots.is_empty() {
-            return None;
-        }
-        Some(tables.is_odd(0, false, frame))
-    }
-
     /// Takes a delivered frame of the line of the node at a path, which the bit of this number delivers, and notes its own
-    /// events.
-    pub fn note<W: Watch>(
-        &mut self,
-        tables: &SlotTables<S>,
-        frame: &[bool],
-        path: Path,
-        bit: u64,
-        watch: &mut W,
-    )
-        requires { length frame.now ≡ S.LEN }
+    /// events. It is told whether the frame's payload is odd.
+    pub fn note<W: Watch>(&mut self, frame: &Packed, odd: bool, path: Path, bit: u64, watch: &mut W)
+        requires whole { length frame.now.bits ≡ S.LEN }
+        requires odd { odd ≡ is_odd S.shape frame.now.bits }
         ensures remembers { (pieces : List Piece) → Remembers S.shape self.old pieces
-            → Remembers S.shape self.new (pieces ++ Delivered frame.now ∷ []) }
+            → Remembers S.shape self.new (pieces ++ Delivered frame.now.bits ∷ []) }
         ensures seen { (pieces : List Piece) → Remembers S.shape self.old pieces
-            → W.saw watch.old (frame_events S.shape path bit pieces frame.now) watch.new }
+            → W.saw watch.old (frame_events S.shape path bit pieces frame.now.bits) watch.new }
     {
         let was = self.alarm;
         let alarm = self.alarm_after(frame);
@@ -178,6 +163,6 @@ impl<S: Shape> FrameTeller<S> {
         self.note_febe(frame, path, bit, watch);
         note_codes(&self.feac_slots, frame, &mut self.channel, path, bit, watch);
         self.alarm = alarm;
-        self.odd = self.parity_of(tables, frame);
+        self.odd = Some(odd);
     }
 }

@@ -2,7 +2,7 @@
 use Rattle.std.proofs.Common.{◌≡◌, ◌≢◌, ℕ, ◌+◌, ◌-◌, ◌*◌, ◌/◌, ◌%◌, ◌<◌, ◌≤◌, Bool, true, false, cond, ltb, List, [], ◌∷◌, ◌++◌, length, get_or, take, drop, refl, sym, ap, ◌∙◌, subst, inl, inr, arith, length-drop}
 use Rattle.std.specs.Prelude.{◌==◌, ◌^◌, min, Result, Ok, Err, OnOk, OnErr}
 use Rattle.std.proofs.lemmas.Bool.{cases_Bool, lt-ltb, le-ltb, eq-eqb, ne_eqb}
-use Rattle.std.proofs.lemmas.List.{append-nil, map-append, length_push, length-take-le, append_assoc, take_more, take_all, take-append-drop}
+use Rattle.std.proofs.lemmas.List.{append-nil, map-append, length_push, length-take-le, append_assoc, take_more, take-append-drop}
 use Rattle.pdh_edge.proofs.Runs.{puts_begin, puts_then, puts_part}
 use Rattle.pdh_bits.specs.Bits.{bit_value}
 use Rattle.pdh_edge.specs.Ports.{Outputs, Puts, PutsPart, IsPrefix, for_leaf}
@@ -341,21 +341,21 @@ aligned_goes bits whole wrong other =
 
 -- ---- one bit, by the stage
 
-pub turn_searching : (a : E1Align) (bit : Bool) → a.stage ≡ stages.Searching → turn (phase a) bit ≡ search_turn (a.held.items ++ bit ∷ [])
+pub turn_searching : (a : E1Align) (bit : Bool) → a.stage ≡ stages.Searching → turn (phase a) bit ≡ search_turn (a.held.bits ++ bit ∷ [])
 unfolding turn
-turn_searching a bit e = ap (λ s. turn (phase_of s a.held.items a.group) bit) e
+turn_searching a bit e = ap (λ s. turn (phase_of s a.held.bits a.group) bit) e
 
-pub turn_aligned : (a : E1Align) (bit : Bool) (bits : List Bool) → a.stage ≡ stages.Aligned → bits ≡ a.held.items ++ bit ∷ [] → length bits % 256 ≡ 0 → loses (frames_of bits) ≡ false → turn (phase a) bit ≡ aligned_turn bits
+pub turn_aligned : (a : E1Align) (bit : Bool) (bits : List Bool) → a.stage ≡ stages.Aligned → bits ≡ a.held.bits ++ bit ∷ [] → length bits % 256 ≡ 0 → loses (frames_of bits) ≡ false → turn (phase a) bit ≡ aligned_turn bits
 unfolding turn
 turn_aligned a bit bits e is whole fine =
-    ap (λ s. turn (phase_of s a.held.items a.group) bit) e ∙ ap (λ (x : List Bool). aligned_bits x) (sym is)
+    ap (λ s. turn (phase_of s a.held.bits a.group) bit) e ∙ ap (λ (x : List Bool). aligned_bits x) (sym is)
     ∙ ends_frame bits (lost_turn false bits) (aligned_turn bits) (still (Aligned bits)) whole fine
 
-pub turn_framed : (a : E1Align) (bit : Bool) (bits : List Bool) → a.stage ≡ stages.Framed → bits ≡ a.held.items ++ bit ∷ [] → length bits % 256 ≡ 0 → loses (frames_of bits) ≡ false
+pub turn_framed : (a : E1Align) (bit : Bool) (bits : List Bool) → a.stage ≡ stages.Framed → bits ≡ a.held.bits ++ bit ∷ [] → length bits % 256 ≡ 0 → loses (frames_of bits) ≡ false
     → turn (phase a) bit ≡ framed_turn bits a.group.judged a.group.errored
 unfolding turn
 turn_framed a bit bits e is whole fine =
-    ap (λ s. turn (phase_of s a.held.items a.group) bit) e ∙ ap (λ (x : List Bool). framed_bits x a.group.judged a.group.errored) (sym is)
+    ap (λ s. turn (phase_of s a.held.bits a.group) bit) e ∙ ap (λ (x : List Bool). framed_bits x a.group.judged a.group.errored) (sym is)
     ∙ ends_frame bits (lost_turn true bits) (framed_turn bits a.group.judged a.group.errored) (still (Framed bits a.group.judged a.group.errored)) whole fine
 
 -- no frame ends in an alignment
@@ -385,8 +385,8 @@ stage_left stages.Searching a b = absurd (a refl)
 stage_left stages.Aligned a b = absurd (b refl)
 stage_left stages.Framed a b = refl
 
-pub fits_stage : (a : E1Align) (s : Stage) → a.stage ≡ s → Fits (phase a) → Fits (phase_of s a.held.items a.group)
-fits_stage a s e h = subst (λ (x : Stage). Fits (phase_of x a.held.items a.group)) e h
+pub fits_stage : (a : E1Align) (s : Stage) → a.stage ≡ s → Fits (phase a) → Fits (phase_of s a.held.bits a.group)
+fits_stage a s e h = subst (λ (x : Stage). Fits (phase_of x a.held.bits a.group)) e h
 
 -- there is room for a bit more
 pub has_room : (stage : Stage) (bits : List Bool) (group : Group) → Fits (phase_of stage bits group) → length bits < 16384
@@ -456,10 +456,6 @@ part_join a b c d o p q grows g h = record {
 -- a line with the bits so far, and one more
 pub line_more : (line bits : List Bool) (i : ℕ) → i < length bits → line ++ take i bits ++ get_or bits i false ∷ [] ≡ line ++ take (i + 1) bits
 line_more line bits i lt = append_assoc line (take i bits) (get_or bits i false ∷ []) ∙ ap (λ (x : List Bool). line ++ x) (sym (take_more bits i false lt))
-
--- and all of them
-pub line_all : (line bits : List Bool) (i : ℕ) → length bits ≤ i → line ++ take i bits ≡ line ++ bits
-line_all line bits i le = ap (λ (x : List Bool). line ++ x) (take_all i bits le)
 
 -- what the whole line gives begins with what the bits so far and one more give
 pub line_grows : (line bits : List Bool) (i : ℕ) → i < length bits → IsPrefix (e1_far (line ++ take i bits ++ get_or bits i false ∷ [])) (e1_far (line ++ bits))

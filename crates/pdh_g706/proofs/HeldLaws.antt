@@ -1,5 +1,5 @@
 -- What the bits that are held say, by their places.
-use Rattle.std.proofs.Common.{◌≡◌, ◌≢◌, ℕ, zero, suc, ◌+◌, ◌-◌, ◌*◌, ◌/◌, ◌%◌, ◌<◌, ◌≤◌, Bool, true, false, ◌&&◌, not, List, [], ◌∷◌, ◌++◌, length, map, get_or, set, take, drop, cond, refl, sym, ap, ◌∙◌, inl, inr, arith, add-one, length-drop}
+use Rattle.std.proofs.Common.{◌≡◌, ◌≢◌, ℕ, zero, suc, ◌+◌, ◌-◌, ◌*◌, ◌/◌, ◌%◌, ◌<◌, ◌≤◌, Bool, true, false, ◌&&◌, not, List, [], ◌∷◌, ◌++◌, length, map, get_or, take, drop, cond, refl, sym, ap, ◌∙◌, inl, inr, arith, add-one, length-drop}
 use Rattle.std.specs.Prelude.{◌==◌, flat_map, nat_le, nat_lt}
 use Rattle.std.specs.Bool.{beq}
 use Rattle.std.specs.List.{range_with_len, list_all}
@@ -8,7 +8,7 @@ use Rattle.std.proofs.Math.Seq.{take-add}
 use Rattle.std.proofs.lemmas.Grind.{flat_map-append}
 use Rattle.std.proofs.lemmas.List.Concat.{flat_map-cons}
 use Rattle.std.proofs.lemmas.List.FromFn.{length-map-range_with_len, take-map-range_with_len}
-use Rattle.std.proofs.lemmas.List.{append-nil, map-append, drop-drop, drop-take, drop_at, get_or-take, get_or-drop, length-take-le, drop_more, take_more, set_at, append_assoc}
+use Rattle.std.proofs.lemmas.List.{append-nil, map-append, drop-drop, drop-take, drop_at, get_or-take, get_or-drop, length-take-le, drop_more, take_more, append_assoc}
 use Rattle.std.proofs.lemmas.List.Folds.{list_all-append}
 use mir.Val.{bool_byte}
 use Rattle.pdh_bits.specs.Bits.{bit_value, number_of}
@@ -58,16 +58,6 @@ all_fails p n m lt fails = elim (cases_Bool (list_all p (range_with_len 0 m))) [
 -- the test of a bit of the alignment signal
 abbrev pub signal_test : List Bool → ℕ → Bool
 signal_test frame i = beq (bit_of frame (i + 1)) (bit_of alignment_signal i)
-
-pub signal_at : (bits : List Bool) (start place : ℕ) (bit want wrong : Bool) → place < 7 → bit ≡ get_or bits (start + 1 + place) false → want ≡ bit_of alignment_signal place → not (beq bit want) ≡ wrong
-    → signal_test (take 256 (drop start bits)) place ≡ not wrong
-signal_at bits start place bit want wrong lt is want_is differs =
-    let at : bit_of (take 256 (drop start bits)) (place + 1) ≡ bit = bit_in_frame bits start (place + 1) 256 (omega arith) ∙ ap (λ n. get_or bits n false) (omega arith) ∙ sym is in
-    ap (λ b. beq b (bit_of alignment_signal place)) at ∙ ap (beq bit) (sym want_is) ∙ twice (beq bit want) wrong differs
-  where
-    twice : (a b : Bool) → not a ≡ b → a ≡ not b
-    twice true b h = ap not h
-    twice false b h = ap not h
 
 pub has_signal_is : (frame : List Bool) → has_signal frame ≡ list_all (signal_test frame) (range_with_len 0 7)
 unfolding has_signal
@@ -189,25 +179,9 @@ loses_oldest fs n e least odd newest middle =
     last a true c d e f g = and_from _ _ (and_from _ _ (and_from _ _ e refl) f) g
     last a false c d e f g = and_left _ _ (and_left _ _ (and_right _ _ refl))
 
--- ---- copies
-
--- one more bit is copied
-pub copied_more : (bits into was : List Bool) (start i : ℕ) (bit : Bool) → start + length was ≤ length bits → i < length was → bit ≡ get_or bits (start + i) false
-    → into ≡ take i (drop start bits) ++ drop i was → set into i bit ≡ take (i + 1) (drop start bits) ++ drop (i + 1) was
-copied_more bits into was start i bit room lt is before =
-    let rest : List Bool = drop start bits in
-    let some : i < length rest = omega (arith, length-drop start bits) in
-    let front : length (take i rest) ≡ i = length-take-le i rest (omega arith) in
-    let item : get_or rest i false ≡ bit = get_or-drop start bits i false ∙ sym is in
-    ap (λ (x : List Bool). set x i bit) (before ∙ ap (λ (x : List Bool). take i rest ++ x) (drop_more was i false lt))
-    ∙ set_at (take i rest) (get_or was i false) (drop (i + 1) was) bit i front
-    ∙ ap (λ b. take i rest ++ b ∷ drop (i + 1) was) (sym item)
-    ∙ sym (append_assoc (take i rest) (get_or rest i false ∷ []) (drop (i + 1) was))
-    ∙ ap (λ (x : List Bool). x ++ drop (i + 1) was) (sym (take_more rest i false some))
-
 -- ---- a search
 
-confirmed_is : (bits : List Bool) → is_confirmed bits ≡ (nat_le 768 (length bits) && has_signal (frame_of bits 0) && bit_of (frame_of bits 1) 1 && has_signal (frame_of bits 2))
+pub confirmed_is : (bits : List Bool) → is_confirmed bits ≡ (nat_le 768 (length bits) && has_signal (frame_of bits 0) && bit_of (frame_of bits 1) 1 && has_signal (frame_of bits 2))
 unfolding is_confirmed
 confirmed_is bits = refl
 
@@ -269,12 +243,12 @@ eight_bits bits k place room e =
     ap (flat_map (λ (x : List Bool). x)) (take_frames bits k 8 (omega arith)) ∙ joined bits (0 + k) 8 ∙ ap (λ m. take 2048 (drop m bits)) start
 
 -- the judgement of a block, read from the bits
-pub errs_read : (bits : List Bool) (k : ℕ) (copied : List Bool) (sent word : ℕ) → 256 * k + 4096 ≤ length bits → sent ≡ sent_check (take 2048 (drop (256 * k + 2048) bits)) → copied ≡ take 2048 (drop (256 * k) bits) → word ≡ crc4 (cleared copied)
+pub errs_read : (bits : List Bool) (k sent word : ℕ) → 256 * k + 4096 ≤ length bits → sent ≡ sent_check (take 2048 (drop (256 * k + 2048) bits)) → word ≡ crc4 (cleared (take 2048 (drop (256 * k) bits)))
     → not (sent == word) ≡ errs (frames_of bits) k
-errs_read bits k copied sent word room s_is c_is w_is =
+errs_read bits k sent word room s_is w_is =
     let second : eight (frames_of bits) (k + 8) ≡ take 2048 (drop (256 * k + 2048) bits) = eight_bits bits (k + 8) (256 * k + 2048) (omega arith) (omega arith) in
     let first : eight (frames_of bits) k ≡ take 2048 (drop (256 * k) bits) = eight_bits bits k (256 * k) (omega arith) refl in
-    ap (λ n. not (n == word)) (s_is ∙ ap sent_check (sym second)) ∙ ap (λ n. not (sent_check (eight (frames_of bits) (k + 8)) == n)) (w_is ∙ ap (λ (x : List Bool). crc4 (cleared x)) (c_is ∙ sym first))
+    ap (λ n. not (n == word)) (s_is ∙ ap sent_check (sym second)) ∙ ap (λ n. not (sent_check (eight (frames_of bits) (k + 8)) == n)) (w_is ∙ ap (λ (x : List Bool). crc4 (cleared x)) (sym first))
     ∙ sym (errs_is (frames_of bits) k)
 
 -- ---- payload

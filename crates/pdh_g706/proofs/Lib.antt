@@ -11,3 +11,7 @@ pub mod EventLaws
 pub mod HeldLaws
 pub mod AlignSteps
 pub mod PayloadLaws
+pub mod SignalLaws
+pub mod CheckLaws
+pub mod GlideLaws
+pub mod TakeLaws

@@ -6,7 +6,7 @@ use Rattle.pdh_watch.specs.declared.kind.TheConstants.Kind.{ALIGNED, LOST, ALARM
 use Rattle.pdh_watch.specs.declared.event.Event.{Event}
 use Rattle.pdh_line.specs.Paths.{top}
 use Rattle.pdh_events.specs.Telling.{next_bit, tell, changed, ais_kinds}
-use Rattle.pdh_events.specs.Chain.{each_bit}
+use Rattle.pdh_events.specs.Chain.{bits_events}
 use Rattle.pdh_g706.specs.Frames.{bit_of}
 use Rattle.pdh_g706.specs.Alignment.{frame}
 use Rattle.pdh_g706.specs.Tracking.{Signs, signs_in}
@@ -72,4 +72,4 @@ e1_bit_events line bit = tell top (next_bit line) (ais_kinds ais_length line bit
 
 -- the events of a line
 unfoldable pub e1_events : List Bool → List Event
-e1_events line = each_bit e1_bit_events line
+e1_events line = bits_events e1_bit_events [] line

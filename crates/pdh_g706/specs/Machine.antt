@@ -215,3 +215,16 @@ unfoldable pub turn : Phase → Bool → Turn
 turn (Searching held) bit = search_turn (held ++ bit ∷ [])
 turn (Aligned held) bit = aligned_bits (held ++ bit ∷ [])
 turn (Framed held group wrong) bit = framed_bits (held ++ bit ∷ []) group wrong
+
+-- ---- bits that gain nothing
+
+-- these bits gain nothing one after another, and then it holds this
+abbrev pub Waits : Phase → List Bool → Phase → Type 0
+Waits phase [] now = now ≡ phase
+Waits phase (bit ∷ bits) now = ((turn phase bit).gained ≡ nothing) × Waits (turn phase bit).phase bits now
+
+-- what it holds after such bits: a search less than three frames, the newest bits
+abbrev pub held_on : Phase → List Bool → Phase
+held_on (Searching held) bits = Searching (last_bits 767 (held ++ bits))
+held_on (Aligned held) bits = Aligned (held ++ bits)
+held_on (Framed held group wrong) bits = Framed (held ++ bits) group wrong

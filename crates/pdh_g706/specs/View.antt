@@ -1,5 +1,5 @@
 -- What the fields of an alignment machine stand for.
-use Rattle.std.specs.Prelude.{◌≡◌, ◌+◌, ℕ, Bool, true, false, List, ◌++◌}
+use Rattle.std.specs.Prelude.{◌≡◌, ◌+◌, ℕ, Bool, true, false, List, [], ◌∷◌, ◌++◌}
 use Rattle.pdh_edge.specs.Ports.{Outputs, Puts, PutsPart, for_leaf}
 use Rattle.pdh_g706.specs.declared.align.E1Align.{E1Align}
 use Rattle.pdh_g706.specs.declared.counts.Counts.{Counts}
@@ -11,7 +11,7 @@ use Rattle.pdh_watch.specs.declared.event.Event.{Event}
 use Rattle.pdh_line.specs.Paths.{top}
 use Rattle.pdh_events.specs.Telling.{next_bit, tell}
 use Rattle.pdh_events.specs.Keeping.{CountsOnes}
-use Rattle.pdh_g706.specs.Events.{alarm_after, ais_length}
+use Rattle.pdh_g706.specs.Events.{alarm_after, ais_length, e1_bit_events}
 use Rattle.pdh_g706.specs.Machine.{Phase, Holds, Turn, added_kinds, aligned_turn, framed_turn, block_turn}
 use Rattle.pdh_g706.specs.Machine.Phase.{Searching, Aligned, Framed}
 
@@ -22,7 +22,7 @@ phase_of stages.Aligned held group = Aligned held
 phase_of stages.Framed held group = Framed held group.judged group.errored
 
 abbrev pub phase : E1Align → Phase
-phase align = phase_of align.stage align.held.items align.group
+phase align = phase_of align.stage align.held.bits align.group
 
 -- multiframe alignment was reached
 abbrev pub is_framed : Stage → Bool
@@ -32,13 +32,13 @@ is_framed _ = false
 -- what is done with the bits that are held at the end of a frame without a loss, in either stage of an alignment, and at the
 -- end of a sub-multiframe
 abbrev pub aligned_here : E1Align → Turn
-aligned_here align = aligned_turn align.held.items
+aligned_here align = aligned_turn align.held.bits
 
 abbrev pub framed_here : E1Align → Turn
-framed_here align = framed_turn align.held.items align.group.judged align.group.errored
+framed_here align = framed_turn align.held.bits align.group.judged align.group.errored
 
 abbrev pub block_here : E1Align → Turn
-block_here align = block_turn align.held.items align.group.judged align.group.errored
+block_here align = block_turn align.held.bits align.group.judged align.group.errored
 
 -- the counts are those of the received bits
 pub record AreCounts (counts : Counts) (line : List Bool) : Type 0 where

@@ -24,15 +24,15 @@ impl Counts {
     };
 
     /// The counts with these added.
-    pub(crate) fn plus(self, multiframes: usize, blocks: usize, errored: usize) -> Counts
+    pub(crate) fn plus(self, multiframes: u32, blocks: u32, errored: u32) -> Counts
         ensures multiframes { result.multiframes ≡ counted (self.multiframes + multiframes) }
         ensures blocks { result.blocks ≡ counted (self.blocks + blocks) }
         ensures errored { result.errored ≡ counted (self.errored + errored) }
     {
         Counts {
-            multiframes: self.multiframes.saturating_add(multiframes as u64),
-            blocks: self.blocks.saturating_add(blocks as u64),
-            errored: self.errored.saturating_add(errored as u64),
+            multiframes: self.multiframes.saturating_add(u64::from(multiframes)),
+            blocks: self.blocks.saturating_add(u64::from(blocks)),
+            errored: self.errored.saturating_add(u64::from(errored)),
         }
     }
 }

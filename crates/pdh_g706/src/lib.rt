@@ -13,4 +13,4 @@ mod stage;
 mod tell;
 
 pub use align::E1Align;
-pub use laws::payload_fits_the_stream;
+pub use laws::{events_come_bit_by_bit, payload_fits_the_stream};

@@ -2,17 +2,12 @@
 
 ghost use Rattle.std.specs.Prelude.{◌≡◌, ◌≤◌, ◌+◌, [], length, take, drop, IfOk};
 
-use crate::held::copy_bits;
-use circular_buffer::HeapCircularBuffer;
-use pdh_packed::{Packed, Word};
+use pdh_packed::{BitRing, Packed};
 use std::alloc::{AllocError, Global};
 use std::marker::Model;
 
 /// How many bits of a frame are payload: all but the first eight.
-const PAYLOAD_BITS: usize = 248;
-
-/// How many of them are copied at once: a quarter, which a word holds.
-const PART_BITS: usize = 62;
+const PAYLOAD_BITS: u32 = 248;
 
 /// The payload of a frame. Only `open` takes memory.
 #[derive(Drop)]
@@ -35,23 +30,19 @@ impl Payload {
     pub(crate) fn open(alloc: Global) -> Result<Payload, AllocError>
         ensures { IfOk result (λ payload. payload ≡ []) }
     {
-        let bits = Packed::open(alloc, PAYLOAD_BITS)?;
+        let bits = Packed::open(alloc, PAYLOAD_BITS as usize)?;
         Ok(Payload { bits })
     }
 
     /// Takes the payload of the frame that begins at this bit of those that are held, in place of what it had.
-    pub(crate) fn load(&mut self, held: &HeapCircularBuffer<bool>, start: usize)
-        requires { start + 256 ≤ length held.now.items }
-        ensures { self.new ≡ take 248 (drop (start + 8) held.now.items) }
+    pub(crate) fn load(&mut self, held: &BitRing, start: u32)
+        requires { start + 256 ≤ length held.now.bits }
+        ensures { self.new ≡ take 248 (drop (start + 8) held.now.bits) }
     {
-        // a buffer's length is bounded, and so is each place in it
-        let _held = held.len();
-        let mut part = [false; PART_BITS];
+        // a place fits, since a length does
+        let _fits = held.held();
         self.bits.clear();
-        for number in 0..4 {
-            copy_bits(held, start + 8 + PART_BITS * number, &mut part);
-            self.bits.append(Word::of_bits(&part));
-        }
+        held.append_to(start + 8, PAYLOAD_BITS, &mut self.bits);
     }
 
     /// The bits.

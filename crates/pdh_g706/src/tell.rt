@@ -11,10 +11,10 @@ ghost use Rattle.pdh_g706.specs.Machine.{frames_from, each_errs, errs_in as errs
 ghost use Rattle.pdh_g706.specs.View.{is_framed};
 ghost use Rattle.pdh_watch.specs.declared.kind.TheConstants.Kind.{LOST, ALARM_ON, ALARM_OFF, EBIT};
 
-use crate::held::{bit_at, errs};
+use crate::held::errs;
 use crate::stage::Stage;
-use circular_buffer::HeapCircularBuffer;
 use pdh_events::{note_change, note_kind};
+use pdh_packed::BitRing;
 use pdh_shape::TOP;
 use pdh_watch::{Kind, Watch};
 
@@ -38,39 +38,39 @@ pub(crate) fn note_block<W: Watch>(errored: bool, number: u64, watch: &mut W)
 
 /// Judges so many sub-multiframes from this frame on, notes each that is errored, and counts them.
 pub(crate) fn judge<W: Watch>(
-    held: &HeapCircularBuffer<bool>,
-    frame: usize,
-    count: usize,
+    held: &BitRing,
+    frame: u32,
+    count: u32,
     number: u64,
     watch: &mut W,
-) -> usize
-    requires { 256 * frame + 2048 * count + 2048 ≤ length held.now.items }
-    ensures count { result ≡ errs_all (frames_of held.now.items) frame count }
+) -> u32
+    requires { 256 * frame + 2048 * count + 2048 ≤ length held.now.bits }
+    ensures count { result ≡ errs_all (frames_of held.now.bits) frame count }
     ensures most { result ≤ count }
-    ensures seen { W.saw watch.old (tell top number (crc_kinds (each_errs (frames_of held.now.items) frame count)))
+    ensures seen { W.saw watch.old (tell top number (crc_kinds (each_errs (frames_of held.now.bits) frame count)))
         watch.new }
 {
-    // a buffer's length is bounded, and so is each place in it
-    let _held = held.len();
+    // a place fits, since a length does
+    let _fits = held.held();
     let mut errored = 0;
     for block in 0..count {
         let wrong = errs(held, frame + 8 * block);
         note_block(wrong, number, watch);
-        errored += usize::from(wrong);
+        errored += u32::from(wrong);
     }
     errored
 }
 
 // Whether the odd frame that begins at this bit tells an errored block: its number among the odd frames, counted from 0,
 // tells whether its first bit is an E bit.
-fn tells_error(held: &HeapCircularBuffer<bool>, start: usize, odd: usize) -> bool
-    requires { start + 256 ≤ length held.now.items }
-    ensures { result ≡ (nat_le 6 (odd % 8) && not (slice_index_or held.now.items start false)) }
+fn tells_error(held: &BitRing, start: u32, odd: u32) -> bool
+    requires { start + 256 ≤ length held.now.bits }
+    ensures { result ≡ (nat_le 6 (odd % 8) && not (slice_index_or held.now.bits start false)) }
 {
     if odd % 8 < 6 {
         return false;
     }
-    !bit_at(held, start)
+    !held.bit(start)
 }
 
 // Notes what an odd frame tells: whether the alarm begins or ends, and then an errored block.
@@ -87,24 +87,24 @@ fn note_odd_frame<W: Watch>(was: bool, is: bool, error: bool, number: u64, watch
 /// Notes what so many pairs of an even and an odd frame from this frame on tell, after an alarm or none, and says whether
 /// there is an alarm then.
 pub(crate) fn note_frames<W: Watch>(
-    held: &HeapCircularBuffer<bool>,
-    frame: usize,
-    pairs: usize,
+    held: &BitRing,
+    frame: u32,
+    pairs: u32,
     alarm: bool,
     number: u64,
     watch: &mut W,
 ) -> bool
-    requires { 256 * frame + 512 * pairs ≤ length held.now.items }
-    ensures alarm { result ≡ alarm_after alarm (frames_from (frames_of held.now.items) frame (2 * pairs)) }
+    requires { 256 * frame + 512 * pairs ≤ length held.now.bits }
+    ensures alarm { result ≡ alarm_after alarm (frames_from (frames_of held.now.bits) frame (2 * pairs)) }
     ensures seen { W.saw watch.old (tell top number
-        (frames_kinds alarm (frames_from (frames_of held.now.items) frame (2 * pairs)) 0 pairs)) watch.new }
+        (frames_kinds alarm (frames_from (frames_of held.now.bits) frame (2 * pairs)) 0 pairs)) watch.new }
 {
-    // a buffer's length is bounded, and so is each place in it
-    let _held = held.len();
+    // a place fits, since a length does
+    let _fits = held.held();
     let mut last = alarm;
     for odd in 0..pairs {
         let start = 256 * (frame + 2 * odd + 1);
-        let says = bit_at(held, start + 2);
+        let says = held.bit(start + 2);
         note_odd_frame(last, says, tells_error(held, start, odd), number, watch);
         last = says;
     }

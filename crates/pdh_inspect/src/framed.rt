@@ -19,6 +19,9 @@ use pdh_watch::{Members, Monitor, Watch};
 use std::alloc::Global;
 use std::mem;
 
+// The most bits of a line that are given to a machine at once.
+const MOST_BITS: usize = 32768;
+
 /// What was seen of a framed 2048 kbit/s line.
 #[derive(Clone, Copy, Debug, PartialEq, Eq)]
 pub struct FramedSeen {
@@ -41,12 +44,10 @@ fn push_all<F: Feed, W: Watch>(
         → W.saw first (e1_events (line ++ bits.now.bits)) watch.new }
     ensures feed { port.new.feed ≡ port.old.feed }
 {
-    for place in 0..bits.len() {
-        match align.push(bits.get(place), port, watch) {
-            Ok(()) => (),
-            // No put fails.
-            Err(_) => unreachable!(),
-        }
+    match align.take(bits, port, watch) {
+        Ok(()) => (),
+        // No put fails.
+        Err(_) => unreachable!(),
     }
 }
 
@@ -101,7 +102,9 @@ fn watch_framed<F: Feed, W: Watch>(
     let Ok(mut align) = E1Align::open(alloc) else {
         return Err(LineStop::Memory);
     };
-    let mut buffer = Packed::short(alloc);
+    let Ok(mut buffer) = Packed::open(alloc, MOST_BITS) else {
+        return Err(LineStop::Memory);
+    };
     match push_line(&mut align, bits, &mut buffer, port, watch) {
         Ok(()) => Ok(align.multiframes()),
         Err(FeedStop::Failed) => Err(LineStop::Failed),

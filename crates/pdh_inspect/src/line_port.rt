@@ -1,6 +1,6 @@
 //! The port over a feed that receivers get whose bits nobody wants.
 
-ghost use Rattle.std.specs.Prelude.{◌≡◌, true};
+ghost use Rattle.std.specs.Prelude.{◌≡◌, ◌^◌, true};
 ghost use Rattle.std.proofs.Common.{refl, sym, ◌∙◌, arith, ap, subst};
 ghost use Rattle.pdh_inspect.specs.Ports.{all_lists};
 
@@ -86,6 +86,8 @@ impl<F: Feed> Drain for LinePort<F> {
 
     ghost drained = { λ a b. (b.feed ≡ a.feed) × (b.ready ≡ a.ready) };
 
+    ghost room = { λ p k. 2 ^ 64 };
+
     ghost drained_same = { λ a. (refl, refl) };
 
     ghost drained_join = { λ a b c p q. (q.0 ∙ p.0, q.1 ∙ p.1) };
@@ -106,6 +108,14 @@ impl<F: Feed> Drain for LinePort<F> {
     fn put_all(&mut self, _leaf: u32, _bits: &Packed) -> Result<(), Failed> {
         self.fresh = false;
         Ok(())
+    }
+
+    fn has_room(&self, _leaf: u32, _bits: usize) -> bool {
+        true
+    }
+
+    fn put_in_room(&mut self, _leaf: u32, _bits: &Packed) {
+        self.fresh = false;
     }
 }
 

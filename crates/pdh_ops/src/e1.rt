@@ -17,11 +17,12 @@ ghost use Rattle.pdh_shape.specs.OwnNumbers.{most_frames};
 use crate::files::{append, read, size, start};
 use crate::port::Input;
 use pdh_answers::{Done, E1Counts, File, Stop};
-use pdh_bits::bits_of;
 use pdh_e1::{PackFault, pack};
 use pdh_edge::{Drain, MemPort, Shelf};
 use pdh_g706::E1Align;
+use pdh_packed::Packed;
 use pdh_shape::MOST_FRAMES;
+use pdh_watch::Quiet;
 use std::alloc::{AllocError, Global};
 
 // The most octets of a line whose bits are given to a machine at once.
@@ -120,7 +121,7 @@ fn payload_port(alloc: Global, bits: usize) -> Result<MemPort, AllocError>
     Ok(port)
 }
 
-// Gives a machine that has taken no bit the bits of a line, a piece at a time. Memory is wanting where a piece finds none.
+// Gives a machine that has taken no bit the bits of a line, a piece at a time, or finds no memory for a piece.
 fn deliver(
     alloc: Global,
     line: &[u8],
@@ -135,9 +136,11 @@ fn deliver(
     ensures put { OnOk result (Gains [] (bits_of line.now) (⟦<MemPort as Drain>⟧.outputs port.old) (⟦<MemPort as Drain>⟧.outputs port.new)) }
     ensures list { IsTrue ((⟦<MemPort as Drain>⟧.outputs port.new).holds 0) }
 {
+    let mut bits = Packed::open(alloc, 8 * MOST_OCTETS)?;
     for octets in line.chunks(MOST_OCTETS) {
-        let bits = bits_of(alloc, octets)?;
-        match align.take(&bits, port) {
+        bits.clear();
+        bits.append_bytes(octets);
+        match align.take(&bits, port, &mut Quiet) {
             Ok(()) => (),
             // A payload has fewer bits than its line, for which the port has room.
             Err(_) => unreachable!(),

@@ -8,9 +8,6 @@ use Rattle.pdh_shape.specs.Payload.{is_payload}
 use Rattle.pdh_runs.specs.Pieces.{turn, overhead_before, Assembled}
 
 module _ (s : FrameShape) (first : ℕ) (overhead : List Bool) (columns : List (List Bool)) where
-  pub assembled_none : (bits : List Bool) → Assembled s first (first - first) overhead columns bits
-  assembled_none bits = record { payload = λ v j h. absurd (omega (arith, h)); others = λ v h. absurd (omega (arith, h)) }
-
   pub assembled_push : (t next : ℕ) (bits now : List Bool) (bit : Bool) → first ≤ t → next ≡ t + 1 → length bits ≡ t - first → now ≡ bits ++ bit ∷ []
       → ((j : ℕ) → reads_from j true (s.role t) ≡ true → bit ≡ get_or (get_or columns j []) (turn s t - turn s first) false)
       → (is_payload (s.role t) ≡ false → bit ≡ get_or overhead (overhead_before s t - overhead_before s first) false)

@@ -64,7 +64,3 @@ made_next f n =
 -- one more passes, or none
 pub counted : (p : ℕ → Bool) (n count now : ℕ) (b : Bool) → count ≡ before p n → p n ≡ b → now ≡ count + cond b 1 0 → now ≡ before p (n + 1)
 counted p n count now b is class next = next ∙ ap (λ k. k + cond b 1 0) is ∙ ap (λ b. before p n + cond b 1 0) (sym class) ∙ sym (before_next p n)
-
--- from another number on
-pub counted_from : (p : ℕ → Bool) (from n count now : ℕ) (b : Bool) → before p from + count ≡ before p n → p n ≡ b → now ≡ count + cond b 1 0 → before p from + now ≡ before p (n + 1)
-counted_from p from n count now b is class next = omega (arith, is, next, before_next p n, ap (λ b. 0 + cond b 1 0) class)

@@ -22,14 +22,6 @@ pub one_more_payload : (s : FrameShape) (k count : ℕ) (items : List ℕ) → i
 one_more_payload s k count items are is =
     ap (λ l. l ++ count ∷ []) are ∙ ap (λ n. map (payload_before s) (range_with_len 0 k) ++ n ∷ []) is ∙ sym (made_next (payload_before s) k)
 
-pub overhead_fails : (s : FrameShape) (k : ℕ) (items : List ℕ) → items ≡ picked (is_overhead s) k → is_payload (s.role k) ≡ true → items ≡ picked (is_overhead s) (k + 1)
-overhead_fails s k items are pass =
-    are ∙ sym (picked_next (is_overhead s) k ∙ ap (λ b. picked (is_overhead s) k ++ cond (not b) (k ∷ []) []) pass ∙ append-nil (picked (is_overhead s) k))
-
-pub overhead_passes : (s : FrameShape) (k : ℕ) (items : List ℕ) → items ≡ picked (is_overhead s) k → is_payload (s.role k) ≡ false → items ++ k ∷ [] ≡ picked (is_overhead s) (k + 1)
-overhead_passes s k items are fail =
-    ap (λ l. l ++ k ∷ []) are ∙ sym (picked_next (is_overhead s) k ∙ ap (λ b. picked (is_overhead s) k ++ cond (not b) (k ∷ []) []) fail)
-
 -- ---- bits that are made of slots, one after another
 
 -- a slot that passes gives one bit more
@@ -93,17 +85,6 @@ pub ones_few : (s : FrameShape) (j : ℕ) (frame : List Bool) → HasTributaries
 ones_few s j frame has known = rw (← has.copies j known) (count_and_le (λ slot. controls j (s.role slot)) (λ slot. get_or frame slot false) (slots s))
 
 -- ---- the bits of a tributary
-
-pub differs_turned : (bit inverted : Bool) → not (beq bit inverted) ≡ turned inverted bit
-differs_turned true true = refl
-differs_turned true false = refl
-differs_turned false true = refl
-differs_turned false false = refl
-
--- a tributary has one justifiable slot beside its information slots
-pub reads_few : (s : FrameShape) (j : ℕ) (more : Bool) → HasTributaries s → j < s.tribs → before (λ slot. reads_from j more (s.role slot)) s.len ≤ suc s.low
-reads_few s j true has known = omega (arith, has.high j known)
-reads_few s j false has known = omega (arith, has.low j known)
 
 -- ---- control slots
 

@@ -34,14 +34,6 @@ pick_next p k b old now was is next = next ∙ ap (λ l. l ++ cond b (k ∷ []) 
 
 -- ---- the ends of stretches
 
-pub last_stretch : (s : FrameShape) (t end : ℕ) → suc t ≡ s.len → end ≡ s.len → EndsStretch s t end
-last_stretch s t end last is = record {
-  after = omega (arith, last, is);
-  within = omega (arith, is);
-  same = λ u h h'. (let here : u ≡ t = omega (arith, h, h', last, is) in ap (λ v. is_payload (s.role v)) here);
-  other = λ h. absurd (omega (arith, h, is));
-}
-
 -- the next slot is of the same kind
 pub same_stretch : (s : FrameShape) (t next end : ℕ) → next ≡ t + 1 → is_payload (s.role t) ≡ is_payload (s.role next) → EndsStretch s next end → EndsStretch s t end
 same_stretch s t next end is same rest = record {
@@ -128,12 +120,3 @@ pub role_just : (j : ℕ) (role : Role) → role ≡ Just j → is_just j role �
 role_just j role is = ap (is_just j) is ∙ eq-eqb j j refl
 
 -- ---- the tributaries
-
-pub tributaries_none : (s : FrameShape) (tributaries : List Tributary) → tributaries ≡ [] → AreTributaries s 0 tributaries
-tributaries_none s tributaries is = record { count = ap length is; each = λ j tributary at. each_none (IsTributary s) j tributary (ap (λ l. slice_get l j) (sym is) ∙ at) }
-
-pub tributaries_push : (s : FrameShape) (n : ℕ) (old now : List Tributary) (tributary : Tributary) → AreTributaries s n old → IsTributary s n tributary → now ≡ old ++ tributary ∷ [] → AreTributaries s (n + 1) now
-tributaries_push s n old now tributary are is new = record {
-  count = ap length new ∙ length-append old (tributary ∷ []) ∙ ap (λ k. k + 1) are.count;
-  each = λ j other at. each_push (IsTributary s) old tributary are.each (subst (λ k. IsTributary s k tributary) (sym are.count) is) j other (ap (λ l. slice_get l j) (sym new) ∙ at);
-}

@@ -1,7 +1,10 @@
 -- A frame that is taken apart: its columns, and the bits of a tributary that are read from one.
-use Rattle.std.proofs.Common.{◌≡◌, ℕ, zero, suc, ◌+◌, ◌*◌, ◌<◌, ◌≤◌, Bool, true, false, cond, List, [], ◌∷◌, ◌++◌, length, map, take, drop, get_or, set, refl, sym, ap, ◌∙◌, inl, inr, subst, arith, append_assoc}
-use Rattle.std.specs.Prelude.{◌⊎◌}
-use Rattle.std.proofs.lemmas.Bool.{cases_Bool, cases_eq}
+use Rattle.std.proofs.Common.{◌≡◌, ℕ, zero, suc, ◌+◌, ◌-◌, ◌*◌, ◌<◌, ◌≤◌, Bool, true, false, cond, List, [], ◌∷◌, ◌++◌, length, map, take, drop, get_or, set, refl, sym, ap, ◌∙◌, inl, inr, subst, arith, append_assoc}
+use Rattle.std.specs.Prelude.{◌⊎◌, ◌&&◌, nat_lt, count_by, filter}
+use Rattle.std.specs.List.{range_with_len}
+use Rattle.std.proofs.lemmas.List.Recursion.{is_count_by}
+use Rattle.std.proofs.lemmas.List.Sums.{sum_by-cons}
+use Rattle.std.proofs.lemmas.Bool.{cases_Bool, cases_eq, le-ltb}
 use Rattle.std.proofs.lemmas.List.{map-append, take-map, drop-map, append-nil, length-append, length-map, take_all, drop_all, take-append-le, drop-append-le, take_at, get_or-set_same, get_or-set_other, length-set, get_or-map}
 use Rattle.std.proofs.lemmas.Simd.{map-map}
 use Rattle.pdh_bits.specs.BitOut.{BoundedBits}
@@ -10,8 +13,8 @@ use Rattle.pdh_interleaving.specs.Interleaving.{dealt, column}
 use Rattle.pdh_interleaving.proofs.DealtLaws.{dealt_is, length-dealt, get_or-appended_to_each}
 use Rattle.pdh_shape.specs.declared.role.Role.TheVariants.{Just}
 use Rattle.pdh_shape.specs.Frame.{FrameShape}
-use Rattle.pdh_shape.specs.Tributary.{reads_from, reads_below, turned, bits_read, HasTributaries}
-use Rattle.pdh_shape.specs.Payload.{PayloadInTurn}
+use Rattle.pdh_shape.specs.Tributary.{reads_from, reads_below, turned, bits_read, carries_more, stripped, HasTributaries}
+use Rattle.pdh_shape.specs.Payload.{PayloadInTurn, is_payload, payload_ones}
 use Rattle.pdh_runs.specs.Pieces.{turn}
 use Rattle.pdh_runs.specs.Columns.{payload_slots, payload_bits, trib_bits}
 use Rattle.pdh_runs.specs.Taking.{emptied, HasColumns}
@@ -64,29 +67,6 @@ pub record HasSome (s : FrameShape) (frame : List Bool) (k : ℕ) (columns : Lis
   pub done : (j : ℕ) (d : BoundedBits) → j < k → j < s.tribs → (get_or columns j d).bits ≡ trib_bits s j frame
   pub left : (j : ℕ) (d : BoundedBits) → k ≤ j → j < s.tribs → (get_or columns j d).bits ≡ []
   pub room : (j : ℕ) (d : BoundedBits) → j < s.tribs → suc s.low ≤ (get_or columns j d).capacity
-
-pub one_more_column : (s : FrameShape) (frame : List Bool) (k : ℕ) (columns : List BoundedBits) (held new : BoundedBits) → k < s.tribs → held ≡ get_or columns k held → new ≡ bounded held.capacity (held.bits ++ trib_bits s k frame) → HasSome s frame k columns → HasSome s frame (k + 1) (set columns k new)
-one_more_column s frame k columns held new within is grown some = record {
-  count = length-set columns k new ∙ some.count;
-  done = λ j d h h'. elim (cases_eq j k) [
-    | inl same ↦ subst (λ j. (get_or (set columns k new) j d).bits ≡ trib_bits s j frame) (sym same) (ap (λ (b : BoundedBits). b.bits) (here d) ∙ added)
-    | inr other ↦ ap (λ (b : BoundedBits). b.bits) (get_or-set_other columns k j new d other) ∙ some.done j d (omega (arith, h, other)) h'
-  ];
-  left = λ j d h h'. ap (λ (b : BoundedBits). b.bits) (get_or-set_other columns k j new d (λ same. absurd (omega (arith, same, h)))) ∙ some.left j d (omega (arith, h)) h';
-  room = λ j d h. elim (cases_eq j k) [
-    | inl same ↦ subst (λ j. suc s.low ≤ (get_or (set columns k new) j d).capacity) (sym same) (omega (arith, ap (λ (b : BoundedBits). b.capacity) (here d), ap (λ (b : BoundedBits). b.capacity) grown, some.room k held within, ap (λ (b : BoundedBits). b.capacity) is))
-    | inr other ↦ omega (arith, some.room j d h, ap (λ (b : BoundedBits). b.capacity) (get_or-set_other columns k j new d other))
-  ];
-}
-  where
-    here : (d : BoundedBits) → get_or (set columns k new) k d ≡ new
-    here d = get_or-set_same columns k new d (omega (arith, within, some.count))
-
-    added : new.bits ≡ trib_bits s k frame
-    added = ap (λ (b : BoundedBits). b.bits) grown ∙ ap (λ l. l ++ trib_bits s k frame) (ap (λ (b : BoundedBits). b.bits) is ∙ some.left k held (omega arith) within)
-
-pub all_columns : (s : FrameShape) (frame : List Bool) (k : ℕ) (columns : List BoundedBits) → s.tribs ≤ k → HasSome s frame k columns → HasColumns s frame columns
-all_columns s frame k columns past some = record { count = some.count; each = λ j d h. some.done j d (omega (arith, h, past)) h; room = some.room }
 
 -- ---- the bits that a frame gives a tributary
 
@@ -189,3 +169,62 @@ read_more s j frame = sym (map-map (turned (s.inverted j)) (λ slot. get_or fram
 pub unturned : (bits : List Bool) → map (turned false) bits ≡ bits
 unturned [] = refl
 unturned (bit ∷ bits) = ap (λ (rest : List Bool). bit ∷ rest) (unturned bits)
+
+-- how many bits a frame gives a tributary
+pub length-stripped : (s : FrameShape) (j : ℕ) (frame : List Bool) → HasTributaries s → j < s.tribs → length (stripped s j frame) ≡ cond (carries_more s j frame) (suc s.low) s.low
+unfolding stripped
+length-stripped s j frame has known = by_more (carries_more s j frame)
+  where
+    by_more : (more : Bool) → length (bits_read s j more frame) ≡ cond more (suc s.low) s.low
+    by_more true = length-map (picked (λ slot. reads_from j true (s.role slot)) s.len) (λ slot. turned (s.inverted j) (get_or frame slot false)) ∙ length-picked (λ slot. reads_from j true (s.role slot)) s.len ∙ has.high j known
+    by_more false = length-map (picked (λ slot. reads_from j false (s.role slot)) s.len) (λ slot. turned (s.inverted j) (get_or frame slot false)) ∙ length-picked (λ slot. reads_from j false (s.role slot)) s.len ∙ has.low j known
+
+pub few_bits : (more : Bool) (n low : ℕ) → n ≡ cond more (suc low) low → n ≤ suc low
+few_bits true n low e = omega (arith, e)
+few_bits false n low e = omega (arith, e)
+
+pub both_same : (b : Bool) (n : ℕ) → cond b n n ≡ n
+both_same true n = refl
+both_same false n = refl
+
+-- behind the justifiable slot a bit stands a turn later, where that is empty
+pub later_turn : (more : Bool) (k q low low' n len : ℕ) → n ≡ cond more (suc low) low → q ≤ k → low' ≡ low → len ≡ n → k + (low' + 1 - len) ≡ cond more k (cond (nat_lt k q) k (suc k))
+later_turn true k q low low' n len long behind is count = omega (arith, long, is, count)
+later_turn false k q low low' n len long behind is count =
+    let one : suc k ≡ k + (low' + 1 - len) = omega (arith, long, is, count) in
+    sym (ap (λ b. cond b k (suc k)) (le-ltb k q behind) ∙ one)
+
+-- ---- the parity of the payload
+
+count_bit : (b : Bool) (bits : List Bool) → count_by (λ (v : Bool). v) (b ∷ bits) ≡ cond b (1 + count_by (λ (v : Bool). v) bits) (count_by (λ (v : Bool). v) bits)
+count_bit true bits = sum_by-cons (λ (v : Bool). cond v 1 0) true bits
+count_bit false bits = sum_by-cons (λ (v : Bool). cond v 1 0) false bits ∙ none (count_by (λ (v : Bool). v) bits)
+  where
+    none : (n : ℕ) → 0 + n ≡ n
+    none n = omega arith
+
+-- the ones of a frame's payload are those of its payload bits
+pub ones_are : (s : FrameShape) (frame : List Bool) → length frame ≡ s.len → payload_ones s 0 frame ≡ count_by (λ (v : Bool). v) (payload_bits s frame)
+ones_are s frame whole =
+    ap (λ n. count_by (λ v. get_or frame v false && is_payload (s.role (0 + v))) (range_with_len 0 n)) whole
+    ∙ sym (is_count_by (λ xs. count_by (λ (v : Bool). v) (map (λ slot. get_or frame slot false) (filter (λ slot. is_payload (s.role slot)) xs))) (λ v. get_or frame v false && is_payload (s.role (0 + v))) refl step (range_with_len 0 s.len))
+  where
+    one : (q : Bool) (x : ℕ) (ys : List ℕ) → count_by (λ (v : Bool). v) (map (λ slot. get_or frame slot false) (cond q (x ∷ ys) ys))
+        ≡ cond (get_or frame x false && q) (1 + count_by (λ (v : Bool). v) (map (λ slot. get_or frame slot false) ys)) (count_by (λ (v : Bool). v) (map (λ slot. get_or frame slot false) ys))
+    one true x ys = count_bit (get_or frame x false) (map (λ slot. get_or frame slot false) ys) ∙ ap (λ b. cond b (1 + count_by (λ (v : Bool). v) (map (λ slot. get_or frame slot false) ys)) (count_by (λ (v : Bool). v) (map (λ slot. get_or frame slot false) ys))) (and_yes (get_or frame x false))
+      where
+        and_yes : (b : Bool) → b ≡ (b && true)
+        and_yes true = refl
+        and_yes false = refl
+    one false x ys = ap (λ b. cond b (1 + count_by (λ (v : Bool). v) (map (λ slot. get_or frame slot false) ys)) (count_by (λ (v : Bool). v) (map (λ slot. get_or frame slot false) ys))) (and_no (get_or frame x false))
+      where
+        and_no : (b : Bool) → false ≡ (b && false)
+        and_no true = refl
+        and_no false = refl
+
+    step : (x : ℕ) (xs : List ℕ) → count_by (λ (v : Bool). v) (map (λ slot. get_or frame slot false) (filter (λ slot. is_payload (s.role slot)) (x ∷ xs)))
+        ≡ cond (get_or frame x false && is_payload (s.role (0 + x))) (1 + count_by (λ (v : Bool). v) (map (λ slot. get_or frame slot false) (filter (λ slot. is_payload (s.role slot)) xs))) (count_by (λ (v : Bool). v) (map (λ slot. get_or frame slot false) (filter (λ slot. is_payload (s.role slot)) xs)))
+    step x xs =
+        let e : 0 + x ≡ x = omega arith in
+        one (is_payload (s.role x)) x (filter (λ slot. is_payload (s.role slot)) xs)
+        ∙ ap (λ t. cond (get_or frame x false && is_payload (s.role t)) (1 + count_by (λ (v : Bool). v) (map (λ slot. get_or frame slot false) (filter (λ slot. is_payload (s.role slot)) xs))) (count_by (λ (v : Bool). v) (map (λ slot. get_or frame slot false) (filter (λ slot. is_payload (s.role slot)) xs)))) (sym e)

@@ -1,8 +1,10 @@
 //! Frames taken apart into a column for each tributary.
 
-ghost use Rattle.std.specs.Prelude.{◌≡◌, ◌<◌, ◌≤◌, ◌+◌, ◌*◌, true, [], length, map, replicate, All, IfOk};
+ghost use Rattle.std.specs.Prelude.{◌≡◌, ◌<◌, ◌≤◌, ◌+◌, ◌*◌, ◌%◌, ◌==◌, true, [], length, map, replicate, All, IfOk};
 ghost use Rattle.pdh_shape.specs.Tributary.{stripped};
-ghost use Rattle.pdh_runs.specs.Taking.{emptied, HasColumns};
+ghost use Rattle.pdh_shape.specs.Payload.{payload_ones};
+ghost use Rattle.pdh_runs.specs.Columns.{payload_bits};
+ghost use Rattle.pdh_runs.specs.Taking.{emptied, HasColumns, StandsInTurn};
 
 use crate::layout::Layout;
 use crate::turns::{append_turned, append_without};
@@ -83,7 +85,7 @@ fn clear_all(lists: &mut [Packed])
     }
 }
 
-// Takes a frame apart: fills the column of each tributary. What is in `payload` is lost.
+// Takes a frame apart: its payload, and from that the column of each tributary. What was in `payload` is lost.
 fn take_apart<S: Shape>(
     layout: &Layout<S>,
     frame: &Packed,
@@ -95,12 +97,13 @@ fn take_apart<S: Shape>(
     requires tributaries { length columns.old ≡ S.TRIBS }
     requires room { All (λ column. S.LOW + 1 ≤ column.capacity) columns.old }
     ensures scratch { payload.new.capacity ≡ payload.old.capacity }
+    ensures payload { payload.new.bits ≡ payload_bits S.shape frame.now.bits }
     ensures columns { HasColumns S.shape frame.now.bits columns.new }
 {
     clear_all(columns);
+    payload.clear();
+    layout.append_payload(frame, payload);
     if matches!(columns.len(), 4 | 7) {
-        payload.clear();
-        layout.append_payload(frame, payload);
         deal(payload, 0, S::LOW as usize + 1, columns);
     } else {
         append_tribs(layout, frame, columns);
@@ -180,6 +183,34 @@ impl<S: Shape> Parts<S> {
             Some(trib) => &self.columns[trib as usize],
             None => &self.bits,
         }
+    }
+
+    /// The frame.
+    pub fn frame(&self) -> &Packed
+        ensures { result.now.bits ≡ self.now.frame }
+    {
+        &self.frame
+    }
+
+    /// Whether the payload of the frame holds an odd number of ones.
+    pub fn is_odd(&self) -> bool
+        ensures { result ≡ (payload_ones S.shape 0 self.now.frame % 2 == 1) }
+    {
+        self.payload.is_odd(0, self.payload.len())
+    }
+
+    /// In which turn a bit stands of the tributary that was read last.
+    pub fn turn(&self, trib: u8, place: usize) -> usize
+        requires known { trib < S.TRIBS }
+        requires read { self.now.bits ≡ stripped S.shape trib self.now.frame }
+        requires inside { place < length self.now.bits }
+        ensures { StandsInTurn S.shape trib self.now.frame place result }
+    {
+        let just = usize::from(self.layout.tributary(trib).just);
+        if place < just {
+            return place;
+        }
+        place + (S::LOW as usize + 1 - self.bits().len())
     }
 
     /// As many ones as a frame carries bits of a tributary at least.

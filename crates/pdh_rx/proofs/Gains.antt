@@ -1,5 +1,5 @@
 -- Calls that follow each other in giving bits to the children.
-use Rattle.std.proofs.Common.{min, ◌-◌, ◌^◌, zero, suc, length, cond, slice_get, arith, ◌≡◌, ℕ, ◌+◌, ◌<◌, ◌≤◌, Bool, List, [], ◌∷◌, ◌++◌, refl, sym, ◌∙◌, ap, subst, append_assoc, Option, Some, None, Result, Ok, Err, OnOk, OnErr}
+use Rattle.std.proofs.Common.{zero, suc, length, cond, slice_get, arith, ◌≡◌, ℕ, ◌<◌, Bool, List, [], ◌∷◌, ◌++◌, refl, sym, ◌∙◌, ap, subst, append_assoc, Option, Some, None, Result, Ok, Err, OnOk, OnErr}
 use Rattle.std.proofs.lemmas.List.{append-nil}
 use Rattle.pdh_edge.specs.Ports.{Outputs, PrefixOf, IsPrefix, after, nothing}
 use Rattle.pdh_rx.specs.Meaning.{Meaning, Gains, GainsPart}

@@ -1,11 +1,18 @@
 pub mod Tails
-pub mod Children
+pub mod OneChild
 pub mod Gains
+pub mod Keeping
 pub mod Playing
 pub mod SlotActs
-pub mod FrameBits
-pub mod StepBits
 pub mod StepActs
 pub mod NodeSteps
 pub mod NodePlays
 mod Shares
+pub mod Ahead
+pub mod Places
+pub mod QuietNode
+pub mod FramePlaces
+pub mod Standing
+pub mod DueLaws
+pub mod Watched
+pub mod Fitting

@@ -1,9 +1,9 @@
 -- One more received bit of a demultiplexer.
-use Rattle.std.proofs.Common.{◌≡◌, inl, inr, ℕ, suc, ◌+◌, ◌*◌, ◌-◌, ◌/◌, ◌%◌, ◌^◌, ◌<◌, ◌≤◌, min, ◌==◌, Bool, true, cond, List, [], ◌∷◌, ◌++◌, length, map, replicate, refl, sym, ◌∙◌, ap, subst, arith, append_assoc}
+use Rattle.std.proofs.Common.{◌≡◌, inl, inr, ℕ, suc, ◌+◌, ◌*◌, ◌-◌, ◌/◌, ◌%◌, ◌^◌, ◌<◌, min, ◌==◌, Bool, true, cond, List, [], ◌∷◌, ◌++◌, length, map, replicate, refl, sym, ◌∙◌, ap, arith, append_assoc}
 use Rattle.std.specs.Prelude.{flat_map, count_by}
 use Rattle.std.proofs.lemmas.List.{append-nil, length-map, replicate-append-replicate}
 use Rattle.std.proofs.lemmas.Grind.{flat_map-append}
-use Rattle.std.proofs.lemmas.Bool.{cases_eq, cases_lt, eq-eqb, ne_eqb, false≢true}
+use Rattle.std.proofs.lemmas.Bool.{cases_eq, eq-eqb, ne_eqb, false≢true}
 use Rattle.std.proofs.lemmas.Nat.{div-mul-add, mod-mul-add}
 use Rattle.std.proofs.Math.Nat.{zero-div, suc-mul}
 use Rattle.pdh_edge.specs.Ports.{Outputs}
@@ -16,13 +16,13 @@ use Rattle.pdh_line.specs.Receiving.{piece_bits, received}
 use Rattle.pdh_align.specs.declared.step.Step.{Step}
 use Rattle.pdh_align.specs.declared.step.Step.TheVariants.{Nothing, Rejected, Aligned, Frame, Lost}
 use Rattle.pdh_align.specs.Aligning.{Held, StandsFor, Grows, Tracks, Waits, Passes, frames_gained}
-use Rattle.pdh_rx.specs.Meaning.{Meaning, Gains, GainsPart, TakesBits, TakesPart}
+use Rattle.pdh_rx.specs.Meaning.{Meaning, Gains, GainsPart}
 use Rattle.pdh_events.specs.Acts.{with_more}
-use Rattle.pdh_rx.specs.Node.{EachStands, IsDisjoint, received_lines, node_meaning, Gives, GivesPart, frames_bits, gap_after, gap_passed, frames_after, step_bits, IsGap, frames_counted, NodeStands}
+use Rattle.pdh_rx.specs.Node.{EachStands, received_lines, node_meaning, Gives, GivesPart, frames_bits, gap_after, frames_after, step_bits, IsGap, frames_counted, NodeTracks}
 use Rattle.pdh_rx.specs.laws.NodeLaws.{got_by_same}
 use Rattle.pdh_line.proofs.DeliveredLaws.{count_append, count_frames, count_gap, frames_delivered-le}
 use Rattle.pdh_line.proofs.RightLines.{piece_bits_gap, track-short, received-short}
-use Rattle.pdh_rx.proofs.Gains.{each_same, gains_nothing, gains_is, part_is}
+use Rattle.pdh_rx.proofs.Gains.{each_same, gains_is, part_is}
 
 -- ---- what a step gives
 
@@ -189,19 +189,18 @@ frames_exact s line shape short = omega (arith, short, frames_delivered-le s lin
 -- ---- the whole
 
 module _ {C : Type 0} (stands : C → List Bool → Type 0) (meaning : C → Meaning) (s : FrameShape) (path : Path) (shape : IsFrame s) (children : List C) (held held' : Held) (gap frames : ℕ) (step : Step) (bit : Bool) (line : List Bool)
-    (node : NodeStands stands meaning s children held gap frames line) (tracks : Tracks s held held' bit step line) (gap' : ℕ) (now : gap' ≡ gap_after s step gap) where
+    (node : NodeTracks stands meaning s children held gap frames line) (tracks : Tracks s held held' bit step line) (gap' : ℕ) (now : gap' ≡ gap_after s step gap) where
   received_more : (j : ℕ) → received_lines s (line ++ bit ∷ []) j ≡ with_more (received_lines s line) (step_bits s step held'.ready gap') j
   received_more j =
       received_is s j (line ++ bit ∷ []) ∙ pieces_gain s j step held'.ready (track s line) (track s (line ++ bit ∷ [])) gap shape node.gap_is tracks.grows
       ∙ ap (λ v. v ++ step_bits s step held'.ready (gap_after s step gap) j) (sym (received_is s j line))
       ∙ ap (λ v. received_lines s line j ++ step_bits s step held'.ready v j) (sym now)
 
-  pub node_stands : (new : List C) (frames' : ℕ) (o p : Outputs) → frames' ≡ frames_after step frames → map meaning new ≡ map meaning children
+  pub node_tracks : (new : List C) (frames' : ℕ) (o p : Outputs) → frames' ≡ frames_after step frames → map meaning new ≡ map meaning children
       → Gives stands (map meaning children) (step_bits s step held'.ready gap') children new o p
-      → NodeStands stands meaning s new held' gap' frames' (line ++ bit ∷ [])
-  node_stands new frames' o p delivers same gives = record {
+      → NodeTracks stands meaning s new held' gap' frames' (line ++ bit ∷ [])
+  node_tracks new frames' o p delivers same gives = record {
     count = sym (length-map new meaning) ∙ ap length same ∙ length-map children meaning ∙ node.count;
-    disjoint = (let P : List Meaning → Type 0 = IsDisjoint in subst P (sym same) node.disjoint);
     each = each_same stands new _ _ (λ j. sym (received_more j)) (gives.each (received_lines s line) node.each);
     aligner = tracks.stands;
     inside = (let below = gap_inside s step gap node.inside in omega (arith, now, below));
@@ -220,18 +219,17 @@ module _ {C : Type 0} (stands : C → List Bool → Type 0) (meaning : C → Mea
 -- ---- bits at which no frame ends
 
 module _ {C : Type 0} (stands : C → List Bool → Type 0) (meaning : C → Meaning) (s : FrameShape) (children : List C) (held held' : Held) (gap frames : ℕ) (bits line : List Bool)
-    (node : NodeStands stands meaning s children held gap frames line) (waits : Waits s held' bits line) where
-  received_same : (j : ℕ) → received_lines s (line ++ bits) j ≡ received_lines s line j
+    (node : NodeTracks stands meaning s children held gap frames line) (waits : Waits s held' bits line) where
+  pub received_same : (j : ℕ) → received_lines s (line ++ bits) j ≡ received_lines s line j
   received_same j = received_is s j (line ++ bits) ∙ ap (flat_map (piece_bits s j)) waits.same ∙ sym (received_is s j line)
 
   counted_same : frames_counted s line ≡ frames_counted s (line ++ bits)
   unfolding frames_counted frames_delivered
   counted_same = ap (λ p. min (count_by is_delivered p) (2 ^ 64 - 1)) (sym waits.same)
 
-  node_waits : NodeStands stands meaning s children held' gap frames (line ++ bits)
+  pub node_waits : NodeTracks stands meaning s children held' gap frames (line ++ bits)
   node_waits = record {
     count = node.count;
-    disjoint = node.disjoint;
     each = each_same stands children _ _ (λ j. sym (received_same j)) node.each;
     aligner = waits.stands;
     inside = node.inside;
@@ -239,84 +237,35 @@ module _ {C : Type 0} (stands : C → List Bool → Type 0) (meaning : C → Mea
     frames_are = node.frames_are ∙ counted_same;
   }
 
--- a demultiplexer that took them gives nothing
-pub takes_waiting : {C : Type 0} (stands : C → List Bool → Type 0) (meaning : C → Meaning) (s : FrameShape) (path : Path) (children : List C) (held held' : Held) (gap frames : ℕ) (bits : List Bool) (o : Outputs)
-    → ((line : List Bool) → StandsFor s held line → Waits s held' bits line)
-    → TakesBits (node_meaning s path (map meaning children)) bits (λ line. NodeStands stands meaning s children held gap frames line) (λ line. NodeStands stands meaning s children held' gap frames line) o o
-takes_waiting stands meaning s path children held held' gap frames bits o waits = record {
-  stands = λ line node. node_waits stands meaning s children held held' gap frames bits line node (waits line node.aligner);
-  gains = λ line node. gains_nothing _ _ o (λ k. got_by_same (map meaning children) _ _ (received_same stands meaning s children held held' gap frames bits line node (waits line node.aligner)) k);
-}
+-- ---- positions of a gap that are passed over at once, short of a whole frame's length of it
 
--- ---- positions of a gap that are passed over at once
-
--- so many positions more give a frame's ones where they complete a frame's length
-gap_more_by : (s : FrameShape) (j n gap k : ℕ) (ready : List (List Bool)) → IsFrame s → gap ≡ n % s.len → 0 < k → gap + k ≤ s.len
-    → piece_bits s j (Gap (n + k)) ≡ piece_bits s j (Gap n) ++ step_bits s Rejected ready (gap_passed s gap k) j
-gap_more_by s j n gap k ready shape is some upto =
+-- they give nothing
+gap_stays : (s : FrameShape) (j n gap k : ℕ) → IsFrame s → gap ≡ n % s.len → gap + k < s.len → piece_bits s j (Gap (n + k)) ≡ piece_bits s j (Gap n)
+gap_stays s j n gap k shape is short =
     let q : ℕ = n / s.len in
     let place : q * s.len + gap ≡ n = (let whole : n / s.len * s.len + n % s.len ≡ n = omega arith in ap (λ v. q * s.len + v) is ∙ whole) in
-    elim (cases_eq (gap + k) s.len) [
-      | inl last ↦
-          let next : n + k ≡ suc q * s.len + 0 = omega (arith, place, last, suc-mul q s.len) in
-          let quotient : (n + k) / s.len ≡ suc q = ap (λ v. v / s.len) next ∙ div-mul-add (suc q) s.len 0 shape.some_slots in
-          let more : suc q * s.low ≡ q * s.low + s.low = suc-mul q s.low in
-          let now : gap_passed s gap k ≡ 0 = ap (λ b. cond b 0 (gap + k)) (eq-eqb (gap + k) s.len last) in
-          piece_bits_gap s j (n + k) ∙ ap (λ v. replicate (v * s.low) true) quotient ∙ ap (λ v. replicate v true) more
-          ∙ sym (replicate-append-replicate (q * s.low) s.low true) ∙ ap (λ v. v ++ replicate s.low true) (sym (piece_bits_gap s j n))
-          ∙ ap (λ v. piece_bits s j (Gap n) ++ cond (v == 0) (replicate s.low true) []) (sym now)
-      | inr more ↦
-          let next : n + k ≡ q * s.len + (gap + k) = omega (arith, place) in
-          let quotient : (n + k) / s.len ≡ q = ap (λ v. v / s.len) next ∙ div-mul-add q s.len (gap + k) (below (gap + k) s.len upto more) in
-          let now : gap_passed s gap k ≡ gap + k = ap (λ b. cond b 0 (gap + k)) (ne_eqb (gap + k) s.len more) in
-          piece_bits_gap s j (n + k) ∙ ap (λ v. replicate (v * s.low) true) quotient ∙ sym (piece_bits_gap s j n) ∙ sym (append-nil (piece_bits s j (Gap n)))
-          ∙ ap (λ b. piece_bits s j (Gap n) ++ cond b (replicate s.low true) []) (sym (ap (λ v. v == 0) now ∙ ne_eqb (gap + k) 0 (λ e. omega (arith, some, e))))
-    ]
-  where
-    below : (a b : ℕ) → a ≤ b → (a ≡ b → ⊥) → a < b
-    below a b le ne = elim (cases_lt a b) [
-      | inl lt ↦ lt
-      | inr ge ↦ absurd (ne (omega (arith, le, ge)))
-    ]
+    let next : n + k ≡ q * s.len + (gap + k) = omega (arith, place) in
+    let quotient : (n + k) / s.len ≡ q = ap (λ v. v / s.len) next ∙ div-mul-add q s.len (gap + k) short in
+    piece_bits_gap s j (n + k) ∙ ap (λ v. replicate (v * s.low) true) quotient ∙ sym (piece_bits_gap s j n)
 
-mod_by : (s : FrameShape) (n gap k : ℕ) → IsFrame s → gap ≡ n % s.len → gap + k ≤ s.len → gap_passed s gap k ≡ (n + k) % s.len
-mod_by s n gap k shape is upto =
+mod_by : (s : FrameShape) (n gap k : ℕ) → gap ≡ n % s.len → gap + k < s.len → gap + k ≡ (n + k) % s.len
+mod_by s n gap k is short =
     let q : ℕ = n / s.len in
     let place : q * s.len + gap ≡ n = (let whole : n / s.len * s.len + n % s.len ≡ n = omega arith in ap (λ v. q * s.len + v) is ∙ whole) in
-    elim (cases_eq (gap + k) s.len) [
-      | inl last ↦
-          let next : n + k ≡ suc q * s.len + 0 = omega (arith, place, last, suc-mul q s.len) in
-          ap (λ b. cond b 0 (gap + k)) (eq-eqb (gap + k) s.len last) ∙ sym (ap (λ v. v % s.len) next ∙ mod-mul-add (suc q) s.len 0 shape.some_slots)
-      | inr more ↦
-          let next : n + k ≡ q * s.len + (gap + k) = omega (arith, place) in
-          ap (λ b. cond b 0 (gap + k)) (ne_eqb (gap + k) s.len more) ∙ sym (ap (λ v. v % s.len) next ∙ mod-mul-add q s.len (gap + k) (below (gap + k) s.len upto more))
-    ]
-  where
-    below : (a b : ℕ) → a ≤ b → (a ≡ b → ⊥) → a < b
-    below a b le ne = elim (cases_lt a b) [
-      | inl lt ↦ lt
-      | inr ge ↦ absurd (ne (omega (arith, le, ge)))
-    ]
+    let next : n + k ≡ q * s.len + (gap + k) = omega (arith, place) in
+    sym (ap (λ v. v % s.len) next ∙ mod-mul-add q s.len (gap + k) short)
 
-passed_inside : (s : FrameShape) (gap k : ℕ) → IsFrame s → gap + k ≤ s.len → gap_passed s gap k < s.len
-passed_inside s gap k shape upto = elim (cases_eq (gap + k) s.len) [
-  | inl last ↦ let now : gap_passed s gap k ≡ 0 = ap (λ b. cond b 0 (gap + k)) (eq-eqb (gap + k) s.len last) in omega (arith, now, shape.some_slots)
-  | inr more ↦ let now : gap_passed s gap k ≡ gap + k = ap (λ b. cond b 0 (gap + k)) (ne_eqb (gap + k) s.len more) in omega (arith, now, upto, more)
-]
-
-module _ {C : Type 0} (stands : C → List Bool → Type 0) (meaning : C → Meaning) (s : FrameShape) (shape : IsFrame s) (children : List C) (held held' : Held) (gap frames gap' : ℕ) (ready : List (List Bool)) (bits line : List Bool)
-    (node : NodeStands stands meaning s children held gap frames line) (passes : Passes s held' bits line) (some : 0 < length bits) (upto : gap + length bits ≤ s.len) (now : gap' ≡ gap_passed s gap (length bits)) where
-  received_passed : (j : ℕ) → received_lines s (line ++ bits) j ≡ with_more (received_lines s line) (step_bits s Rejected ready gap') j
+module _ {C : Type 0} (stands : C → List Bool → Type 0) (meaning : C → Meaning) (s : FrameShape) (shape : IsFrame s) (children : List C) (held held' : Held) (gap frames : ℕ) (bits line : List Bool)
+    (node : NodeTracks stands meaning s children held gap frames line) (passes : Passes s held' bits line) (short : gap + length bits < s.len) where
+  pub received_passed : (j : ℕ) → received_lines s (line ++ bits) j ≡ received_lines s line j
   received_passed j =
       let f : Piece → List Bool = piece_bits s j in
       let others : List Bool = flat_map f passes.others in
-      let more : List Bool = step_bits s Rejected ready (gap_passed s gap (length bits)) j in
       let single : (n : ℕ) → flat_map f (passes.others ++ Gap n ∷ []) ≡ others ++ f (Gap n) =
       λ n. flat_map-append f passes.others (Gap n ∷ []) ∙ ap (λ x. others ++ x) (append-nil (f (Gap n))) in
       received_is s j (line ++ bits) ∙ ap (flat_map f) passes.is ∙ single (passes.gap + length bits)
-      ∙ ap (λ x. others ++ x) (gap_more_by s j passes.gap gap (length bits) ready shape (node.gap_is passes.others passes.gap passes.was) some upto)
-      ∙ sym (append_assoc others (f (Gap passes.gap)) more) ∙ ap (λ x. x ++ more) (sym (received_is s j line ∙ ap (flat_map f) passes.was ∙ single passes.gap))
-      ∙ ap (λ v. received_lines s line j ++ step_bits s Rejected ready v j) (sym now)
+      ∙ ap (λ x. others ++ x) (gap_stays s j passes.gap gap (length bits) shape (node.gap_is passes.others passes.gap passes.was) short)
+      ∙ sym (received_is s j line ∙ ap (flat_map f) passes.was ∙ single passes.gap)
 
   counted_passed : frames_counted s line ≡ frames_counted s (line ++ bits)
   unfolding frames_counted frames_delivered
@@ -326,36 +275,17 @@ module _ {C : Type 0} (stands : C → List Bool → Type 0) (meaning : C → Mea
       let same : count_by is_delivered (track s line) ≡ count_by is_delivered (track s (line ++ bits)) = omega (arith, a, b, count_gap passes.gap, count_gap (passes.gap + length bits)) in
       ap (λ n. min n (2 ^ 64 - 1)) same
 
-  node_passed : (new : List C) (o p : Outputs) → map meaning new ≡ map meaning children → Gives stands (map meaning children) (step_bits s Rejected ready gap') children new o p → NodeStands stands meaning s new held' gap' frames (line ++ bits)
-  node_passed new o p same gives = record {
-    count = sym (length-map new meaning) ∙ ap length same ∙ length-map children meaning ∙ node.count;
-    disjoint = (let P : List Meaning → Type 0 = IsDisjoint in subst P (sym same) node.disjoint);
-    each = each_same stands new _ _ (λ j. sym (received_passed j)) (gives.each (received_lines s line) node.each);
+  pub node_passed : NodeTracks stands meaning s children held' (gap + length bits) frames (line ++ bits)
+  node_passed = record {
+    count = node.count;
+    each = each_same stands children _ _ (λ j. sym (received_passed j)) node.each;
     aligner = passes.stands;
-    inside = (let below = passed_inside s gap (length bits) shape upto in omega (arith, now, below));
+    inside = short;
     gap_is = λ others n e.
         let same : Gap (passes.gap + length bits) ≡ Gap n = same_last passes.others others (Gap (passes.gap + length bits)) (Gap n) (sym passes.is ∙ e) in
-        now ∙ mod_by s passes.gap gap (length bits) shape (node.gap_is passes.others passes.gap passes.was) upto ∙ ap (λ p. gap_number p % s.len) same;
+        mod_by s passes.gap gap (length bits) (node.gap_is passes.others passes.gap passes.was) short ∙ ap (λ p. gap_number p % s.len) same;
     frames_are = node.frames_are ∙ counted_passed;
   }
-
--- a demultiplexer that took them gives the ones of a whole frame's length
-pub takes_passing : {C : Type 0} (stands : C → List Bool → Type 0) (meaning : C → Meaning) (s : FrameShape) (path : Path) (shape : IsFrame s) (children new : List C) (held held' : Held) (gap frames gap' : ℕ) (ready : List (List Bool)) (bits : List Bool) (o p : Outputs)
-    → ((line : List Bool) → StandsFor s held line → Passes s held' bits line) → 0 < length bits → gap + length bits ≤ s.len → gap' ≡ gap_passed s gap (length bits) → map meaning new ≡ map meaning children
-    → Gives stands (map meaning children) (step_bits s Rejected ready gap') children new o p
-    → TakesBits (node_meaning s path (map meaning children)) bits (λ line. NodeStands stands meaning s children held gap frames line) (λ line. NodeStands stands meaning s new held' gap' frames line) o p
-takes_passing stands meaning s path shape children new held held' gap frames gap' ready bits o p passes some upto now same gives = record {
-  stands = λ line node. node_passed stands meaning s shape children held held' gap frames gap' ready bits line node (passes line node.aligner) some upto now new o p same gives;
-  gains = λ line node. gains_is _ _ _ o p (λ k. got_by_same (map meaning children) _ _ (received_passed stands meaning s shape children held held' gap frames gap' ready bits line node (passes line node.aligner) some upto now) k) (gives.gains (received_lines s line) node.each);
-}
-
-pub part_passing : {C : Type 0} (stands : C → List Bool → Type 0) (meaning : C → Meaning) (s : FrameShape) (path : Path) (shape : IsFrame s) (children : List C) (held held' : Held) (gap frames gap' : ℕ) (ready : List (List Bool)) (bits : List Bool) (o p : Outputs)
-    → ((line : List Bool) → StandsFor s held line → Passes s held' bits line) → 0 < length bits → gap + length bits ≤ s.len → gap' ≡ gap_passed s gap (length bits)
-    → GivesPart stands (map meaning children) (step_bits s Rejected ready gap') children o p
-    → TakesPart (node_meaning s path (map meaning children)) bits (λ line. NodeStands stands meaning s children held gap frames line) o p
-part_passing stands meaning s path shape children held held' gap frames gap' ready bits o p passes some upto now gives = record {
-  gains = λ line node. part_is _ _ _ o p (λ k. got_by_same (map meaning children) _ _ (received_passed stands meaning s shape children held held' gap frames gap' ready bits line node (passes line node.aligner) some upto now) k) (gives.gains (received_lines s line) node.each);
-}
 
 -- ---- the start
 
@@ -370,11 +300,10 @@ no_frames : (s : FrameShape) → IsFrame s → 0 ≡ frames_counted s []
 unfolding frames_counted frames_delivered
 no_frames s shape = sym (ap (λ p. min (count_by is_delivered p) (2 ^ 64 - 1)) (track_none s shape) ∙ ap (λ n. min n (2 ^ 64 - 1)) (count_gap 0))
 
-pub opened : {C : Type 0} (stands : C → List Bool → Type 0) (meaning : C → Meaning) (s : FrameShape) → IsFrame s → (children : List C) (held : Held) → length children ≡ s.tribs → IsDisjoint (map meaning children)
-    → EachStands stands children (λ j. []) → StandsFor s held [] → NodeStands stands meaning s children held 0 0 []
-opened stands meaning s shape children held count disjoint each aligner = record {
+pub opened : {C : Type 0} (stands : C → List Bool → Type 0) (meaning : C → Meaning) (s : FrameShape) → IsFrame s → (children : List C) (held : Held) → length children ≡ s.tribs
+    → EachStands stands children (λ j. []) → StandsFor s held [] → NodeTracks stands meaning s children held 0 0 []
+opened stands meaning s shape children held count each aligner = record {
   count = count;
-  disjoint = disjoint;
   each = each_same stands children _ _ (λ j. received_none s j shape) each;
   aligner = aligner;
   inside = shape.some_slots;

@@ -1,5 +1,5 @@
 -- The slots of a frame one after another: what each makes a demultiplexer do, and what that gives its tributaries.
-use Rattle.std.proofs.Common.{◌≡◌, inl, inr, ℕ, suc, ◌+◌, ◌-◌, ◌<◌, Bool, true, false, ◌&&◌, ◌==◌, cond, List, [], ◌∷◌, ◌++◌, length, map, filter, Some, None, refl, sym, ap, ◌∙◌, subst, arith, slice_index_or, take, drop, append_assoc}
+use Rattle.std.proofs.Common.{◌≡◌, inl, inr, ℕ, suc, ◌+◌, ◌-◌, ◌<◌, Bool, true, false, ◌&&◌, ◌==◌, cond, List, [], ◌∷◌, ◌++◌, length, map, filter, refl, sym, ap, ◌∙◌, subst, slice_index_or, take, drop, append_assoc}
 use Rattle.std.specs.Prelude.{flat_map}
 use Rattle.std.proofs.lemmas.List.{append-nil, map-append, take_more, take-append-drop}
 use Rattle.std.proofs.lemmas.Bool.{cases_eq, ne_eqb, eq-eqb}
@@ -8,55 +8,15 @@ use Rattle.pdh_shape.specs.declared.place.Path.{Path}
 use Rattle.pdh_shape.specs.declared.role.Role.{Role}
 use Rattle.pdh_shape.specs.declared.role.Role.TheVariants.{Align, Service, Control, Just, Info}
 use Rattle.pdh_shape.specs.Frame.{FrameShape, slots}
-use Rattle.pdh_shape.specs.Tributary.{reads_from, turned, carries_more, stripped, HasTributaries}
+use Rattle.pdh_shape.specs.Tributary.{reads_from, turned, carries_more, stripped}
 use Rattle.pdh_line.specs.Tracking.{Piece}
 use Rattle.pdh_line.specs.Tracking.Piece.{Delivered}
 use Rattle.pdh_align.specs.Aligning.{frame_back}
 use Rattle.pdh_events.specs.Duties.{frame_events}
 use Rattle.pdh_events.specs.Acts.{Act, role_acts, carries_at, slot_acts, frame_acts, frames_acts}
-use Rattle.pdh_events.specs.Acts.Act.{Note, Give}
+use Rattle.pdh_events.specs.Acts.Act.{Note}
 use Rattle.pdh_events.specs.laws.ActsLaws.{bits_to, bits_to-append, bits_to-notes, bits_to-each}
-use Rattle.pdh_rx.specs.Node.{read_of, names_below, frames_bits}
-
--- ---- one slot
-
-some_same : (i k : ℕ) → Some i ≡ Some k → i ≡ k
-some_same i k e = cc
-
-none_some : (i : ℕ) → None ≡ Some i → ⊥
-none_some i e = cc
-
-pub read_acts : (s : FrameShape) (role : Role) (more bit : Bool) (i : ℕ) → read_of role more ≡ Some i → role_acts s role more bit ≡ Give i (turned (s.inverted i) bit) ∷ []
-read_acts s (Info k) more bit i e = ap (λ v. Give v (turned (s.inverted v) bit) ∷ []) (some_same k i e)
-read_acts s (Just k) true bit i e = ap (λ v. Give v (turned (s.inverted v) bit) ∷ []) (some_same k i e)
-read_acts s (Just k) false bit i e = absurd (none_some i e)
-read_acts s (Control k copy) more bit i e = absurd (none_some i e)
-read_acts s (Align x) more bit i e = absurd (none_some i e)
-read_acts s (Service n) more bit i e = absurd (none_some i e)
-
-some_none : (i : ℕ) → Some i ≡ None → ⊥
-some_none i e = cc
-
-pub no_acts : (s : FrameShape) (role : Role) (more bit : Bool) → read_of role more ≡ None → role_acts s role more bit ≡ []
-no_acts s (Info k) more bit e = absurd (some_none k e)
-no_acts s (Just k) true bit e = absurd (some_none k e)
-no_acts s (Just k) false bit e = refl
-no_acts s (Control k copy) more bit e = refl
-no_acts s (Align x) more bit e = refl
-no_acts s (Service n) more bit e = refl
-
--- what a slot makes a node do, by what was read of it
-pub slot_read : (s : FrameShape) (frame : List Bool) (t : ℕ) (role : Role) (more bit : Bool) → role ≡ s.role t → more ≡ carries_at s frame role → bit ≡ slice_index_or frame t false → slot_acts s frame t ≡ role_acts s role more bit
-slot_read s frame t role more bit is decides read =
-    sym (ap (λ b. role_acts s role more b) read ∙ ap (λ m. role_acts s role m (slice_index_or frame t false)) decides ∙ ap (λ r. role_acts s r (carries_at s frame r) (slice_index_or frame t false)) is)
-
--- a slot names a tributary that the shape has
-pub names_known : (s : FrameShape) (t n : ℕ) (role : Role) → HasTributaries s → t < s.len → role ≡ s.role t → s.tribs ≡ n → names_below role n
-names_known s t n (Info j) has inside is tribs = let known : j < s.tribs = has.info_known t j inside (sym is) in omega (arith, known, tribs)
-names_known s t n (Just j) has inside is tribs = let known : j < s.tribs = has.just_known t j inside (sym is) in omega (arith, known, tribs)
-names_known s t n (Control j copy) has inside is tribs = tt
-names_known s t n (Align x) has inside is tribs = tt
-names_known s t n (Service k) has inside is tribs = tt
+use Rattle.pdh_rx.specs.Node.{frames_bits}
 
 -- ---- what the slots of a frame give
 

@@ -244,7 +244,7 @@ ones_each : (xs : List ℕ) → flat_map (λ round. true ∷ []) xs ≡ replicat
 ones_each [] = refl
 ones_each (x ∷ xs) = ap (λ v. true ∷ v) (ones_each xs)
 
-rounds_give : (s : FrameShape) (j n : ℕ) → j < s.tribs → bits_to (rounds_acts s n) j ≡ replicate n true
+pub rounds_give : (s : FrameShape) (j n : ℕ) → j < s.tribs → bits_to (rounds_acts s n) j ≡ replicate n true
 rounds_give s j n known =
     bits_to-each (λ round. round_acts s) j (λ round. true ∷ []) (λ round. round_one j s.tribs known) (range_with_len 0 n)
     ∙ ones_each (range_with_len 0 n) ∙ ap (λ k. replicate k true) (length-range 0 n)

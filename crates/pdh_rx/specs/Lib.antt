@@ -1,4 +1,5 @@
 pub mod Meaning
 pub mod Tail
 pub mod Node
+pub mod Places
 pub mod laws

@@ -1,7 +1,8 @@
 -- What a tree of demultiplexers gives and notes, by the list of received bits.
-use Rattle.std.specs.Prelude.{◌≡◌, ℕ, Bool, false, List, [], ◌++◌, Option}
+use Rattle.std.specs.Prelude.{◌≡◌, ℕ, Bool, false, List, [], ◌∷◌, ◌++◌, Option}
 use Rattle.pdh_shape.specs.declared.place.Path.{Path}
 use Rattle.pdh_watch.specs.declared.event.Event.{Event}
+use Rattle.pdh_events.specs.laws.QuietLaws.{IsQuiet}
 use Rattle.pdh_edge.specs.Leaves.{HaveLists}
 use Rattle.pdh_edge.specs.Ports.{Outputs, Puts, PutsPart, IsPrefix}
 
@@ -44,3 +45,9 @@ pub record TakesBits (m : Meaning) (bits : List Bool) (was is : List Bool → Ty
 -- the same where a call failed
 pub record TakesPart (m : Meaning) (bits : List Bool) (was : List Bool → Type 0) (old new : Outputs) : Type 0 where
   pub gains : (line : List Bool) → was line → GainsPart (m.got line) (m.got (line ++ bits)) old new
+
+-- a receiver with this meaning took these bits, by none of which anything is noted, and by which leaves gained nothing
+pub record TakesQuietly (m : Meaning) (bits : List Bool) (was is : List Bool → Type 0) : Type 0 where
+  pub stands : (line : List Bool) → was line → is (line ++ bits)
+  pub same : (line : List Bool) → was line → (k : ℕ) → m.got (line ++ bits) k ≡ m.got line k
+  pub quiet : (line : List Bool) → was line → IsQuiet m.notes line bits

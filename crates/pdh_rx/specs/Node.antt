@@ -1,12 +1,10 @@
 -- A demultiplexer over children: what each of them receives, what leaves get by that, and the events.
-use Rattle.std.specs.Prelude.{◌≡◌, ℕ, zero, suc, ◌+◌, ◌%◌, ◌^◌, ◌-◌, ◌<◌, min, Bool, true, List, [], ◌∷◌, ◌++◌, length, map, if◌then◌else◌, slice_get, Some, None, Option, flat_map, replicate, ◌==◌}
+use Rattle.std.specs.Prelude.{◌≡◌, ℕ, zero, suc, ◌+◌, ◌%◌, ◌^◌, ◌-◌, ◌<◌, min, Bool, true, List, [], ◌∷◌, ◌++◌, length, map, if◌then◌else◌, slice_get, Some, Result, flat_map, replicate, ◌==◌}
 use Rattle.pdh_shape.specs.declared.place.Path.{Path}
-use Rattle.pdh_shape.specs.declared.role.Role.{Role}
-use Rattle.pdh_shape.specs.declared.role.Role.TheVariants.{Info, Just}
 use Rattle.pdh_shape.specs.Frame.{FrameShape}
 use Rattle.pdh_shape.specs.Tributary.{stripped}
 use Rattle.pdh_edge.specs.Leaves.{any_below, NoneShared}
-use Rattle.pdh_edge.specs.Ports.{Outputs}
+use Rattle.pdh_edge.specs.Ports.{Outputs, HasCause}
 use Rattle.pdh_watch.specs.declared.kind.TheConstants.Kind.{ALIGNED, LOST}
 use Rattle.pdh_watch.specs.declared.event.Event.{Event}
 use Rattle.pdh_watch.specs.Seen.{SawPart}
@@ -22,7 +20,7 @@ use Rattle.pdh_events.specs.Keeping.{OnesRun, CountsOnes, Kept, Remembers}
 use Rattle.pdh_events.specs.Acts.{Act, with_more, frames_acts, rounds_acts, bit_acts, acts_events}
 use Rattle.pdh_events.specs.Acts.Act.{Note}
 use Rattle.pdh_events.specs.laws.ActsLaws.{bits_to}
-use Rattle.pdh_rx.specs.Meaning.{Meaning, Gains, GainsPart}
+use Rattle.pdh_rx.specs.Meaning.{Meaning, HoldsAll, Gains, GainsPart}
 
 -- each child stands for its line
 abbrev pub EachStands : {C : Type 0} → (C → List Bool → Type 0) → List C → (ℕ → List Bool) → Type 0
@@ -63,7 +61,36 @@ node_meaning s path ms = record {
 abbrev pub ArePlaced : Path → List Meaning → Type 0
 ArePlaced = StandBelow (λ (m : Meaning). m.path) (λ below. below)
 
--- ---- calls that give the children bits
+-- ---- the children
+
+-- the children of a node of so many tributaries: one for each, and no leaf below two of them
+pub record AreChildren (tribs : ℕ) (ms : List Meaning) : Type 0 where
+  pub count : length ms ≡ tribs
+  pub disjoint : IsDisjoint ms
+
+-- they can take bits: each stands for a line, and each leaf below them has a list
+pub record AreReady {C : Type 0} (stands : C → List Bool → Type 0) (meaning : C → Meaning) (children : List C) (outputs : Outputs) : Type 0 where
+  pub lines : ℕ → List Bool
+  pub each : EachStands stands children lines
+  pub lists : HoldsAll (any_leaf (map meaning children)) outputs
+
+-- ---- room for bits of them
+
+-- there is room for so many bits of child j
+abbrev pub ChildFits : {C : Type 0} → (C → (ℕ → ℕ) → ℕ → Type 0) → List C → ℕ → (ℕ → ℕ) → ℕ → Type 0
+ChildFits {C} fits children j room bits = (c : C) → slice_get children j ≡ Some c → fits c room bits
+
+-- there is room for so many bits of each
+abbrev pub AllFit : {C : Type 0} → (C → (ℕ → ℕ) → ℕ → Type 0) → List C → (ℕ → ℕ) → ℕ → Type 0
+AllFit fits children room bits = (j : ℕ) → ChildFits fits children j room bits
+
+-- ---- calls that give them bits
+
+-- whatever comes of such a call: no meaning changed, only what a drain's calls change did, and the one that failed was counted
+pub record Keeps {C D T E : Type 0} (meaning : C → Meaning) (faults : D → ℕ) (drained : D → D → Type 0) (old new : List C) (before after : D) (result : Result T E) : Type 0 where
+  pub same : map meaning new ≡ map meaning old
+  pub drains : drained before after
+  pub cause : HasCause (faults before) (faults after) result
 
 -- each child got its bits of these, and what leaves got by that was put to their lists
 pub record Gives {C : Type 0} (stands : C → List Bool → Type 0) (ms : List Meaning) (more : ℕ → List Bool) (old new : List C) (before after : Outputs) : Type 0 where
@@ -77,28 +104,28 @@ pub record GivesPart {C : Type 0} (stands : C → List Bool → Type 0) (ms : Li
 -- ---- calls in which a node acts
 
 -- A node acted so: each child got its bits, what leaves got by that was put to their lists, and the watch saw the events.
-pub record Plays {C W : Type 0} (tells : C → List Bool → Type 0) (saw : W → List Event → W → Type 0) (ms : List Meaning) (acts : List Act) (old new : List C) (before after : Outputs) (was is : W) : Type 0 where
-  pub gives : Gives tells ms (bits_to acts) old new before after
-  pub sees : (lines : ℕ → List Bool) → EachStands tells old lines → saw was (acts_events (child_notes ms) lines acts) is
+pub record Plays {C W : Type 0} (stands : C → List Bool → Type 0) (saw : W → List Event → W → Type 0) (ms : List Meaning) (acts : List Act) (old new : List C) (before after : Outputs) (was is : W) : Type 0 where
+  pub gives : Gives stands ms (bits_to acts) old new before after
+  pub sees : (lines : ℕ → List Bool) → EachStands stands old lines → saw was (acts_events (child_notes ms) lines acts) is
 
 -- the same where a call failed: a prefix was put, and a prefix of the events seen
-pub record PlaysPart {C W : Type 0} (tells : C → List Bool → Type 0) (saw : W → List Event → W → Type 0) (ms : List Meaning) (acts : List Act) (old : List C) (before after : Outputs) (was is : W) : Type 0 where
-  pub gives : GivesPart tells ms (bits_to acts) old before after
-  pub sees : (lines : ℕ → List Bool) → EachStands tells old lines → SawPart saw was (acts_events (child_notes ms) lines acts) is
+pub record PlaysPart {C W : Type 0} (stands : C → List Bool → Type 0) (saw : W → List Event → W → Type 0) (ms : List Meaning) (acts : List Act) (old : List C) (before after : Outputs) (was is : W) : Type 0 where
+  pub gives : GivesPart stands ms (bits_to acts) old before after
+  pub sees : (lines : ℕ → List Bool) → EachStands stands old lines → SawPart saw was (acts_events (child_notes ms) lines acts) is
 
--- ---- a slot of a frame
+-- a call failed at one of these acts: those before it were played, of it a prefix, and none behind it
+pub record PlaysUpTo {C W : Type 0} (stands : C → List Bool → Type 0) (saw : W → List Event → W → Type 0) (ms : List Meaning) (acts : List Act) (old : List C) (before after : Outputs) (was is : W) : Type 0 where
+  pub done : List Act
+  pub failed : Act
+  pub left : List Act
+  pub acts_are : acts ≡ done ++ failed ∷ left
+  pub between : List C
+  pub middle : Outputs
+  pub heard : W
+  pub played : Plays stands saw ms done old between before middle was heard
+  pub part : PlaysPart stands saw ms (failed ∷ []) between middle after heard is
 
--- the tributary whose bit a slot of this role carries, in a frame that carries an additional bit of it or doesn't
-abbrev pub read_of : Role → Bool → Option ℕ
-read_of (Info j) more = Some j
-read_of (Just j) more = (if more then Some j else None)
-read_of _ more = None
-
--- the tributary whose bit a slot may carry is below this number
-abbrev pub names_below : Role → ℕ → Type 0
-names_below (Info j) n = j < n
-names_below (Just j) n = j < n
-names_below _ n = Unit {0}
+-- ---- a step of the alignment machine
 
 -- what the ready frames give each tributary
 abbrev pub frames_bits : FrameShape → List (List Bool) → ℕ → List Bool
@@ -108,17 +135,11 @@ frames_bits s frames j = flat_map (stripped s j) frames
 abbrev pub ones_bits : FrameShape → ℕ → List Bool
 ones_bits s j = replicate s.low true
 
--- ---- a step of the alignment machine
-
 -- how many positions of a gap were passed over since the last whole frame's length of it
 abbrev pub gap_after : FrameShape → Step → ℕ → ℕ
 gap_after s Rejected gap = (if suc gap == s.len then 0 else suc gap)
 gap_after s Lost gap = 0
 gap_after s _ gap = gap
-
--- how many, after so many positions more
-abbrev pub gap_passed : FrameShape → ℕ → ℕ → ℕ
-gap_passed s gap count = (if gap + count == s.len then 0 else gap + count)
 
 -- how many frames are delivered
 abbrev pub frames_after : Step → ℕ → ℕ
@@ -156,19 +177,18 @@ IsGap s gap pieces = (others : List Piece) (n : ℕ) → pieces ≡ others ++ Ga
 unfoldable pub frames_counted : FrameShape → List Bool → ℕ
 frames_counted s line = min (frames_delivered s line) (2 ^ 64 - 1)
 
--- what a demultiplexer's state is, after these received bits
-pub record NodeStands {C : Type 0} (stands : C → List Bool → Type 0) (meaning : C → Meaning) (s : FrameShape) (children : List C) (held : Held) (gap frames : ℕ) (line : List Bool) : Type 0 where
+-- what a demultiplexer's children and its aligner are, after these received bits
+pub record NodeTracks {C : Type 0} (stands : C → List Bool → Type 0) (meaning : C → Meaning) (s : FrameShape) (children : List C) (held : Held) (gap frames : ℕ) (line : List Bool) : Type 0 where
   pub count : length children ≡ s.tribs
-  pub disjoint : IsDisjoint (map meaning children)
   pub each : EachStands stands children (received_lines s line)
   pub aligner : StandsFor s held line
   pub inside : gap < s.len
   pub gap_is : IsGap s gap (track s line)
   pub frames_are : frames ≡ frames_counted s line
 
--- and where it has taken them one by one: what it keeps to tell their events
-pub record NodeTells {C : Type 0} (tells : C → List Bool → Type 0) (meaning : C → Meaning) (s : FrameShape) (children : List C) (held : Held) (gap frames bits : ℕ) (ais : OnesRun) (kept : Kept) (line : List Bool) : Type 0 where
-  pub node : NodeStands tells meaning s children held gap frames line
+-- what its state is: these, and what it keeps to tell events
+pub record NodeStands {C : Type 0} (stands : C → List Bool → Type 0) (meaning : C → Meaning) (s : FrameShape) (children : List C) (held : Held) (gap frames bits : ℕ) (ais : OnesRun) (kept : Kept) (line : List Bool) : Type 0 where
+  pub node : NodeTracks stands meaning s children held gap frames line
   pub bits_are : bits ≡ next_bit line
   pub long_is : ais.long ≡ s.len
   pub ones_are : CountsOnes ais line

@@ -1,62 +1,43 @@
-//! Giving bits to one child.
+//! Giving a receiver the bits of a list, with the events that they bring.
 
-ghost use Rattle.std.specs.Prelude.{◌≡◌, ◌<◌, ℕ, suc, Bool, List, [], ◌∷◌, length, map, OnOk, OnErr};
-ghost use Rattle.pdh_edge.specs.Ports.{HasCause, for_leaf};
-ghost use Rattle.pdh_events.specs.Acts.Act.{Give};
-ghost use Rattle.pdh_rx.specs.Meaning.{HoldsAll};
-ghost use Rattle.pdh_rx.specs.Node.{EachStands, IsDisjoint, any_leaf, Plays, PlaysPart, Gives, GivesPart};
+ghost use Rattle.std.specs.Prelude.{◌≡◌, Bool, List, OnOk, OnErr};
+ghost use Rattle.pdh_edge.specs.Ports.{HasCause};
+ghost use Rattle.pdh_watch.specs.Seen.{SawPart};
+ghost use Rattle.pdh_rx.specs.Meaning.{HoldsAll, TakesBits, TakesPart};
+ghost use Rattle.pdh_events.specs.Chain.{bits_events};
 
 use crate::Rx;
 use pdh_edge::{Drain, Failed};
 use pdh_packed::Packed;
 use pdh_watch::Watch;
 
-// Gives a bit to one of the children.
-pub(crate) fn push_to<C: Rx, D: Drain, W: Watch>(
-    children: &mut Vec<C>,
-    trib: u8,
-    bit: bool,
+/// Gives a receiver the bits of a list, and shows a watch the events that they bring. It fails only where the drain failed.
+pub fn take_watched<R: Rx, D: Drain, W: Watch>(
+    receiver: &mut R,
+    bits: &Packed,
     drain: &mut D,
     watch: &mut W,
 ) -> Result<(), Failed>
-    requires known { trib < length children.old.items }
-    requires tells { (lines : ℕ → List Bool) × EachStands C.tells children.old.items lines }
-    requires lists { HoldsAll (any_leaf (map C.meaning children.old.items)) (D.outputs drain.old) }
-    requires disjoint { IsDisjoint (map C.meaning children.old.items) }
-    ensures played { OnOk result (Plays C.tells W.saw (map C.meaning children.old.items)
-        (Give trib bit ∷ [])
-        children.old.items children.new.items (D.outputs drain.old) (D.outputs drain.new)
-        watch.old watch.new) }
-    ensures part { OnErr result (PlaysPart C.tells W.saw (map C.meaning children.old.items)
-        (Give trib bit ∷ [])
-        children.old.items (D.outputs drain.old) (D.outputs drain.new) watch.old watch.new) }
+    requires stands { (line : List Bool) × R.stands receiver.old line }
+    requires lists { HoldsAll (R.meaning receiver.old).leaves (D.outputs drain.old) }
+    ensures taken { OnOk result (TakesBits (R.meaning receiver.old) bits.now.bits (R.stands receiver.old) (R.stands receiver.new)
+        (D.outputs drain.old) (D.outputs drain.new)) }
+    ensures part { OnErr result (TakesPart (R.meaning receiver.old) bits.now.bits (R.stands receiver.old)
+        (D.outputs drain.old) (D.outputs drain.new)) }
+    ensures seen { OnOk result ((line : List Bool) → R.stands receiver.old line
+        → W.saw watch.old (bits_events (R.meaning receiver.old).notes line bits.now.bits) watch.new) }
+    ensures seen_err { OnErr result ((line : List Bool) → R.stands receiver.old line
+        → SawPart W.saw watch.old (bits_events (R.meaning receiver.old).notes line bits.now.bits) watch.new) }
     ensures cause { HasCause (D.drain_faults drain.old) (D.drain_faults drain.new) result }
     ensures drained { D.drained drain.old drain.new }
-    ensures same { map C.meaning children.new.items ≡ map C.meaning children.old.items }
+    ensures same { R.meaning receiver.new ≡ R.meaning receiver.old }
 {
-    let child = &mut children[trib as usize];
-    child.push(bit, drain, watch)
-}
-
-// Gives bits to one of the children.
-pub(crate) fn take_to<C: Rx, D: Drain>(
-    children: &mut Vec<C>,
-    trib: u8,
-    bits: &Packed,
-    drain: &mut D,
-) -> Result<(), Failed>
-    requires known { trib < length children.old.items }
-    requires stands { (lines : ℕ → List Bool) × EachStands C.stands children.old.items lines }
-    requires lists { HoldsAll (any_leaf (map C.meaning children.old.items)) (D.outputs drain.old) }
-    requires disjoint { IsDisjoint (map C.meaning children.old.items) }
-    ensures given { OnOk result (Gives C.stands (map C.meaning children.old.items)
-        (for_leaf trib bits.now.bits)
-        children.old.items children.new.items (D.outputs drain.old) (D.outputs drain.new)) }
-    ensures part { OnErr result (GivesPart C.stands (map C.meaning children.old.items)
-        (for_leaf trib bits.now.bits) children.old.items (D.outputs drain.old) (D.outputs drain.new)) }
-    ensures cause { HasCause (D.drain_faults drain.old) (D.drain_faults drain.new) result }
-    ensures drained { D.drained drain.old drain.new }
-    ensures same { map C.meaning children.new.items ≡ map C.meaning children.old.items }
-{
-    children[trib as usize].take(bits, drain)
+    let len = bits.len();
+    let mut done = receiver.glide(bits, 0, drain)?;
+    while done < len {
+        receiver.push(bits.get(done), drain, watch)?;
+        done += 1;
+        done += receiver.glide(bits, done, drain)?;
+    }
+    Ok(())
 }

@@ -1,17 +1,19 @@
-//! Demultiplexers that take a line bit by bit or many bits at a time: a tree of nodes over leaves that put bits to a drain.
+//! Demultiplexers that take a line many bits at a time, and a bit that may bring events by itself: a
+//! tree of nodes over leaves that put bits to a drain.
 //! A node knows its children by their calls alone, and the crate no file and no chain by its name.
 #![tactic(auto)]
 
-mod frame_copy;
+mod children;
 mod frames;
 mod giving;
+mod merging;
 mod node;
-mod parts;
+mod rounds;
 mod rx;
-mod slots;
 mod strip;
 mod tail;
 
+pub use giving::take_watched;
 pub use node::RxNode;
 pub use rx::Rx;
 pub use tail::Tail;

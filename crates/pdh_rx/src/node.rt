@@ -1,23 +1,20 @@
 //! The demultiplexer: an aligner, and a receiver for each tributary.
 
-ghost use Rattle.std.specs.Prelude.{◌≡◌, ◌<◌, ◌≤◌, ◌+◌, ℕ, All, Bool, List, [], ◌∷◌, ◌++◌, length, take, drop, map, IfOk, OnOk, OnErr};
-ghost use Rattle.pdh_edge.specs.Ports.{HasCause};
-ghost use Rattle.pdh_rx.specs.Meaning.{Meaning, HoldsAll, Gains, GainsPart, TakesBits, TakesPart};
-ghost use Rattle.pdh_rx.specs.Node.{EachStands, IsDisjoint, ArePlaced, node_meaning, NodeStands, NodeTells, gap_after as gap_after_step, gap_passed as gap_passed_over, frames_after as frames_after_step, frames_counted};
-ghost use Rattle.pdh_rx.specs.laws.NodeLaws.{node_sound, node_told_stands};
+ghost use Rattle.std.specs.Prelude.{◌≡◌, ◌<◌, ◌≤◌, ◌+◌, Bool, List, [], length, take, drop, map, IfOk, false};
+ghost use Rattle.pdh_rx.specs.Meaning.{TakesQuietly};
+ghost use Rattle.pdh_rx.specs.Node.{EachStands, IsDisjoint, ArePlaced, node_meaning, NodeStands, gap_after as gap_after_step, frames_after as frames_after_step, frames_counted};
+ghost use Rattle.pdh_rx.specs.laws.NodeLaws.{node_sound, fewer_than_none};
 
 use crate::Rx;
-use crate::frame_copy::FrameCopy;
-use crate::frames::act;
-use crate::parts::give_parts;
-use crate::strip::Strip;
+use crate::children::Children;
+use crate::frames::{LineBit, act};
+use crate::merging::Split;
 use pdh_align::{Aligner, Step};
 use pdh_edge::{Drain, Failed};
 use pdh_events::{AisRun, FrameTeller};
 use pdh_packed::Packed;
 use pdh_runs::Layout;
 use pdh_shape::{Path, Shape};
-use pdh_slots::SlotTables;
 use pdh_watch::Watch;
 use std::alloc::{AllocError, Global};
 use std::marker::PhantomData;
@@ -35,18 +32,6 @@ fn gap_after<S: Shape>(step: Step, gap: u32) -> u32
     }
 }
 
-// How many positions of a gap are passed over after so many more, since the last whole frame's length.
-fn gap_passed<S: Shape>(gap: u32, count: usize) -> u32
-    requires { gap + count ≤ S.LEN }
-    ensures { result ≡ gap_passed_over S.shape gap count }
-{
-    let passed = gap as usize + count;
-    if passed == S::LEN as usize {
-        return 0;
-    }
-    passed as u32
-}
-
 // How many frames are delivered after a step.
 fn frames_after(step: Step, frames: u64) -> u64
     ensures { result ≡ frames_after_step step frames }
@@ -60,24 +45,21 @@ fn frames_after(step: Step, frames: u64) -> u64
 
 /// A demultiplexer, which gives each of its children the received line of a tributary: for each whole
 /// frame's length of a gap of the alignment as many ones as a frame carries bits of it at least, and
-/// of each delivered frame its own bits. Where it takes bits one by one it notes AIS, alignment and
-/// its loss, and the events of each delivered frame.
+/// of each delivered frame its own bits. It notes AIS, alignment and its loss, and the events of each
+/// delivered frame.
 pub struct RxNode<S: Shape, C: Rx> {
-    children: Vec<C>,
+    children: Children<S, C>,
     path: Path,
     aligner: Aligner<S>,
-    // what takes the frames apart that come in calls of `take`
-    strip: Strip<S>,
+    // what splits the frames among the tributaries
+    split: Split<S>,
     // how many positions of a gap were passed over since its last whole frame's length
     gap: u32,
     frames: u64,
-    // what tells events, which goes on only with bits that are taken one by one: the number of the next
-    // bit, which stands at `u64::MAX`,
+    // what tells events: the number of the next bit, which stands at `u64::MAX`,
     bits: u64,
     // the ones that the line ends with,
     ais: AisRun,
-    // the frame that is told of,
-    copy: FrameCopy<S>,
     // and what is kept of the delivered frames
     teller: FrameTeller<S>,
     of: PhantomData<S>,
@@ -89,12 +71,11 @@ impl<S: Shape, C: Rx> Drop for RxNode<S, C> {
             children: _,
             path: _,
             aligner: _,
-            strip: _,
+            split: _,
             gap: _,
             frames: _,
             bits: _,
             ais: _,
-            copy: _,
             teller: _,
             of: _,
         } = self;
@@ -104,37 +85,33 @@ impl<S: Shape, C: Rx> Drop for RxNode<S, C> {
 impl<S: Shape, C: Rx> RxNode<S, C> {
     /// A demultiplexer of children that have taken no bit, one for each tributary, which has taken no
     /// bit; or it finds no memory. `path` is its place in a chain: a child that is a demultiplexer has
-    /// this path with its number, from 1, added. `tables` and `layout` may be shared with other nodes.
+    /// this path with its number, from 1, added. `layout` may be shared with other nodes.
     pub fn open(
         alloc: Global,
         path: Path,
-        tables: Rc<SlotTables<S>>,
         layout: Rc<Layout<S>>,
         children: Vec<C>,
     ) -> Result<RxNode<S, C>, AllocError>
         requires count { length children.items ≡ S.TRIBS }
-        requires fresh { EachStands C.tells children.items (λ j. []) }
+        requires fresh { EachStands C.stands children.items (λ j. []) }
         requires disjoint { IsDisjoint (map C.meaning children.items) }
         requires paths { ArePlaced path (map C.meaning children.items) }
         ensures meaning { IfOk result (λ node. ⟦<RxNode<S, C> as Rx>⟧.meaning node
             ≡ node_meaning S.shape path (map C.meaning children.items)) }
         ensures stands { IfOk result (λ node. ⟦<RxNode<S, C> as Rx>⟧.stands node []) }
-        ensures tells { IfOk result (λ node. ⟦<RxNode<S, C> as Rx>⟧.tells node []) }
     {
         let aligner = Aligner::open(alloc)?;
-        let strip = Strip::open(alloc, layout)?;
-        let copy = FrameCopy::open(alloc, tables)?;
-        let teller = FrameTeller::open(alloc)?;
+        let teller = FrameTeller::open(alloc, &layout)?;
+        let split = Split::open(alloc, layout)?;
         Ok(RxNode {
-            children,
+            children: Children::new(children),
             path,
             aligner,
-            strip,
+            split,
             gap: 0,
             frames: 0,
             bits: 0,
             ais: AisRun::new(S::LEN),
-            copy,
             teller,
             of: PhantomData,
         })
@@ -148,84 +125,76 @@ impl<S: Shape, C: Rx> RxNode<S, C> {
         self.frames
     }
 
-    // Takes a bit of the line, and gives each child its bits of what is ready in one call.
-    fn end_frame<D: Drain>(&mut self, bit: bool, drain: &mut D) -> Result<(), Failed>
-        requires stands { (line : List Bool) × ⟦<RxNode<S, C> as Rx>⟧.stands self.old line }
-        requires lists { HoldsAll (⟦<RxNode<S, C> as Rx>⟧.meaning self.old).leaves (D.outputs drain.old) }
-        ensures taken { OnOk result (TakesBits (⟦<RxNode<S, C> as Rx>⟧.meaning self.old) (bit ∷ [])
-            (⟦<RxNode<S, C> as Rx>⟧.stands self.old) (⟦<RxNode<S, C> as Rx>⟧.stands self.new)
-            (D.outputs drain.old) (D.outputs drain.new)) }
-        ensures part { OnErr result (TakesPart (⟦<RxNode<S, C> as Rx>⟧.meaning self.old) (bit ∷ [])
-            (⟦<RxNode<S, C> as Rx>⟧.stands self.old)
-            (D.outputs drain.old) (D.outputs drain.new)) }
-        ensures cause { HasCause (D.drain_faults drain.old) (D.drain_faults drain.new) result }
-        ensures drained { D.drained drain.old drain.new }
+    // Takes bits from a place on, none or more of those by which it notes nothing and gives its children nothing. It answers
+    // how many.
+    fn wait(&mut self, bits: &Packed, from: usize) -> usize
+        requires begun { from ≤ length bits.now.bits }
+        ensures count { from + result ≤ length bits.now.bits }
+        ensures taken { TakesQuietly (⟦<RxNode<S, C> as Rx>⟧.meaning self.old) (take result (drop from bits.now.bits))
+            (⟦<RxNode<S, C> as Rx>⟧.stands self.old) (⟦<RxNode<S, C> as Rx>⟧.stands self.new) }
         ensures same { ⟦<RxNode<S, C> as Rx>⟧.meaning self.new ≡ ⟦<RxNode<S, C> as Rx>⟧.meaning self.old }
     {
-        let ended = self.aligner.push(bit);
-        self.gap = gap_after::<S>(ended, self.gap);
-        self.frames = frames_after(ended, self.frames);
-        give_parts::<S, C, D>(
-            &mut self.children,
-            &mut self.strip,
-            &self.aligner,
-            ended,
-            self.gap,
-            drain,
-        )
+        let most = (bits.len() - from).min(S::LEN as usize);
+        let calm = self.ais.calm(bits, from, most);
+        let count = self.aligner.take(bits, from, calm);
+        self.ais.skip(bits, from, count);
+        self.bits = self.bits.saturating_add(count as u64);
+        count
     }
 
-    // Takes bits from a place on, at least one: those at which positions of a gap are passed over, or
-    // the one that may end a frame. It answers how many.
-    fn advance<D: Drain>(
-        &mut self,
-        bits: &Packed,
-        from: usize,
-        drain: &mut D,
-    ) -> Result<usize, Failed>
-        requires some { from < length bits.now.bits }
-        requires stands { (line : List Bool) × ⟦<RxNode<S, C> as Rx>⟧.stands self.old line }
-        requires lists { HoldsAll (⟦<RxNode<S, C> as Rx>⟧.meaning self.old).leaves (D.outputs drain.old) }
-        ensures count { IfOk result (λ count. (0 < count) × (from + count ≤ length bits.now.bits)) }
-        ensures taken { IfOk result (λ count. TakesBits (⟦<RxNode<S, C> as Rx>⟧.meaning self.old)
-            (take count (drop from bits.now.bits))
-            (⟦<RxNode<S, C> as Rx>⟧.stands self.old) (⟦<RxNode<S, C> as Rx>⟧.stands self.new)
-            (D.outputs drain.old) (D.outputs drain.new)) }
-        ensures part { OnErr result (TakesPart (⟦<RxNode<S, C> as Rx>⟧.meaning self.old)
-            (drop from bits.now.bits) (⟦<RxNode<S, C> as Rx>⟧.stands self.old)
-            (D.outputs drain.old) (D.outputs drain.new)) }
-        ensures cause { HasCause (D.drain_faults drain.old) (D.drain_faults drain.new) result }
-        ensures drained { D.drained drain.old drain.new }
+    // The same where a search passes over positions of a gap, short of a whole frame's length of it.
+    fn pass_gap(&mut self, bits: &Packed, from: usize) -> usize
+        requires begun { from ≤ length bits.now.bits }
+        requires inside { self.old.gap < S.LEN }
+        ensures count { from + result ≤ length bits.now.bits }
+        ensures taken { TakesQuietly (⟦<RxNode<S, C> as Rx>⟧.meaning self.old) (take result (drop from bits.now.bits))
+            (⟦<RxNode<S, C> as Rx>⟧.stands self.old) (⟦<RxNode<S, C> as Rx>⟧.stands self.new) }
         ensures same { ⟦<RxNode<S, C> as Rx>⟧.meaning self.new ≡ ⟦<RxNode<S, C> as Rx>⟧.meaning self.old }
     {
-        let passed = self.aligner.pass(bits, from, (S::LEN - self.gap) as usize);
-        if passed == 0 {
-            self.end_frame(bits.get(from), drain)?;
-            return Ok(1);
+        let most = (bits.len() - from).min((S::LEN - 1 - self.gap) as usize);
+        let calm = self.ais.calm(bits, from, most);
+        let count = self.aligner.pass(bits, from, calm);
+        if count == 0 {
+            return 0;
         }
-        self.gap = gap_passed::<S>(self.gap, passed);
-        give_parts::<S, C, D>(
-            &mut self.children,
-            &mut self.strip,
-            &self.aligner,
-            Step::Rejected,
-            self.gap,
-            drain,
-        )?;
-        Ok(passed)
+        self.gap += count as u32;
+        self.ais.skip(bits, from, count);
+        self.bits = self.bits.saturating_add(count as u64);
+        count
+    }
+
+    // The same in either way.
+    fn idle(&mut self, bits: &Packed, from: usize) -> usize
+        requires begun { from ≤ length bits.now.bits }
+        requires stands { (line : List Bool) × ⟦<RxNode<S, C> as Rx>⟧.stands self.old line }
+        ensures count { from + result ≤ length bits.now.bits }
+        ensures taken { TakesQuietly (⟦<RxNode<S, C> as Rx>⟧.meaning self.old) (take result (drop from bits.now.bits))
+            (⟦<RxNode<S, C> as Rx>⟧.stands self.old) (⟦<RxNode<S, C> as Rx>⟧.stands self.new) }
+        ensures same { ⟦<RxNode<S, C> as Rx>⟧.meaning self.new ≡ ⟦<RxNode<S, C> as Rx>⟧.meaning self.old }
+    {
+        let waited = self.wait(bits, from);
+        if waited > 0 {
+            return waited;
+        }
+        self.pass_gap(bits, from)
     }
 }
 
 impl<S: Shape, C: Rx> Rx for RxNode<S, C> {
-    ghost stands = { λ n line. NodeStands C.stands C.meaning S.shape n.children.items n.aligner n.gap n.frames line };
+    ghost IS_LEAF = { false };
 
-    ghost tells = { λ n line. NodeTells C.tells C.meaning S.shape n.children.items n.aligner n.gap n.frames n.bits n.ais n.teller line };
+    const IS_LEAF: bool = false;
 
-    ghost meaning = { λ n. node_meaning S.shape n.path (map C.meaning n.children.items) };
+    ghost stands = { λ n line. NodeStands C.stands C.meaning S.shape n.children n.aligner n.gap n.frames n.bits n.ais n.teller line };
 
-    ghost told_stands = { λ n line told. node_told_stands C.tells C.stands C.told_stands C.meaning S.shape n.children.items n.aligner n.gap n.frames n.bits n.ais n.teller line told };
+    ghost meaning = { λ n. node_meaning S.shape n.path (map C.meaning n.children) };
 
-    ghost sound = { λ n. node_sound C.meaning C.sound S.shape S.is_frame n.path n.children.items };
+    // no room is told to suffice for bits of a node
+    ghost fits = { λ n room bits. bits ≡ 0 };
+
+    ghost sound = { λ n. node_sound C.meaning C.sound S.shape S.is_frame n.path n.children };
+
+    ghost fits_by = { λ n r r' b b' same few none. fewer_than_none b b' few none };
 
     fn push<D: Drain, W: Watch>(
         &mut self,
@@ -241,24 +210,42 @@ impl<S: Shape, C: Rx> Rx for RxNode<S, C> {
         self.ais.note(bit, self.path, number, watch);
         act::<S, C, D, W>(
             &mut self.children,
-            &mut self.copy,
+            &mut self.split,
             &mut self.teller,
             &self.aligner,
             step,
             self.gap,
-            self.path,
-            number,
+            LineBit {
+                path: self.path,
+                number,
+            },
             drain,
             watch,
         )
     }
 
-    fn take<D: Drain>(&mut self, bits: &Packed, drain: &mut D) -> Result<(), Failed> {
-        let mut done = self.aligner.take(bits, 0);
-        while done < bits.len() {
-            done += self.advance(bits, done, drain)?;
-            done += self.aligner.take(bits, done);
+    fn glide<D: Drain>(
+        &mut self,
+        bits: &Packed,
+        from: usize,
+        _drain: &mut D,
+    ) -> Result<usize, Failed> {
+        let len = bits.len();
+        let mut done = 0;
+        while from + done < len {
+            let count = self.idle(bits, from + done);
+            done += count;
+            if count == 0 {
+                return Ok(done);
+            }
         }
-        Ok(())
+        Ok(done)
     }
+
+    #[inline(always)]
+    fn has_room<D: Drain>(&self, _drain: &D, _bits: usize) -> bool {
+        false
+    }
+
+    fn take_in_room<D: Drain>(&mut self, _bits: &Packed, _drain: &mut D) {}
 }

@@ -1,8 +1,10 @@
 //! A ready frame taken apart, for those who read it tributary by tributary.
 
-ghost use Rattle.std.specs.Prelude.{◌≡◌, ◌<◌, true, length, replicate};
-ghost use Rattle.pdh_shape.specs.Tributary.{stripped};
+ghost use Rattle.std.specs.Prelude.{◌≡◌, ◌<◌, ◌≤◌, true, false, length};
 ghost use Rattle.pdh_align.specs.Aligning.{frame_back};
+ghost use Rattle.pdh_runs.specs.Taking.{StandsInTurn};
+ghost use Rattle.pdh_events.specs.Duties.{is_odd};
+ghost use Rattle.pdh_rx.specs.Places.{loaded_cell, loaded_places, loaded_bits, StandsAt};
 
 use pdh_align::Aligner;
 use pdh_packed::Packed;
@@ -17,22 +19,29 @@ pub struct Strip<S: Shape> {
     // room for a frame
     frame: Packed,
     parts: Parts<S>,
+    // the ones of a gap are read, and not the frame
+    gap: bool,
 }
 
 impl<S: Shape> Drop for Strip<S> {
     fn drop(self) {
-        let Self { frame: _, parts: _ } = self;
+        let Self {
+            frame: _,
+            parts: _,
+            gap: _,
+        } = self;
     }
 }
 
 impl<S: Shape> Model for Strip<S> {
-    ghost use Rattle.std.specs.Prelude.{◌≡◌};
-    ghost use Rattle.pdh_runs.specs.Taking.{Taken};
+    ghost use Rattle.std.specs.Prelude.{◌≡◌, true, if◌then◌else◌, replicate};
+    ghost use Rattle.pdh_rx.specs.Places.{Loaded};
 
-    // the frame that was loaded last, and the bits of the tributary that were read last
-    ghost Value = { Taken };
+    // the frame that was loaded last, whether the ones of a gap were loaded after it, and the bits of the tributary that were
+    // read last
+    ghost Value = { Loaded };
 
-    ghost view = { λ t. t.parts };
+    ghost view = { λ t. record { gap = t.gap; frame = t.parts.frame; bits = if t.gap then replicate S.shape.low true else t.parts.bits } };
 
     ghost invariant = { λ t. t.frame.capacity ≡ S.LEN };
 }
@@ -43,25 +52,40 @@ impl<S: Shape> Strip<S> {
         Ok(Strip {
             frame: Packed::open(alloc, S::LEN as usize)?,
             parts: Parts::open(alloc, layout)?,
+            gap: false,
         })
     }
 
     /// Loads a ready frame.
     pub fn load(&mut self, aligner: &Aligner<S>, back: u8)
         requires { back < length aligner.now.ready }
-        ensures { self.new.frame ≡ frame_back aligner.now.ready back }
+        ensures frame { self.new.frame ≡ frame_back aligner.now.ready back }
+        ensures whole { length self.new.frame ≡ S.LEN }
+        ensures gap { self.new.gap ≡ false }
     {
+        self.gap = false;
         self.frame.clear();
         aligner.append_frame(back, &mut self.frame);
         self.parts.load(&self.frame);
     }
 
-    /// Reads the bits of a tributary in the frame.
+    /// Loads the ones of a gap as long as a frame.
+    pub fn load_ones(&mut self)
+        ensures { self.new.gap ≡ true }
+    {
+        self.gap = true;
+    }
+
+    /// Reads the bits of a tributary.
     pub fn read(&mut self, trib: u8)
         requires { trib < S.TRIBS }
         ensures frame { self.new.frame ≡ self.old.frame }
-        ensures bits { self.new.bits ≡ stripped S.shape trib self.old.frame }
+        ensures gap { self.new.gap ≡ self.old.gap }
+        ensures bits { self.new.bits ≡ loaded_bits S.shape self.old.gap self.old.frame trib }
     {
+        if self.gap {
+            return;
+        }
         self.parts.read(trib);
     }
 
@@ -69,13 +93,62 @@ impl<S: Shape> Strip<S> {
     pub fn bits(&self) -> &Packed
         ensures { result.now.bits ≡ self.now.bits }
     {
+        if self.gap {
+            return self.parts.ones();
+        }
         self.parts.bits()
     }
 
-    /// As many ones as a frame carries bits of a tributary at least.
-    pub fn ones(&self) -> &Packed
-        ensures { result.now.bits ≡ replicate S.LOW true }
+    /// The frame.
+    pub fn frame(&self) -> &Packed
+        ensures { result.now.bits ≡ self.now.frame }
     {
-        self.parts.ones()
+        self.parts.frame()
+    }
+
+    /// Whether the payload of the frame holds an odd number of ones.
+    pub fn is_odd(&self) -> bool
+        ensures { result ≡ is_odd S.shape self.now.frame }
+    {
+        self.parts.is_odd()
+    }
+
+    /// How many places there are, one for each tributary in turn.
+    pub fn places(&self) -> usize
+        ensures { result ≡ loaded_places S.shape self.now.gap }
+    {
+        let tribs = usize::from(S::TRIBS);
+        if self.gap {
+            return S::LOW as usize * tribs;
+        }
+        tribs * (S::LOW as usize + 1)
+    }
+
+    // The turn in which a bit stands of the tributary that was read last.
+    fn turn(&self, trib: u8, before: usize) -> usize
+        requires known { trib < S.TRIBS }
+        requires read { self.now.bits ≡ loaded_bits S.shape self.now.gap self.now.frame trib }
+        requires inside { before < length self.now.bits }
+        ensures gap { self.now.gap ≡ true → result ≡ before }
+        ensures frame { self.now.gap ≡ false → StandsInTurn S.shape trib self.now.frame before result }
+    {
+        if self.gap {
+            return before;
+        }
+        self.parts.turn(trib, before)
+    }
+
+    /// The place at which the tributary that was read last gets its next bit, where it has got so many; or the places' end.
+    pub fn place(&self, trib: u8, before: usize) -> usize
+        requires known { trib < S.TRIBS }
+        requires read { self.now.bits ≡ loaded_bits S.shape self.now.gap self.now.frame trib }
+        requires few { before ≤ length self.now.bits }
+        ensures { StandsAt S.shape.tribs (loaded_cell S.shape self.now.gap self.now.frame) (loaded_places S.shape self.now.gap) trib self.now.bits before result }
+    {
+        let places = self.places();
+        if before == self.bits().len() {
+            return places;
+        }
+        self.turn(trib, before) * usize::from(S::TRIBS) + usize::from(trib)
     }
 }

@@ -1,8 +1,8 @@
 //! The receiver that is a leaf: its bits go to a drain's list.
 
-ghost use Rattle.std.specs.Prelude.{◌≡◌, Bool, List};
+ghost use Rattle.std.specs.Prelude.{◌≡◌, ◌≤◌, Bool, List, true};
 ghost use Rattle.pdh_rx.specs.Tail.{tail_meaning};
-ghost use Rattle.pdh_rx.specs.laws.TailLaws.{tail_sound};
+ghost use Rattle.pdh_rx.specs.laws.TailLaws.{tail_sound, tail_fits_by};
 
 use crate::Rx;
 use pdh_edge::{Drain, Failed};
@@ -20,22 +20,25 @@ impl Tail {
     pub fn new(leaf: u32) -> Tail
         ensures meaning { ⟦<Tail as Rx>⟧.meaning result ≡ tail_meaning leaf }
         ensures stands { (line : List Bool) → ⟦<Tail as Rx>⟧.stands result line }
-        ensures tells { (line : List Bool) → ⟦<Tail as Rx>⟧.tells result line }
     {
         Tail { leaf }
     }
 }
 
 impl Rx for Tail {
-    ghost stands = { λ t line. Unit {0} };
+    ghost IS_LEAF = { true };
 
-    ghost tells = { λ t line. Unit {0} };
+    const IS_LEAF: bool = true;
+
+    ghost stands = { λ t line. Unit {0} };
 
     ghost meaning = { λ t. tail_meaning t.leaf };
 
-    ghost told_stands = { λ t line told. told };
+    ghost fits = { λ t room bits. bits ≤ room t.leaf };
 
     ghost sound = { λ t. tail_sound t.leaf };
+
+    ghost fits_by = { λ t r r' n n' same few fits. tail_fits_by t.leaf r r' n n' same few fits };
 
     fn push<D: Drain, W: Watch>(
         &mut self,
@@ -46,7 +49,26 @@ impl Rx for Tail {
         drain.put(self.leaf, bit)
     }
 
-    fn take<D: Drain>(&mut self, bits: &Packed, drain: &mut D) -> Result<(), Failed> {
-        drain.put_all(self.leaf, bits)
+    fn glide<D: Drain>(
+        &mut self,
+        bits: &Packed,
+        from: usize,
+        drain: &mut D,
+    ) -> Result<usize, Failed> {
+        if from > 0 {
+            return Ok(0);
+        }
+        drain.put_all(self.leaf, bits)?;
+        Ok(bits.len())
+    }
+
+    #[inline(always)]
+    fn has_room<D: Drain>(&self, drain: &D, bits: usize) -> bool {
+        drain.has_room(self.leaf, bits)
+    }
+
+    #[inline(always)]
+    fn take_in_room<D: Drain>(&mut self, bits: &Packed, drain: &mut D) {
+        drain.put_in_room(self.leaf, bits);
     }
 }

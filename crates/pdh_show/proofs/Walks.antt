@@ -1,14 +1,14 @@
 -- Walks over slots and lines, one step further.
-use Rattle.std.proofs.Common.{◌≡◌, ℕ, suc, ◌+◌, ◌-◌, ◌<◌, ◌≤◌, min, inl, inr, Bool, true, false, ◌&&◌, cond, List, [], ◌∷◌, ◌++◌, length, map, filter, get_or, set, take, drop, length-drop, length-take, refl, sym, ap, ◌∙◌, arith, add-one, zero-add, append_assoc}
+use Rattle.std.proofs.Common.{◌≡◌, ℕ, suc, ◌+◌, ◌-◌, ◌<◌, ◌≤◌, min, inl, inr, Bool, true, false, ◌&&◌, cond, List, [], ◌∷◌, ◌++◌, length, map, filter, take, drop, length-drop, refl, sym, ap, ◌∙◌, arith, add-one, zero-add, append_assoc}
 use Rattle.std.specs.Prelude.{count_by}
 use Rattle.std.specs.List.{range_with_len, list_all, flat_map}
 use Rattle.std.proofs.lemmas.Bool.{cases_lt}
-use Rattle.std.proofs.lemmas.List.{map-append, append-nil, take_all, take_more, drop_more, set_at}
+use Rattle.std.proofs.lemmas.List.{map-append, append-nil, take_all}
 use Rattle.std.proofs.lemmas.List.Concat.{flat_map-append}
 use Rattle.std.proofs.lemmas.List.Elements.{filter-append}
 use Rattle.std.proofs.lemmas.List.Folds.{list_all-append}
 use Rattle.pdh_line.proofs.Ranges.{range_push, count_push}
-use Rattle.pdh_slots.proofs.Picking.{before_grows, before_pass}
+use Rattle.pdh_runs.proofs.Counts.{before_less}
 
 push : (n : ℕ) → range_with_len 0 (n + 1) ≡ range_with_len 0 n ++ n ∷ []
 push n = ap (range_with_len 0) (add-one n) ∙ range_push 0 n ∙ ap (λ k. range_with_len 0 n ++ k ∷ []) (zero-add n)
@@ -49,7 +49,7 @@ counted_next p n is start old now passes before new =
 
 -- fewer pass before a number that passes than in all
 pub one_more : (p : ℕ → Bool) (n len : ℕ) → n < len → p n ≡ true → suc (count_by p (range_with_len 0 n)) ≤ count_by p (range_with_len 0 len)
-one_more p n len inside passes = omega (arith, before_grows p (suc n) len inside, before_pass p n passes)
+one_more p n len inside passes = omega (arith, before_less p n len passes inside)
 
 -- so many bytes from a place on, or what is left
 pub piece_is : (bytes : List ℕ) (size start end : ℕ) → end ≡ min (length bytes) (start + size) → take (end - start) (drop start bytes) ≡ take size (drop start bytes)
@@ -59,13 +59,3 @@ piece_is bytes size start end at =
       | inl less ↦ ap (λ n. take n (drop start bytes)) (omega (arith, at, less))
       | inr more ↦ take_all (end - start) (drop start bytes) (omega (arith, at, more, left)) ∙ sym (take_all size (drop start bytes) (omega (arith, at, more, left)))
     ]
-
--- one more item written over what is left of a list
-pub written_next : {X : Type 0} (xs into : List X) (i : ℕ) (d : X) → i < length xs → i < length into → set (take i xs ++ drop i into) i (get_or xs i d) ≡ take (i + 1) xs ++ drop (i + 1) into
-written_next xs into i d more room =
-    let x = get_or xs i d in
-    let old : drop i into ≡ get_or into i d ∷ drop (i + 1) into = drop_more into i d room in
-    let new : take (i + 1) xs ≡ take i xs ++ x ∷ [] = take_more xs i d more in
-    let put : set (take i xs ++ get_or into i d ∷ drop (i + 1) into) i x ≡ take i xs ++ x ∷ drop (i + 1) into =
-    set_at (take i xs) (get_or into i d) (drop (i + 1) into) x i (omega (arith, length-take i xs)) in
-    rw (old, new, append_assoc) put

@@ -1,6 +1,6 @@
 //! The showing of a frame of any shape: all memory first, then the frames up to it, then its text.
 
-ghost use Rattle.std.specs.Prelude.{◌≡◌, ◌<◌, ◌≤◌, ◌+◌, ◌*◌, ◌/◌, ◌%◌, ◌++◌, suc, length, IsTrue, IfOk, Err};
+ghost use Rattle.std.specs.Prelude.{◌≡◌, ◌≤◌, ◌+◌, ◌*◌, ◌/◌, ◌%◌, ◌++◌, suc, length, IsTrue, IfOk, Err};
 ghost use Rattle.std.specs.List.{flat_map};
 ghost use Rattle.pdh_bits.specs.Bits.{bits_of};
 ghost use Rattle.pdh_show.specs.Shown.{ended, tributary_lines, bytes_lines, shown_frame};
@@ -15,8 +15,8 @@ use crate::stop::ShowStop;
 use crate::text::Lines;
 use pdh_edge::Feed;
 use pdh_packed::Packed;
+use pdh_runs::Layout;
 use pdh_shape::Shape;
-use pdh_slots::SlotTables;
 use std::alloc::Global;
 
 // How many bytes stand on a line.
@@ -29,15 +29,15 @@ const BYTES_LINE: usize = 33;
 const LINE: usize = 320;
 
 // Appends the lines of the tributaries.
-fn append_tributaries<S: Shape>(text: &mut Lines, tables: &SlotTables<S>, frame: &[bool])
+fn append_tributaries<S: Shape>(text: &mut Lines, layout: &Layout<S>, frame: &Packed)
     requires room { length text.old.text + 320 * S.TRIBS ≤ text.old.capacity }
-    requires whole { length frame.now ≡ S.LEN }
-    ensures lines { text.new.text ≡ text.old.text ++ flat_map ended (tributary_lines S.shape frame.now) }
+    requires whole { length frame.now.bits ≡ S.LEN }
+    ensures lines { text.new.text ≡ text.old.text ++ flat_map ended (tributary_lines S.shape frame.now.bits) }
     ensures len { length text.new.text ≤ length text.old.text + 320 * S.TRIBS }
     ensures capacity { text.new.capacity ≡ text.old.capacity }
 {
     for trib in 0..S::TRIBS {
-        text.append(&tributary_line::<S>(tables, trib, frame));
+        text.append(&tributary_line::<S>(layout, trib, frame));
     }
 }
 
@@ -58,29 +58,19 @@ fn append_frame<S: Shape>(
     text: &mut Lines,
     name: &str,
     number: u32,
-    tables: &SlotTables<S>,
-    frame: &[bool],
+    layout: &Layout<S>,
+    frame: &Packed,
     bytes: &[u8],
 )
     requires short { length name.now ≤ 3 }
     requires room { length text.old.text + text_room S.TRIBS (length bytes.now) ≤ text.old.capacity }
-    requires whole { length frame.now ≡ S.LEN }
-    requires same { frame.now ≡ bits_of bytes.now }
+    requires whole { length frame.now.bits ≡ S.LEN }
+    requires same { frame.now.bits ≡ bits_of bytes.now }
     ensures { text.new.text ≡ text.old.text ++ shown_frame S.shape name.now number bytes.now }
 {
     text.append(&signal_line(name, number, is_right::<S>(frame)));
-    append_tributaries::<S>(text, tables, frame);
+    append_tributaries::<S>(text, layout, frame);
     append_bytes(text, bytes);
-}
-
-// Writes the bits of a packed list one by one.
-fn unpack(bits: &Packed, into: &mut [bool])
-    requires { length into.old ≡ length bits.now.bits }
-    ensures { into.new ≡ bits.now.bits }
-{
-    for place in 0..bits.len() {
-        into[place] = bits.get(place);
-    }
 }
 
 // For how many bytes the text of a frame needs room.
@@ -109,16 +99,14 @@ pub fn shown_as<S: Shape, F: Feed>(
     ensures memory { result ≡ Err Memory → F.inputs feed.new ≡ F.inputs feed.old }
 {
     let len = S::LEN as usize;
-    let mut held = Packed::open(alloc, len)?;
-    let mut frame = vec![in alloc; false; len]?;
+    let mut frame = Packed::open(alloc, len)?;
     let mut bytes = vec![in alloc; 0u8; len / 8]?;
-    let tables = SlotTables::<S>::open(alloc)?;
+    let layout = Layout::<S>::open(alloc)?;
     let mut text = Lines::open(alloc, text_room::<S>())?;
-    let Ok(()) = take_frame(number, &mut held, feed) else {
+    let Ok(()) = take_frame(number, &mut frame, feed) else {
         return Err(ShowStop::Failed);
     };
-    unpack(&held, &mut frame);
-    held.write_bytes(0, &mut bytes);
-    append_frame::<S>(&mut text, name, number, &tables, &frame, &bytes);
+    frame.write_bytes(0, &mut bytes);
+    append_frame::<S>(&mut text, name, number, &layout, &frame, &bytes);
     Ok(text.into_text())
 }

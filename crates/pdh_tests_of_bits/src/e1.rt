@@ -1,7 +1,6 @@
 //! Worked lines and words.
 
-use pdh_bits::bits_of;
-use pdh_e1::{PackFault, UnpackFault, crc4, pack, unpack};
+use pdh_e1::{PackFault, UnpackFault, crc4_after, pack, unpack};
 use std::test::Fail;
 
 /// The first octets of two multiframes of zeros.
@@ -54,9 +53,9 @@ fn refuses_what_is_not_whole(rt: HostRuntime) -> Result<(), Fail> {
 
 #[test]
 fn words_of_one_bit(rt: HostRuntime) -> Result<(), Fail> {
-    assert_eq!(rt; crc4(&[true]), 3);
-    assert_eq!(rt; crc4(&[true, false, false]), 12);
-    assert_eq!(rt; crc4(&[true, false, false, false]), 11);
+    assert_eq!(rt; crc4_after(0, &[1]), 3);
+    assert_eq!(rt; crc4_after(0, &[4]), 12);
+    assert_eq!(rt; crc4_after(0, &[8]), 11);
     Ok(())
 }
 
@@ -64,10 +63,10 @@ fn words_of_one_bit(rt: HostRuntime) -> Result<(), Fail> {
 /// first, so its octets and its word were turned.
 #[test]
 fn words_by_another_program(rt: HostRuntime) -> Result<(), Fail> {
-    assert_eq!(rt; crc4(&bits_of(rt.alloc(), b"123456789")?), 14);
-    assert_eq!(rt; crc4(&bits_of(rt.alloc(), b"G.704")?), 6);
-    assert_eq!(rt; crc4(&bits_of(rt.alloc(), b"multiframe")?), 0);
-    assert_eq!(rt; crc4(&bits_of(rt.alloc(), &[0x1B, 0x5F])?), 1);
-    assert_eq!(rt; crc4(&bits_of(rt.alloc(), &[0xFF; 256])?), 4);
+    assert_eq!(rt; crc4_after(0, b"123456789"), 14);
+    assert_eq!(rt; crc4_after(0, b"G.704"), 6);
+    assert_eq!(rt; crc4_after(0, b"multiframe"), 0);
+    assert_eq!(rt; crc4_after(0, &[0x1B, 0x5F]), 1);
+    assert_eq!(rt; crc4_after(0, &[0xFF; 256]), 4);
     Ok(())
 }

@@ -75,3 +75,19 @@ fn many_bits_are_put(rt: HostRuntime) -> Result<(), Fail> {
     assert_eq!(rt; port.drain_faults(), 2);
     Ok(())
 }
+
+#[test]
+fn bits_are_put_in_room(rt: HostRuntime) -> Result<(), Fail> {
+    let alloc = rt.alloc();
+    let mut port = MemPort::open(alloc, Vec::new(alloc), 1)?;
+    let three = list_of(alloc, 0b110, 3)?;
+    assert!(rt; !port.has_room(0, three.len()));
+    port.room(0, 4)?;
+    assert!(rt; port.has_room(0, three.len()));
+    port.put_in_room(0, &three);
+    assert_eq!(rt; (port.has_room(0, 1), port.has_room(0, 2)), (true, false));
+    let output = port.output(0);
+    assert_eq!(rt; output.len(), 3);
+    assert_eq!(rt; output.read(0, 3).number(), 0b110);
+    Ok(())
+}

@@ -1,4 +1,4 @@
-//! Worked ends of `mux` and `demux`, gaps, and lines taken bit by bit and many bits at a time.
+//! Worked ends of `mux` and `demux`, gaps, and lines that are watched or not.
 
 ghost use Rattle.std.specs.Prelude.{◌≡◌, length, IfOk};
 ghost use Rattle.pdh_chain.specs.Chains.{leaves_of};
@@ -170,9 +170,11 @@ fn gaps(rt: HostRuntime) -> Result<(), Fail> {
     Ok(())
 }
 
-// Sees events, and doesn't say that it ignores them.
+// Sees events, and counts them.
 #[derive(Clone, Copy, Debug, Drop)]
-struct Seeing;
+struct Seeing {
+    events: u64,
+}
 
 impl Watch for Seeing {
     ghost saw = { λ a xs b. Unit {0} };
@@ -181,10 +183,8 @@ impl Watch for Seeing {
 
     ghost saw_join = { λ a b c xs ys p q. tt };
 
-    fn note(&mut self, _event: &Event) {}
-
-    fn ignores(&self) -> bool {
-        false
+    fn note(&mut self, _event: &Event) {
+        self.events = self.events.saturating_add(1);
     }
 }
 
@@ -231,10 +231,9 @@ fn demuxed<W: Watch>(
     Ok((end, got))
 }
 
-// A watch that ignores events makes a demultiplexer take many bits at a time, and one that sees them bit by bit: in alignment,
-// over a loss and after it, and in a gap.
+// Leaves get the same bits whoever watches: in alignment, over a loss and after it, and in a gap.
 #[test]
-fn many_bits_at_a_time(rt: HostRuntime) -> Result<(), Fail> {
+fn watched_or_not(rt: HostRuntime) -> Result<(), Fail> {
     let e2: &[u8] = b"/ 12 205 205 205 205\n";
     let e3: &[u8] = b"/ 12 377 377 377 377\n";
     let e4: &[u8] = b"/ 12 722 722 722 722\n";
@@ -252,10 +251,12 @@ fn many_bits_at_a_time(rt: HostRuntime) -> Result<(), Fail> {
         assert_eq!(rt; leaves(top), 4);
         let line = made(rt.alloc(), top, schedule, inverted)?;
         let again = line.clone()?;
-        let at_once = demuxed(rt.alloc(), chain, line, &mut Quiet)?;
-        let by_bits = demuxed(rt.alloc(), chain, again, &mut Seeing)?;
-        assert!(rt; at_once == by_bits, "{chain:?} {inverted:?}");
-        assert!(rt; !at_once.1.is_empty(), "{chain:?} {inverted:?}");
+        let mut seeing = Seeing { events: 0 };
+        let unwatched = demuxed(rt.alloc(), chain, line, &mut Quiet)?;
+        let watched = demuxed(rt.alloc(), chain, again, &mut seeing)?;
+        assert!(rt; unwatched == watched, "{chain:?} {inverted:?}");
+        assert!(rt; !unwatched.1.is_empty(), "{chain:?} {inverted:?}");
+        assert!(rt; seeing.events > 0, "{chain:?} {inverted:?}");
     }
     Ok(())
 }

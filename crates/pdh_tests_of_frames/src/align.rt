@@ -91,10 +91,10 @@ fn ready_frames_are_read(rt: HostRuntime) -> Result<(), Fail> {
                     assert_eq!(rt; [aligner.frame(0, 22), aligner.frame(0, 23)], [false, true]);
                     let marks = aligner.marks();
                     assert_eq!(rt; (marks.framing, marks.multi), (8, false));
-                    let mut bits = [false; 848];
-                    aligner.copy_frame(0, &mut bits);
+                    let mut bits = Packed::open(rt.alloc(), 848)?;
+                    aligner.append_frame(0, &mut bits);
                     assert_eq!(rt;
-                        [bits[3], bits[5], bits[22], bits[23]],
+                        [bits.get(3), bits.get(5), bits.get(22), bits.get(23)],
                         [false, true, false, true]
                     );
                     read[1] = read[1].saturating_add(1);
@@ -229,7 +229,7 @@ fn gained_by_bits<S: Shape>(alloc: Global, line: &Packed) -> Result<Gains, Alloc
 fn gained_by_slices<S: Shape>(alloc: Global, line: &Packed) -> Result<Gains, AllocError> {
     let mut aligner = Aligner::<S>::open(alloc)?;
     let mut gains = no_gains(alloc, line)?;
-    let mut done = aligner.take(line, 0);
+    let mut done = aligner.take(line, 0, line.len());
     for _turn in 0..line.len() {
         if done >= line.len() {
             break;
@@ -242,7 +242,7 @@ fn gained_by_slices<S: Shape>(alloc: Global, line: &Packed) -> Result<Gains, All
             note(&aligner, step, &mut gains);
             done += 1;
         }
-        done += aligner.take(line, done);
+        done += aligner.take(line, done, line.len() - done);
     }
     Ok(gains)
 }

@@ -1,9 +1,14 @@
 //! AIS, what begins and ends, and the remote alarm.
 
+ghost use Rattle.std.specs.Prelude.{◌≡◌, length, IfOk};
+
 use pdh_events::{AisRun, FrameTeller, note_change, note_kind};
+use pdh_packed::Packed;
+use pdh_runs::{Layout, Parts};
 use pdh_shape::{E2, TOP};
-use pdh_slots::SlotTables;
 use pdh_watch::{Event, Kind, Watch};
+use std::alloc::{AllocError, Global};
+use std::rc::Rc;
 use std::test::Fail;
 
 // Keeps the last event and the number of all.
@@ -25,10 +30,6 @@ impl Watch for Last {
     fn note(&mut self, event: &Event) {
         self.event = Some(*event);
         self.count = self.count.saturating_add(1);
-    }
-
-    fn ignores(&self) -> bool {
-        false
     }
 }
 
@@ -90,22 +91,70 @@ fn what_begins_and_ends(rt: HostRuntime) -> Result<(), Fail> {
     Ok(())
 }
 
+// A frame of zeros, but for ones in some slots.
+fn frame_with(alloc: Global, ones: &[u32]) -> Result<Packed, AllocError>
+    ensures { IfOk result (λ frame. length frame.bits ≡ 848) }
+{
+    let mut frame = Packed::open(alloc, 848)?;
+    for slot in 0..848 {
+        frame.push(ones.contains(&slot));
+    }
+    Ok(frame)
+}
+
+// Takes a delivered frame, whose payload is read off the frame taken apart.
+fn take(
+    teller: &mut FrameTeller<E2>,
+    parts: &mut Parts<E2>,
+    frame: &Packed,
+    bit: u64,
+    last: &mut Last,
+)
+    requires { length frame.now.bits ≡ 848 }
+{
+    parts.load(frame);
+    let odd = parts.is_odd();
+    teller.note(frame, odd, TOP, bit, last);
+}
+
 #[test]
 fn the_alarm_of_e2(rt: HostRuntime) -> Result<(), Fail> {
-    let tables = SlotTables::<E2>::open(rt.alloc())?;
-    let mut teller = FrameTeller::<E2>::open(rt.alloc())?;
+    let alloc = rt.alloc();
+    let layout = Rc::new(alloc, Layout::<E2>::open(alloc)?)?;
+    let mut teller = FrameTeller::open(alloc, &layout)?;
+    let mut parts = Parts::open(alloc, layout)?;
     let mut last = Last::new();
-    let mut frame = [false; 848];
-    teller.note(&tables, &frame, TOP, 2543, &mut last);
+    take(
+        &mut teller,
+        &mut parts,
+        &frame_with(alloc, &[])?,
+        2543,
+        &mut last,
+    );
     assert_eq!(rt; last.count, 0);
-    frame[10] = true;
-    teller.note(&tables, &frame, TOP, 3391, &mut last);
+    take(
+        &mut teller,
+        &mut parts,
+        &frame_with(alloc, &[10])?,
+        3391,
+        &mut last,
+    );
     assert!(rt; last.is(1, Kind::ALARM_ON, 3391));
     teller.lose();
-    frame[11] = true;
-    teller.note(&tables, &frame, TOP, 4239, &mut last);
-    frame[10] = false;
-    teller.note(&tables, &frame, TOP, 5087, &mut last);
+    take(
+        &mut teller,
+        &mut parts,
+        &frame_with(alloc, &[10, 11])?,
+        4239,
+        &mut last,
+    );
+    take(
+        &mut teller,
+        &mut parts,
+        &frame_with(alloc, &[11])?,
+        5087,
+        &mut last,
+    );
     assert!(rt; last.is(2, Kind::ALARM_OFF, 5087));
     Ok(())
 }

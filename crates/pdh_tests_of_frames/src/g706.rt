@@ -3,10 +3,10 @@
 ghost use Rattle.std.specs.Prelude.{◌≡◌, ◌<◌, ◌+◌, Bool, List, IsTrue, IfOk, OnOk};
 ghost use Rattle.pdh_g706.specs.View.{StandsFor};
 
-use pdh_bits::bits_of;
 use pdh_e1::pack;
 use pdh_edge::{Drain, Failed, MemPort};
 use pdh_g706::E1Align;
+use pdh_packed::Packed;
 use pdh_shape::TOP;
 use pdh_watch::{Event, Kind, Quiet, Watch};
 use std::alloc::{AllocError, Global};
@@ -22,18 +22,9 @@ fn port_for(alloc: Global, bits: usize) -> Result<MemPort, AllocError>
 }
 
 // Takes bits all at once.
-fn take_all<D: Drain>(align: &mut E1Align, bits: &[bool], drain: &mut D) -> Result<(), Failed>
-    requires stands { (line : List Bool) × StandsFor align.old line }
-    requires list { IsTrue ((D.outputs drain.old).holds 0) }
-    ensures { (D.outputs drain.new).holds ≡ (D.outputs drain.old).holds }
-{
-    align.take(bits, drain)
-}
-
-// Takes bits one by one.
-fn push_all<D: Drain, W: Watch>(
+fn take_all<D: Drain, W: Watch>(
     align: &mut E1Align,
-    bits: &[bool],
+    bits: &Packed,
     drain: &mut D,
     watch: &mut W,
 ) -> Result<(), Failed>
@@ -42,18 +33,15 @@ fn push_all<D: Drain, W: Watch>(
     ensures stands { OnOk result ((line : List Bool) × StandsFor align.new line) }
     ensures holds { (D.outputs drain.new).holds ≡ (D.outputs drain.old).holds }
 {
-    for bit in bits {
-        align.push(*bit, drain, watch)?;
-    }
-    Ok(())
+    align.take(bits, drain, watch)
 }
 
 // What a machine finds in a line: multiframes, blocks and errored ones, and the octets of its payload.
 fn found(alloc: Global, line: &[u8]) -> Result<([u64; 3], Vec<u8>), Fail> {
-    let bits = bits_of(alloc, line)?;
+    let bits = Packed::of_bytes(alloc, line)?;
     let mut port = port_for(alloc, bits.len())?;
     let mut align = E1Align::open(alloc)?;
-    take_all(&mut align, &bits, &mut port)?;
+    take_all(&mut align, &bits, &mut port, &mut Quiet)?;
     let payload = port.output(0).to_bytes(alloc)?;
     Ok((
         [align.multiframes(), align.blocks(), align.errored()],
@@ -113,8 +101,8 @@ fn lines_are_cut_at_each_octet(rt: HostRuntime) -> Result<(), Fail> {
     let mut port = port_for(rt.alloc(), 8192)?;
     let mut align = E1Align::open(rt.alloc())?;
     for place in 0..line.len() {
-        let bits = bits_of(rt.alloc(), &line[place..place + 1])?;
-        push_all(&mut align, &bits, &mut port, &mut Quiet)?;
+        let bits = Packed::of_bytes(rt.alloc(), &line[place..place + 1])?;
+        take_all(&mut align, &bits, &mut port, &mut Quiet)?;
         let counts = [align.multiframes(), align.blocks(), align.errored()];
         if place < 895 {
             assert_eq!(rt; counts, [0, 0, 0]);
@@ -264,10 +252,6 @@ impl Watch for Recorder {
             self.count += 1;
         }
     }
-
-    fn ignores(&self) -> bool {
-        false
-    }
 }
 
 #[test]
@@ -277,14 +261,14 @@ fn events_come_in_order(rt: HostRuntime) -> Result<(), Fail> {
     if let Some(octet) = line.get_mut(488) {
         *octet = 0x7F; // frame 13 has an alarm, and its E bit is 0
     }
-    let bits = bits_of(rt.alloc(), &line)?;
+    let bits = Packed::of_bytes(rt.alloc(), &line)?;
     let mut port = port_for(rt.alloc(), bits.len())?;
     let mut align = E1Align::open(rt.alloc())?;
     let mut watch = Recorder {
         events: [None; 8],
         count: 0,
     };
-    push_all(&mut align, &bits, &mut port, &mut watch)?;
+    take_all(&mut align, &bits, &mut port, &mut watch)?;
     let told = [
         (Kind::AIS_ON, 511),
         (Kind::AIS_OFF, 576),

@@ -9,9 +9,8 @@ ghost use Rattle.pdh_rx.specs.Node.{node_meaning};
 use pdh_edge::{Drain, Failed, MemPort};
 use pdh_packed::Packed;
 use pdh_runs::Layout;
-use pdh_rx::{Rx, RxNode, Tail};
+use pdh_rx::{Rx, RxNode, Tail, take_watched};
 use pdh_shape::{E2, TOP};
-use pdh_slots::SlotTables;
 use pdh_watch::{Event, Kind, Quiet, Watch};
 use std::alloc::{AllocError, Global};
 use std::rc::Rc;
@@ -29,11 +28,9 @@ fn node(alloc: Global) -> Result<RxNode<E2, Tail>, AllocError>
     ensures meaning { IfOk result (λ node. ⟦<RxNode<E2, Tail> as Rx>⟧.meaning node
         ≡ node_meaning e2 (record { depth = 0; first = 0; second = 0 }) four_tails) }
     ensures stands { IfOk result (λ node. ⟦<RxNode<E2, Tail> as Rx>⟧.stands node []) }
-    ensures tells { IfOk result (λ node. ⟦<RxNode<E2, Tail> as Rx>⟧.tells node []) }
 {
-    let tables = Rc::new(alloc, SlotTables::open(alloc)?)?;
     let layout = Rc::new(alloc, Layout::open(alloc)?)?;
-    RxNode::open(alloc, TOP, tables, layout, tails(alloc)?)
+    RxNode::open(alloc, TOP, layout, tails(alloc)?)
 }
 
 // Adds so many bits of one value.
@@ -76,14 +73,14 @@ fn zeros_ones_zeros(alloc: Global, counts: [usize; 3]) -> Result<Vec<bool>, Allo
     Ok(bits)
 }
 
-// Takes the bits of a line.
+// Takes the bits of a line one by one.
 fn receive<R: Rx, D: Drain, W: Watch>(
     rx: &mut R,
     bits: &[bool],
     drain: &mut D,
     watch: &mut W,
 ) -> Result<(), Failed>
-    requires tells { (line : List Bool) × R.tells rx.old line }
+    requires stands { (line : List Bool) × R.stands rx.old line }
     requires lists { HoldsAll (R.meaning rx.old).leaves (D.outputs drain.old) }
     ensures { (D.outputs drain.new).holds ≡ (D.outputs drain.old).holds }
 {
@@ -146,7 +143,7 @@ fn run_at_once(alloc: Global, line: &[bool], bits: &[bool]) -> Result<(bool, u64
         port.room(leaf, line.len())?;
     }
     let line = packed(alloc, line)?;
-    node.take(&line, &mut port)?;
+    take_watched(&mut node, &line, &mut port, &mut Quiet)?;
     Ok((each_got(&port, bits), node.frames()))
 }
 
@@ -200,6 +197,22 @@ fn run_in_room(
     Ok((counts(&port), failed))
 }
 
+// The same where the node takes all bits of the line in one call.
+fn run_in_room_at_once(
+    alloc: Global,
+    line: &[bool],
+    rooms: [usize; 4],
+) -> Result<([usize; 4], bool), Fail> {
+    let mut node = node(alloc)?;
+    let mut port = MemPort::open(alloc, Vec::new(alloc), 4)?;
+    for leaf in 0..4 {
+        port.room(leaf, rooms[leaf as usize])?;
+    }
+    let line = packed(alloc, line)?;
+    let failed = take_watched(&mut node, &line, &mut port, &mut Quiet).is_err();
+    Ok((counts(&port), failed))
+}
+
 // The ones of a gap go to the leaves in rounds, one bit to each in turn: a leaf before the one whose list is full has got
 // one more, and one behind it as many.
 #[test]
@@ -210,6 +223,8 @@ fn ones_of_a_gap_go_in_rounds(rt: HostRuntime) -> Result<(), Fail> {
     assert_eq!(rt; last_full, ([301, 301, 301, 300], true));
     let second_full = run_in_room(alloc, &line, [2000, 300, 2000, 2000])?;
     assert_eq!(rt; second_full, ([301, 300, 300, 300], true));
+    let at_once = run_in_room_at_once(alloc, &line, [2000, 2000, 2000, 300])?;
+    assert_eq!(rt; at_once, ([301, 301, 301, 300], true));
     Ok(())
 }
 
@@ -232,10 +247,6 @@ impl Watch for Recorder {
             self.seen[self.count] = Some((event.kind, event.bit));
             self.count += 1;
         }
-    }
-
-    fn ignores(&self) -> bool {
-        false
     }
 }
 

@@ -82,8 +82,4 @@ impl<M: Monitor> Watch for Members<M> {
         show_each(&mut self.list, event);
         self.count = self.count.saturating_add(1);
     }
-
-    fn ignores(&self) -> bool {
-        false
-    }
 }

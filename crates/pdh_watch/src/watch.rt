@@ -1,6 +1,6 @@
 //! Watches as a trait, and the one that ignores events.
 
-ghost use Rattle.std.specs.Prelude.{◌≡◌, true, [], ◌∷◌, ◌++◌, List};
+ghost use Rattle.std.specs.Prelude.{◌≡◌, [], ◌∷◌, ◌++◌, List};
 ghost use Rattle.pdh_watch.specs.declared.event.Event.{Event};
 
 use crate::Event;
@@ -13,10 +13,6 @@ pub trait Watch: Drop {
     /// Sees one event.
     fn note(&mut self, event: &Event)
         ensures { saw self.old (event.now ∷ []) self.new };
-
-    /// Whether it ignores all events, so that none need be told to it.
-    fn ignores(&self) -> bool
-        ensures { result ≡ true → (events : List Event) → saw self.now events self.now };
 
     ghost saw_nothing: { (a : Self) → saw a [] a };
 
@@ -38,11 +34,4 @@ impl Watch for Quiet {
     ghost saw_join = { λ a b c xs ys p q. q ∙ p };
 
     fn note(&mut self, _event: &Event) {}
-
-    fn ignores(&self) -> bool
-        ensures always { result ≡ true }
-        ensures unchanged { result ≡ true → (events : List Event) → self.now ≡ self.now }
-    {
-        true
-    }
 }

@@ -101,6 +101,11 @@ fn leaves_over_borders(rt: HostRuntime) -> Result<(), Fail> {
     Ok(())
 }
 
+// Whether an output has room for so many bits.
+fn has_room<R: Files + Drop>(port: &ShelfPort<Folder<R>>, leaf: u32, bits: usize) -> bool {
+    (leaf as usize) < port.blocks.outputs.len() && port.has_room(leaf, bits)
+}
+
 // Puts so many bytes to an output.
 fn take_bytes<R: Files + Drop>(
     alloc: Global,
@@ -117,8 +122,16 @@ fn outputs_by_blocks(rt: HostRuntime) -> Result<(), Fail> {
     let alloc = rt.alloc();
     let mut folder = Folder::new(rt.clone()?);
     let mut port = port_over(alloc, Folder::new(rt.clone()?), 0, "pb_4444")?;
+    assert_eq!(rt;
+        (has_room(&port, 1, 32767), has_room(&port, 1, 32768)),
+        (true, false)
+    );
     // put before start: the first full block starts all outputs
     assert!(rt; take_bytes(alloc, &mut port, 1, 4095)?);
+    assert_eq!(rt;
+        (has_room(&port, 1, 7), has_room(&port, 1, 8)),
+        (true, false)
+    );
     assert_eq!(rt; folder.size("pb_4444"), Ok(None));
     assert!(rt; take_bytes(alloc, &mut port, 1, 2)?);
     assert_eq!(rt; folder.size("pb_4444"), Ok(Some(4096)));

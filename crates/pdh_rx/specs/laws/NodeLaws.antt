@@ -1,6 +1,6 @@
--- Laws of a demultiplexer: more received bits only add to what leaves get below it, what took bits one by one stands for them,
--- and the events of a chain are those that its nodes note.
-use Rattle.std.specs.Prelude.{◌≡◌, ℕ, zero, suc, ◌<◌, Bool, true, false, ◌||◌, List, [], ◌∷◌, length, map, cond, slice_get, Some, refl}
+-- Laws of a demultiplexer: more received bits only add to what leaves get below it, and the
+-- events of a chain are those that its nodes note.
+use Rattle.std.specs.Prelude.{◌≡◌, ℕ, zero, suc, ◌<◌, ◌≤◌, Bool, true, false, ◌||◌, List, [], ◌∷◌, length, map, cond, slice_get, Some, refl}
 use Rattle.std.proofs.Common.{sym, ◌∙◌, ap, subst, arith}
 use Rattle.pdh_shape.specs.declared.place.Path.{Path}
 use Rattle.pdh_shape.specs.Frame.{FrameShape, IsFrame}
@@ -8,12 +8,10 @@ use Rattle.pdh_shape.specs.Tributary.{HasTributaries}
 use Rattle.pdh_watch.specs.declared.event.Event.{Event}
 use Rattle.pdh_edge.specs.Ports.{IsPrefix}
 use Rattle.pdh_rx.specs.Meaning.{Meaning, IsSound}
-use Rattle.pdh_align.specs.Aligning.{Held}
-use Rattle.pdh_events.specs.Keeping.{OnesRun, Kept}
 use Rattle.pdh_events.specs.Acts.{bit_acts}
 use Rattle.pdh_events.specs.Chain.{child_path, bit_events}
 use Rattle.pdh_events.specs.laws.ActsLaws.{gives_bit, acts_events_alike}
-use Rattle.pdh_rx.specs.Node.{child_notes, node_meaning, got_by, any_leaf, received_lines, EachStands, NodeStands, NodeTells}
+use Rattle.pdh_rx.specs.Node.{child_notes, node_meaning, got_by, any_leaf, received_lines}
 use Rattle.pdh_rx.specs.laws.Growth.{received_grows}
 
 prefix_cond : (b : Bool) (x y x' y' : List Bool) → IsPrefix x x' → IsPrefix y y' → IsPrefix (cond b x y) (cond b x' y')
@@ -59,22 +57,9 @@ node_sound meaning sound s shape path children = record {
   elsewhere = λ line k e. got_elsewhere (map meaning children) (received_lines s line) k e;
 }
 
--- children that took bits one by one stand for them
-pub each_told : {C : Type 0} (tells stands : C → List Bool → Type 0) → ((c : C) (line : List Bool) → tells c line → stands c line) → (children : List C) (lines : ℕ → List Bool) → EachStands tells children lines → EachStands stands children lines
-each_told tells stands told_stands children lines each j c at = told_stands c (lines j) (each j c at)
-
--- so does a demultiplexer
-pub node_told_stands : {C : Type 0} (tells stands : C → List Bool → Type 0) (told_stands : (c : C) (line : List Bool) → tells c line → stands c line) (meaning : C → Meaning) (s : FrameShape) (children : List C) (held : Held) (gap frames bits : ℕ) (ais : OnesRun) (kept : Kept) (line : List Bool)
-    → NodeTells tells meaning s children held gap frames bits ais kept line → NodeStands stands meaning s children held gap frames line
-node_told_stands tells stands told_stands meaning s children held gap frames bits ais kept line told = record {
-  count = told.node.count;
-  disjoint = told.node.disjoint;
-  each = each_told tells stands told_stands children (received_lines s line) told.node.each;
-  aligner = told.node.aligner;
-  inside = told.node.inside;
-  gap_is = told.node.gap_is;
-  frames_are = told.node.frames_are;
-}
+-- fewer bits than none are none
+pub fewer_than_none : (n n' : ℕ) → n' ≤ n → n ≡ 0 → n' ≡ 0
+fewer_than_none n n' few none = omega (arith, few, none)
 
 -- ---- the events
 

@@ -13,22 +13,22 @@ returns-in_err-start-clause-err g c =
     let p = err_from_is_err_and c.from_residual-in_err-start.result c.from_residual-in_err-start.ensures.1 in
     rw (p.1, p.2) (rose_of _ _ c.in_err-start.ensures.cause, nothing_received (g.S.Shape.shape ∷ g.C.ChainRx.shapes) _ c.args.bits _ _ _ _ c.in_err-start.ensures.inputs c.in_err-start.ensures.outputs (g.met.W.Watch.saw_nothing c.args.watch.now))
 
-pub receive_all-requires-clause-lists : goal.receive_all-requires-clause-lists
-receive_all-requires-clause-lists g c k is =
+pub receive-requires-clause-lists : goal.receive-requires-clause-lists
+receive-requires-clause-lists g c k is =
     let s = g.S.Shape.shape in
     let shapes = s ∷ g.C.ChainRx.shapes in
     let same = c.in_ok-node.ensures.meaning in
     ap (λ (o : Outputs). o.holds k) c.in_ok-start.ensures.outputs ∙ c.requires.leaves k (leaf_held shapes k (sym (ap (λ m. m.leaves k) same) ∙ is))
 
-pub returns-in_err-receive_all-clause-err : goal.returns-in_err-receive_all-clause-err
-returns-in_err-receive_all-clause-err g c =
-    let p = err_from_is_err_and c.from_residual-in_err-receive_all.result c.from_residual-in_err-receive_all.ensures.1 in
+pub returns-in_err-receive-clause-err : goal.returns-in_err-receive-clause-err
+returns-in_err-receive-clause-err g c =
+    let p = err_from_is_err_and c.from_residual-in_err-receive.result c.from_residual-in_err-receive.ensures.1 in
     let s = g.S.Shape.shape in
     let shapes = s ∷ g.C.ChainRx.shapes in
     let same = c.in_ok-node.ensures.meaning in
     let since = g.met.P.Port.kept_counts c.args.port.now c.start.new.self c.start.ensures.kept in
     rw (p.1, p.2, sym c.in_ok-start.ensures.inputs, sym c.in_ok-start.ensures.outputs)
-    (stops shapes _ (λ events. g.W.Watch.saw c.args.watch.now events c.receive_all.new.watch) c.args.bits _ _ _ _ _ _ _ _ _ _ c.in_err-receive_all.field-0.0 same (g.met.S.Shape.is_frame, g.met.S.Shape.has_tributaries, g.met.C.ChainRx.are_frames) since.0 since.1 c.in_err-receive_all.ensures.stops)
+    (stops shapes _ (λ events. g.W.Watch.saw c.args.watch.now events c.receive.new.watch) c.args.bits _ _ _ _ _ _ _ _ _ _ c.in_err-receive.field-0.0 same (g.met.S.Shape.is_frame, g.met.S.Shape.has_tributaries, g.met.C.ChainRx.are_frames) since.0 since.1 c.in_err-receive.ensures.stops)
 
 pub returns-in_err-start-clause-ready : goal.returns-in_err-start-clause-ready
 returns-in_err-start-clause-ready g c =
@@ -45,21 +45,21 @@ returns-in_err-start-clause-writes g c =
     let p = err_from_is_err_and c.from_residual-in_err-start.result c.from_residual-in_err-start.ensures.1 in
     rw (p.1, p.2) c.in_err-start.ensures.cause
 
-pub returns-in_err-receive_all-clause-reads : goal.returns-in_err-receive_all-clause-reads
-returns-in_err-receive_all-clause-reads g c =
-    let p = err_from_is_err_and c.from_residual-in_err-receive_all.result c.from_residual-in_err-receive_all.ensures.1 in
-    rw (p.1, p.2) (c.in_err-receive_all.ensures.reads ∙ ap (reads_at_demux_stop c.in_err-receive_all.field-0.0) c.start.ensures.reads)
+pub returns-in_err-receive-clause-reads : goal.returns-in_err-receive-clause-reads
+returns-in_err-receive-clause-reads g c =
+    let p = err_from_is_err_and c.from_residual-in_err-receive.result c.from_residual-in_err-receive.ensures.1 in
+    rw (p.1, p.2) (c.in_err-receive.ensures.reads ∙ ap (reads_at_demux_stop c.in_err-receive.field-0.0) c.start.ensures.reads)
 
-pub returns-in_err-receive_all-clause-writes : goal.returns-in_err-receive_all-clause-writes
-returns-in_err-receive_all-clause-writes g c =
-    let p = err_from_is_err_and c.from_residual-in_err-receive_all.result c.from_residual-in_err-receive_all.ensures.1 in
-    rw (p.1, p.2) (c.in_err-receive_all.ensures.writes ∙ ap (writes_at_demux_stop c.in_err-receive_all.field-0.0) c.in_ok-start.ensures.cause)
+pub returns-in_err-receive-clause-writes : goal.returns-in_err-receive-clause-writes
+returns-in_err-receive-clause-writes g c =
+    let p = err_from_is_err_and c.from_residual-in_err-receive.result c.from_residual-in_err-receive.ensures.1 in
+    rw (p.1, p.2) (c.in_err-receive.ensures.writes ∙ ap (writes_at_demux_stop c.in_err-receive.field-0.0) c.in_ok-start.ensures.cause)
 
 pub returns-clause-kept : goal.returns-clause-kept
-returns-clause-kept g c = g.met.P.Port.kept_join c.args.port.now c.start.new.self c.receive_all.new.port c.start.ensures.kept c.receive_all.ensures.kept
+returns-clause-kept g c = g.met.P.Port.kept_join c.args.port.now c.start.new.self c.receive.new.port c.start.ensures.kept c.receive.ensures.kept
 
 pub returns-clause-ready : goal.returns-clause-ready
-returns-clause-ready g c = g.met.P.Port.kept_ready c.start.new.self c.receive_all.new.port c.receive_all.ensures.kept c.in_ok-start.ensures.ok
+returns-clause-ready g c = g.met.P.Port.kept_ready c.start.new.self c.receive.new.port c.receive.ensures.kept c.in_ok-start.ensures.ok
 
 pub returns-clause-ok : goal.returns-clause-ok
 returns-clause-ok g c =
@@ -67,14 +67,14 @@ returns-clause-ok g c =
     let shapes = s ∷ g.C.ChainRx.shapes in
     let same = c.in_ok-node.ensures.meaning in
     rw (sym c.in_ok-start.ensures.inputs, sym c.in_ok-start.ensures.outputs)
-    (demuxes shapes _ _ (λ events. g.W.Watch.saw c.args.watch.now events c.receive_all.new.watch) c.args.bits c.frames.result _ _ _ _ same (g.met.S.Shape.is_frame, g.met.S.Shape.has_tributaries, g.met.C.ChainRx.are_frames)
-    (λ line count stood. c.frames.ensures line stood ∙ frames_exact s line g.met.S.Shape.is_frame (omega (arith, count, c.requires.few))) c.in_ok-receive_all.ensures.received)
+    (demuxes shapes _ _ (λ events. g.W.Watch.saw c.args.watch.now events c.receive.new.watch) c.args.bits c.frames.result _ _ _ _ same (g.met.S.Shape.is_frame, g.met.S.Shape.has_tributaries, g.met.C.ChainRx.are_frames)
+    (λ line count stood. c.frames.ensures line stood ∙ frames_exact s line g.met.S.Shape.is_frame (omega (arith, count, c.requires.few))) c.in_ok-receive.ensures.received)
 
-pub returns-in_err-receive_all-clause-ready : goal.returns-in_err-receive_all-clause-ready
-returns-in_err-receive_all-clause-ready g c =
-    let p = err_from_is_err_and c.from_residual-in_err-receive_all.result c.from_residual-in_err-receive_all.ensures.1 in
-    let ready = g.met.P.Port.kept_ready c.start.new.self c.receive_all.new.port c.receive_all.ensures.kept c.in_ok-start.ensures.ok in
-    let meaning = node_meaning g.S.Shape.shape c.in_ok-node.node.path (map g.C.Rx.meaning c.in_ok-node.node.children.items) in
+pub returns-in_err-receive-clause-ready : goal.returns-in_err-receive-clause-ready
+returns-in_err-receive-clause-ready g c =
+    let p = err_from_is_err_and c.from_residual-in_err-receive.result c.from_residual-in_err-receive.ensures.1 in
+    let ready = g.met.P.Port.kept_ready c.start.new.self c.receive.new.port c.receive.ensures.kept c.in_ok-start.ensures.ok in
+    let meaning = node_meaning g.S.Shape.shape c.in_ok-node.node.path (map g.C.Rx.meaning c.in_ok-node.node.children) in
     rw (p.1, p.2)
-    (left meaning (λ events. g.W.Watch.saw c.args.watch.now events c.receive_all.new.watch) c.args.bits (g.P.Feed.inputs c.start.new.self) (g.P.Feed.inputs c.receive_all.new.port) (g.P.Drain.outputs c.start.new.self) (g.P.Drain.outputs c.receive_all.new.port) (g.P.Feed.feed_faults c.start.new.self)
-    (g.P.Feed.feed_faults c.receive_all.new.port) (g.P.Drain.drain_faults c.start.new.self) (g.P.Drain.drain_faults c.receive_all.new.port) _ _ _ c.in_err-receive_all.field-0.0 c.in_err-receive_all.ensures.stops ready)
+    (left meaning (λ events. g.W.Watch.saw c.args.watch.now events c.receive.new.watch) c.args.bits (g.P.Feed.inputs c.start.new.self) (g.P.Feed.inputs c.receive.new.port) (g.P.Drain.outputs c.start.new.self) (g.P.Drain.outputs c.receive.new.port) (g.P.Feed.feed_faults c.start.new.self)
+    (g.P.Feed.feed_faults c.receive.new.port) (g.P.Drain.drain_faults c.start.new.self) (g.P.Drain.drain_faults c.receive.new.port) _ _ _ c.in_err-receive.field-0.0 c.in_err-receive.ensures.stops ready)

@@ -11,5 +11,11 @@ bounds-from-2 c =
     let first : c.from.result < 16 = omega (arith, halves_lt c.args.register c.args.octet c.requires c.ranges.octet.fits) in
     omega (arith, c.from-2.ensures, xor_lt 4 _ (c.args.octet % 16) (four_bits_lt c.from.result first) (omega arith))
 
-pub returns : goal.returns
-returns c = λ bits holds. let e = crc4_octet bits c.args.octet c.ranges.octet.fits in cc
+pub returns-clause-word : goal.returns-clause-word
+returns-clause-word c = λ bits holds. let e = crc4_octet bits c.args.octet c.ranges.octet.fits in cc
+
+pub returns-clause-four_bits : goal.returns-clause-four_bits
+returns-clause-four_bits c =
+    let first : c.from.result < 16 = omega (arith, halves_lt c.args.register c.args.octet c.requires c.ranges.octet.fits) in
+    let second : c.from-2.result < 16 = omega (arith, c.from-2.ensures, xor_lt 4 _ (c.args.octet % 16) (four_bits_lt c.from.result first) (omega arith)) in
+    four_bits_lt c.from-2.result second

@@ -1,4 +1,4 @@
-use Rattle.std.proofs.Common.{sym, ap, ◌∙◌}
+use Rattle.std.proofs.Common.{[], refl, sym, ap, ◌∙◌}
 use Rattle.pdh_e1.specs.Multiframe.{sent_word}
 use Rattle.pdh_e1.proofs.WordLaws.{sent_word_is, sent_word-first}
 use Rattle.pdh_e1.proofs.multiframe.sent_word.Goals as goal
@@ -9,4 +9,4 @@ returns-then-number-eq0-clause-word c =
 
 pub returns-clause-word : goal.returns-clause-word
 returns-clause-word c =
-    sent_word_is c.args.line.now c.copy_from_slice.new.self c.args.number c.crc4_of_octets.result c.if-number-eq0.false c.copy_from_slice.ensures.len c.copy_from_slice.ensures.after c.crc4_of_octets.ensures.word
+    sent_word_is c.args.line.now c.copy_from_slice.new.self c.args.number c.crc4_after.result c.if-number-eq0.false c.copy_from_slice.ensures.len c.copy_from_slice.ensures.after (c.crc4_after.ensures.word [] refl)

@@ -6,6 +6,6 @@ use Rattle.pdh_events.proofs.alarm.agreed_alarm.Given as goal
 -- what the slots so far say
 abbrev pub invariant-loop-of : goal.invariant-loop-of
 invariant-loop-of l = record {
-  say : l.some_say ≡ list_any (λ says. says) (map (says_alarm l.frame) (take l.of-index l.slots));
-  deny : l.some_deny ≡ list_any not (map (says_alarm l.frame) (take l.of-index l.slots));
+  say : l.some_say ≡ list_any (λ says. says) (map (says_alarm l.frame.bits) (take l.of-index l.slots));
+  deny : l.some_deny ≡ list_any not (map (says_alarm l.frame.bits) (take l.of-index l.slots));
 }

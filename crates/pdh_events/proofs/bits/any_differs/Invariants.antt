@@ -6,4 +6,4 @@ use Rattle.pdh_events.proofs.bits.any_differs.Given as goal
 
 -- one of the slots so far
 abbrev pub invariant-loop-slot : goal.invariant-loop-slot
-invariant-loop-slot l = l.differs ≡ list_any (λ at. not (beq at l.bit)) (bits_at (take l.slot-index l.slots) l.frame)
+invariant-loop-slot l = l.differs ≡ list_any (λ at. not (beq at l.bit)) (bits_at (take l.slot-index l.slots) l.frame.bits)

@@ -10,11 +10,11 @@ use Rattle.pdh_events.proofs.codes.note_codes.Goals as goal
 pub loop-slot-preserved : goal.loop-slot-preserved
 loop-slot-preserved g c =
     let slots = c.args.slots.now in
-    let frame = c.args.frame.now in
+    let frame = c.args.frame.now.bits in
     let i = c.loop-slot.slot-index in
-    let bit : Bool = slice_index_or frame c.from.result false in
+    let bit : Bool = c.get.result in
     let bits : List Bool = bits_at (take i slots) frame in
-    let more : bits_at (take (i + 1) slots) frame ≡ bits ++ bit ∷ [] = map_more (λ slot. slice_index_or frame slot false) slots i 0 (omega arith) ∙ ap (λ slot. bits ++ slice_index_or frame slot false ∷ []) (sym c.from.ensures) in
+    let more : bits_at (take (i + 1) slots) frame ≡ bits ++ bit ∷ [] = map_more (λ slot. slice_index_or frame slot false) slots i 0 (omega arith) ∙ ap (λ slot. bits ++ slice_index_or frame slot false ∷ []) (sym c.from.ensures) ∙ ap (λ b. bits ++ b ∷ []) (sym c.get.ensures) in
     record {
       received = λ before is.
           subst (HasReceived c.push-code.new.self) (append_assoc before bits (bit ∷ []) ∙ ap (λ x. before ++ x) (sym more)) (c.push-code.ensures.received (before ++ bits) (c.loop-slot.invariant.received before is));

@@ -5,7 +5,7 @@ use Rattle.pdh_g706.proofs.held.earlier.Goals as goal
 
 pub returns-then-has_multi : goal.returns-then-has_multi
 returns-then-has_multi c =
-    earlier_found (frames_of c.args.held.now.items) c.args.second c.loop-first.first (omega arith) c.loop-first.invariant (omega arith) (sym c.has_multi.ensures ∙ c.if-has_multi.true)
+    earlier_found (frames_of c.args.held.now.bits) c.args.second c.loop-first.first (omega arith) c.loop-first.invariant (omega arith) (sym c.has_multi.ensures ∙ c.if-has_multi.true)
 
 pub returns : goal.returns
-returns c = earlier_none (frames_of c.args.held.now.items) c.args.second (λ j lt. c.loop-first.invariant j (omega arith))
+returns c = earlier_none (frames_of c.args.held.now.bits) c.args.second (λ j lt. c.loop-first.invariant j (omega arith))

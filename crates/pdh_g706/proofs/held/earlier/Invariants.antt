@@ -6,4 +6,4 @@ use Rattle.pdh_g706.proofs.held.earlier.Given as goal
 
 -- none so far
 abbrev pub invariant-loop-first : goal.invariant-loop-first
-invariant-loop-first l = (j : ℕ) → j < l.first → (((l.second - j) % 16 == 0) && has_multi (frames_of l.held.items) j) ≡ false
+invariant-loop-first l = (j : ℕ) → j < l.first → (((l.second - j) % 16 == 0) && has_multi (frames_of l.held.bits) j) ≡ false

@@ -7,29 +7,29 @@ use Rattle.pdh_g706.proofs.held.first_multiframe.Goals as goal
 
 pub returns-then-frames-lt12 : goal.returns-then-frames-lt12
 returns-then-frames-lt12 c =
-    let items = c.args.held.now.items in
+    let items = c.args.held.now.bits in
     reaches_short (frames_of items) (length items / 256) (length_frames items) (omega arith)
 
 pub returns-then-second-eq1 : goal.returns-then-second-eq1
 returns-then-second-eq1 c =
-    let items = c.args.held.now.items in
+    let items = c.args.held.now.bits in
     reaches_odd (frames_of items) (length items / 256) (length items / 256 - 12) (length_frames items) refl (omega arith)
 
 pub returns-then-not-has_multi : goal.returns-then-not-has_multi
 returns-then-not-has_multi c =
-    let items = c.args.held.now.items in
-    reaches_wrong (frames_of items) (length items / 256) (c.len-frames.result / 256 - 12) (length_frames items) (omega arith) (sym c.has_multi.ensures ∙ c.if-not-has_multi.true)
+    let items = c.args.held.now.bits in
+    reaches_wrong (frames_of items) (length items / 256) (c.held-frames.result / 256 - 12) (length_frames items) (omega arith) (sym c.has_multi.ensures ∙ c.if-not-has_multi.true)
 
 pub returns-then-first-second : goal.returns-then-first-second
 returns-then-first-second c =
-    let items = c.args.held.now.items in
-    reaches_first (frames_of items) (length items / 256) (c.len-frames.result / 256 - 12) (length_frames items) (omega arith) (sym c.earlier-first.ensures ∙ c.if-first-second.true)
+    let items = c.args.held.now.bits in
+    reaches_first (frames_of items) (length items / 256) (c.held-frames.result / 256 - 12) (length_frames items) (omega arith) (sym c.earlier-first.ensures ∙ c.if-first-second.true)
 
 pub returns : goal.returns
 returns c =
-    let items = c.args.held.now.items in
+    let items = c.args.held.now.bits in
     let fs = frames_of items in
-    let n = c.len-frames.result / 256 in
+    let n = c.held-frames.result / 256 in
     let same : n ≡ length items / 256 = omega arith in
     let count : length fs ≡ n = length_frames items ∙ sym same in
     let right = reaches_right fs n (n - 12) count refl (omega arith) (omega arith) c.if-second-eq1.false (sym c.has_multi.ensures ∙ c.if-not-has_multi.false) (λ e. c.if-first-second.false (c.earlier-first.ensures ∙ e)) in (

@@ -6,4 +6,4 @@ use Rattle.pdh_g706.proofs.held.has_multi.Given as goal
 
 -- the bits so far are right
 abbrev pub invariant-loop-number : goal.invariant-loop-number
-invariant-loop-number l = list_all (multi_test (frames_of l.held.items) l.frame) (range_with_len 0 l.number) ≡ true
+invariant-loop-number l = list_all (multi_test (frames_of l.held.bits) l.frame) (range_with_len 0 l.number) ≡ true

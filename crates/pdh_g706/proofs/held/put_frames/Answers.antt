@@ -11,7 +11,7 @@ pub returns-in_err-put_all-clause-part : goal.returns-in_err-put_all-clause-part
 returns-in_err-put_all-clause-part g c =
     let p = err_from_is_err_and c.from_residual.result c.from_residual.ensures.1 in
     let outputs = g.D.Drain.outputs in
-    let bits = c.args.held.now.items in
+    let bits = c.args.held.now.bits in
     let k = c.args.frame in
     let n = c.loop-number.number in
     let payload : List Bool = c.bits.result.now.bits in
@@ -26,7 +26,7 @@ returns-in_err-put_all-clause-part g c =
 pub loop-number-preserved : goal.loop-number-preserved
 loop-number-preserved g c =
     let outputs = g.D.Drain.outputs in
-    let bits = c.args.held.now.items in
+    let bits = c.args.held.now.bits in
     let k = c.args.frame in
     let n = c.loop-number.number in
     let payload : List Bool = c.bits.result.now.bits in

@@ -3,6 +3,6 @@ use Rattle.pdh_g706.proofs.held.sent_check.Goals as goal
 
 pub returns : goal.returns
 returns c =
-    let items = c.args.held.now.items in
+    let items = c.args.held.now.bits in
     let start = c.args.start in
-    four_bits items start _ _ _ _ _ _ _ _ c.bit_at.ensures c.bit_at-2.ensures c.bit_at-3.ensures c.bit_at-4.ensures c.from.ensures c.from-2.ensures c.from-3.ensures c.from-4.ensures
+    four_bits items start _ _ _ _ _ _ _ _ c.bit.ensures c.bit-2.ensures c.bit-3.ensures c.bit-4.ensures c.from.ensures c.from-2.ensures c.from-3.ensures c.from-4.ensures

@@ -11,7 +11,7 @@ use Rattle.pdh_g706.proofs.tell.judge.Goals as goal
 
 pub loop-block-preserved : goal.loop-block-preserved
 loop-block-preserved g c =
-    let fs = frames_of c.args.held.now.items in
+    let fs = frames_of c.args.held.now.bits in
     let k = c.args.frame in
     let n = c.loop-block.block in
     record {

@@ -9,7 +9,7 @@ use Rattle.pdh_g706.proofs.tell.judge.Given as goal
 -- those so far
 abbrev pub invariant-loop-block : goal.invariant-loop-block
 invariant-loop-block g l = record {
-  count : l.errored ≡ errs_in (frames_of l.held.items) l.frame l.block;
+  count : l.errored ≡ errs_in (frames_of l.held.bits) l.frame l.block;
   few : l.errored ≤ l.block;
-  seen : g.W.Watch.saw l.fn.watch (tell top l.number (crc_kinds (each_errs (frames_of l.held.items) l.frame l.block))) l.watch;
+  seen : g.W.Watch.saw l.fn.watch (tell top l.number (crc_kinds (each_errs (frames_of l.held.bits) l.frame l.block))) l.watch;
 }

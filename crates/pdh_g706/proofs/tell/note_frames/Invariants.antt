@@ -9,6 +9,6 @@ use Rattle.pdh_g706.proofs.tell.note_frames.Given as goal
 -- the pairs so far
 abbrev pub invariant-loop-odd : goal.invariant-loop-odd
 invariant-loop-odd g l = record {
-  alarm : l.last ≡ alarm_before l.alarm (frames_from (frames_of l.held.items) l.frame (2 * l.pairs)) l.odd;
-  seen : g.W.Watch.saw l.fn.watch (tell top l.number (frames_kinds l.alarm (frames_from (frames_of l.held.items) l.frame (2 * l.pairs)) 0 l.odd)) l.watch;
+  alarm : l.last ≡ alarm_before l.alarm (frames_from (frames_of l.held.bits) l.frame (2 * l.pairs)) l.odd;
+  seen : g.W.Watch.saw l.fn.watch (tell top l.number (frames_kinds l.alarm (frames_from (frames_of l.held.bits) l.frame (2 * l.pairs)) 0 l.odd)) l.watch;
 }

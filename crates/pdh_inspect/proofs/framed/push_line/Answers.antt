@@ -6,10 +6,10 @@ use Rattle.pdh_edge.specs.Ports.{Takes}
 use Rattle.pdh_watch.specs.declared.event.Event.{Event}
 use Rattle.pdh_g706.specs.View.{StandsFor}
 use Rattle.pdh_g706.specs.Events.{e1_events}
+use Rattle.pdh_g706.proofs.TakeLaws.{events_none}
 use Rattle.pdh_chain.specs.Muxing.{as_line}
 use Rattle.pdh_chain.proofs.Lists.{gained_whole}
 use Rattle.pdh_inspect.specs.Seen.{SeesAll}
-use Rattle.pdh_inspect.proofs.Counted.{e1_events_none}
 use Rattle.pdh_inspect.proofs.Given.{sees_none, sees_more, sees_fewer, still_some, only_failed, counted_since}
 use Rattle.pdh_inspect.proofs.framed.push_line.Goals as goal
 
@@ -20,7 +20,7 @@ loop-pushed-init g c = record {
   unfailed = refl;
   fed = g.met.F.Feed.fed_same _;
   sees = sees_none (λ given. StandsFor c.args.align.now given × g.W.Watch.saw c.args.watch.now (e1_events given) c.args.watch.now) (g.F.Feed.inputs c.args.port.now.feed)
-      (c.requires.stands, subst (λ (events : List Event). g.W.Watch.saw c.args.watch.now events c.args.watch.now) (sym e1_events_none) (g.met.W.Watch.saw_nothing c.args.watch.now));
+      (c.requires.stands, subst (λ (events : List Event). g.W.Watch.saw c.args.watch.now events c.args.watch.now) (sym events_none) (g.met.W.Watch.saw_nothing c.args.watch.now));
 }
 
 pub bits-requires-clause-held : goal.bits-requires-clause-held

@@ -1,5 +1,7 @@
 use Rattle.std.proofs.Common.{◌≡◌, ℕ, ◌+◌, ◌*◌, ◌<◌, ◌≤◌, Bool, List, [], ◌++◌, append_assoc, length, length-append, rules, refl, ap, sym, ◌∙◌, subst, arith}
 use Rattle.std.specs.Slice.Iter.{chunks_rest}
+use Rattle.std.proofs.lemmas.List.{append-nil, nil_from_length}
+use Rattle.pdh_bits.specs.BitOut.{BoundedBits}
 use Rattle.pdh_bits.specs.Bits.{bits_of}
 use Rattle.pdh_bits.proofs.BitsLemmas.{bits_of-append, length-bits_of}
 use Rattle.pdh_edge.specs.Ports.{Outputs}
@@ -10,8 +12,30 @@ use Rattle.pdh_g706.proofs.AlignSteps.{gains_same, gains_join}
 use Rattle.pdh_ops.proofs.E1Unpacking.{first_holds, payload_in_room}
 use Rattle.pdh_ops.proofs.e1.deliver.Goals as goal
 
+-- the bits of the octets, in place of those that were there
+appended : (new none old : BoundedBits) (octets : List ℕ) → new ≡ record none { bits = none.bits ++ bits_of octets } → none ≡ record old { bits = [] } → new.bits ≡ bits_of octets
+appended new none old octets is empty = ap (λ (b : BoundedBits). b.bits) is ∙ ap (λ (b : BoundedBits). b.bits ++ bits_of octets) empty
+
+-- nothing is left, so all was taken
+whole : (done rest line : List ℕ) → length rest ≡ 0 → done ++ rest ≡ line → done ≡ line
+whole done rest line none all = sym (append-nil done) ∙ ap (λ (octets : List ℕ). done ++ octets) (sym (nil_from_length rest none)) ∙ all
+
+pub returns-in_err-bits-clause-list : goal.returns-in_err-bits-clause-list
+returns-in_err-bits-clause-list c = first_holds c.requires.outputs
+
+pub returns-clause-stands : goal.returns-clause-stands
+returns-clause-stands c =
+    let inv = c.loop-octets.invariant in
+    subst (λ (octets : List ℕ). StandsFor c.loop-octets.align (bits_of octets)) (whole inv.6 (chunks_rest c.loop-octets.octets-iterator) c.args.line.now c.in-None.ensures.steps.1.0 inv.7) inv.8
+
 pub loop-octets-init : goal.loop-octets-init
-loop-octets-init c = (search rules, tt, search rules, refl, refl, c.requires.faults, [], search rules, c.requires.stands, gains_same [] (mem_outputs c.args.port.now.outputs.items))
+loop-octets-init c = (search rules, tt, search rules, refl, refl, c.requires.faults, [], search rules, c.requires.stands, gains_same [] (mem_outputs c.args.port.now.outputs.items), ap (λ (b : BoundedBits). b.capacity) c.in_ok-bits.ensures)
+
+pub append_bytes-requires : goal.append_bytes-requires
+append_bytes-requires c =
+    let inv = c.loop-octets.invariant in
+    let steps = c.in-Some.ensures.steps in
+    omega (arith, ap (λ (b : BoundedBits). length b.bits) c.clear.ensures, ap (λ (b : BoundedBits). b.capacity) c.clear.ensures, inv.10, inv.2, steps.1.1, steps.1.2)
 
 pub take-requires-clause-list : goal.take-requires-clause-list
 take-requires-clause-list c = ap (λ (h : ℕ → Bool). h 0) c.loop-octets.invariant.3 ∙ first_holds c.requires.outputs
@@ -25,7 +49,7 @@ unreachable-requires c =
     let mid = c.loop-octets.port in
     let new = c.take.new.drain in
     let all : List Bool = bits_of (done ++ octets) in
-    let more : bits_of done ++ c.deref.result.now ≡ all = ap (λ (l : List Bool). bits_of done ++ l) (c.deref.ensures.value ∙ c.in_ok-bits.ensures) ∙ sym (bits_of-append done octets) in
+    let more : bits_of done ++ c.append_bytes.new.self.bits ≡ all = ap (λ (l : List Bool). bits_of done ++ l) (appended c.append_bytes.new.self c.clear.new.self c.loop-octets.bits octets c.append_bytes.ensures c.clear.ensures) ∙ sym (bits_of-append done octets) in
     let part = subst (λ (l : List Bool). GainsPart (bits_of done) l (mem_outputs mid.outputs.items) (mem_outputs new.outputs.items)) more (c.in-Err.ensures.put_err (bits_of done) inv.8) in
     let long : length all ≡ 8 * length (done ++ octets) = length-bits_of (done ++ octets) in
     let line : length done + length (chunks_rest c.loop-octets.octets-iterator) ≡ length c.args.line.now = sym (length-append done (chunks_rest c.loop-octets.octets-iterator)) ∙ ap length inv.7 in
@@ -46,8 +70,8 @@ loop-octets-preserved c =
     let taken : List Bool = bits_of done in
     let before : Outputs = mem_outputs c.args.port.now.outputs.items in
     let now : Outputs = mem_outputs c.take.new.drain.outputs.items in
-    let more : taken ++ c.deref.result.now ≡ bits_of (done ++ octets) = ap (λ (l : List Bool). taken ++ l) (c.deref.ensures.value ∙ c.in_ok-bits.ensures) ∙ sym (bits_of-append done octets) in
-    let gains = gains_join [] taken (taken ++ c.deref.result.now) before (mem_outputs c.loop-octets.port.outputs.items) now inv.9 (c.in-Ok.ensures.put taken inv.8) in (
+    let more : taken ++ c.append_bytes.new.self.bits ≡ bits_of (done ++ octets) = ap (λ (l : List Bool). taken ++ l) (appended c.append_bytes.new.self c.clear.new.self c.loop-octets.bits octets c.append_bytes.ensures c.clear.ensures) ∙ sym (bits_of-append done octets) in
+    let gains = gains_join [] taken (taken ++ c.append_bytes.new.self.bits) before (mem_outputs c.loop-octets.port.outputs.items) now inv.9 (c.in-Ok.ensures.put taken inv.8) in (
       search rules,
       tt,
       steps.0 ∙ inv.2,
@@ -58,6 +82,7 @@ loop-octets-preserved c =
       append_assoc done octets (chunks_rest c.next.new.self) ∙ ap (λ (l : List ℕ). done ++ l) (sym steps.1.0) ∙ inv.7,
       subst (StandsFor c.take.new.self) more (c.in-Ok.ensures.stands taken inv.8),
       subst (λ (l : List Bool). Gains [] l before now) more gains,
+      ap (λ (b : BoundedBits). b.capacity) c.append_bytes.ensures ∙ ap (λ (b : BoundedBits). b.capacity) c.clear.ensures ∙ inv.10,
     )
 
 pub returns-clause-list : goal.returns-clause-list

@@ -17,3 +17,4 @@ invariant-loop-octets l =
     × (done : List ℕ) × (done ++ chunks_rest l.octets-iterator ≡ l.line)
     × StandsFor l.align (bits_of done)
     × Gains [] (bits_of done) (mem_outputs l.fn.port.outputs.items) (mem_outputs l.port.outputs.items)
+    × (l.bits.capacity ≡ 32768)

@@ -10,7 +10,7 @@ loop-trib-preserved g c =
     let line = c.tributary_line.result in
     let text_is : c.append.new.self.text ≡ c.loop-trib.text.text ++ line = ap (λ (t : BoundedText). t.text) c.append.ensures in
     record {
-      lines = pieces_next ended (tributary_line g.S.Shape.shape c.args.frame.now) c.loop-trib.trib c.args.text.now.text c.loop-trib.text.text _ inv.lines
+      lines = pieces_next ended (tributary_line g.S.Shape.shape c.args.frame.now.bits) c.loop-trib.trib c.args.text.now.text c.loop-trib.text.text _ inv.lines
           (text_is ∙ ap (λ l. c.loop-trib.text.text ++ l) c.tributary_line.ensures.text);
       len = omega (arith, ap length text_is, length-append c.loop-trib.text.text line, inv.len, c.tributary_line.ensures.len);
       capacity = ap (λ (t : BoundedText). t.capacity) c.append.ensures ∙ inv.capacity;

@@ -13,26 +13,25 @@ use Rattle.pdh_show.proofs.frame.shown_as.Goals as goal
 pub append_frame-requires : goal.append_frame-requires
 append_frame-requires g c =
     let held = c.take_frame.new.held.bits in
-    let long : length held ≡ g.S.Shape.LEN = frame_len c.in_ok-held.held.capacity c.args.number held _ _ c.in-Ok.ensures.ok ∙ ap (λ (b : BoundedBits). b.capacity) c.in_ok-held.ensures ∙ c.LEN-len.ensures in
-    let frame_is : c.deref.result.now ≡ held = c.deref.ensures.value ∙ with_items_is c.in_ok-frame.frame c.unpack.new.into (c.unpack.auto.into ∙ c.deref_mut.ensures.len) ∙ c.unpack.ensures in
-    let written : c.write_bytes.new.into ≡ bytes_of held = written_whole held c.deref_mut-2.result.now _ c.write_bytes.result (omega (arith, c.deref_mut-2.ensures.len, c.in_ok-bytes.ensures.len, long, c.LEN-len.ensures)) c.write_bytes.ensures.count c.write_bytes.ensures.written in
-    let bytes_are : c.deref-2.result.now ≡ bytes_of held = c.deref-2.ensures.value ∙ with_items_is c.in_ok-bytes.bytes c.write_bytes.new.into (c.write_bytes.auto.into ∙ c.deref_mut-2.ensures.len) ∙ written in
+    let long : length held ≡ g.S.Shape.LEN = frame_len c.in_ok-frame.frame.capacity c.args.number held _ _ c.in-Ok.ensures.ok ∙ ap (λ (b : BoundedBits). b.capacity) c.in_ok-frame.ensures ∙ c.LEN-len.ensures in
+    let written : c.write_bytes.new.into ≡ bytes_of held = written_whole held c.deref_mut.result.now _ c.write_bytes.result (omega (arith, c.deref_mut.ensures.len, c.in_ok-bytes.ensures.len, long, c.LEN-len.ensures)) c.write_bytes.ensures.count c.write_bytes.ensures.written in
+    let bytes_are : c.deref.result.now ≡ bytes_of held = c.deref.ensures.value ∙ with_items_is c.in_ok-bytes.bytes c.write_bytes.new.into (c.write_bytes.auto.into ∙ c.deref_mut.ensures.len) ∙ written in
     record {
       short = c.requires.short;
       room = omega (arith, ap (λ (t : BoundedText). length t.text) c.in_ok-text.ensures, ap (λ (t : BoundedText). t.capacity) c.in_ok-text.ensures, c.text_room.ensures, ap (text_room g.S.Shape.TRIBS) (ap length bytes_are ∙ length-bytes_of held ∙ ap (λ n. n / 8) long));
-      whole = ap length frame_is ∙ long;
-      same = frame_is ∙ sym (ap bits_of bytes_are ∙ bits_of-bytes_of held (ap (λ n. n % 8) long ∙ c.requires.whole));
+      whole = long;
+      same = sym (ap bits_of bytes_are ∙ bits_of-bytes_of held (ap (λ n. n % 8) long ∙ c.requires.whole));
     }
 
 pub returns-clause-ok : goal.returns-clause-ok
 returns-clause-ok g c =
     let s = g.S.Shape.shape in
     let held = c.take_frame.new.held.bits in
-    let len_is : s.len ≡ c.in_ok-held.held.capacity = g.met.S.Shape.len_is ∙ sym (ap (λ (b : BoundedBits). b.capacity) c.in_ok-held.ensures ∙ c.LEN-len.ensures) in
+    let len_is : s.len ≡ c.in_ok-frame.frame.capacity = g.met.S.Shape.len_is ∙ sym (ap (λ (b : BoundedBits). b.capacity) c.in_ok-frame.ensures ∙ c.LEN-len.ensures) in
     let takes : TakesFrame s.len c.args.number held (g.F.Feed.inputs c.args.feed.now) (g.F.Feed.inputs c.take_frame.new.feed) =
     subst (λ len. TakesFrame len c.args.number held (g.F.Feed.inputs c.args.feed.now) (g.F.Feed.inputs c.take_frame.new.feed)) (sym len_is) c.in-Ok.ensures.ok in
-    let long : length held ≡ g.S.Shape.LEN = frame_len c.in_ok-held.held.capacity c.args.number held _ _ c.in-Ok.ensures.ok ∙ ap (λ (b : BoundedBits). b.capacity) c.in_ok-held.ensures ∙ c.LEN-len.ensures in
-    let written : c.write_bytes.new.into ≡ bytes_of held = written_whole held c.deref_mut-2.result.now _ c.write_bytes.result (omega (arith, c.deref_mut-2.ensures.len, c.in_ok-bytes.ensures.len, long, c.LEN-len.ensures)) c.write_bytes.ensures.count c.write_bytes.ensures.written in
-    let bytes_are : c.deref-2.result.now ≡ bytes_of held = c.deref-2.ensures.value ∙ with_items_is c.in_ok-bytes.bytes c.write_bytes.new.into (c.write_bytes.auto.into ∙ c.deref_mut-2.ensures.len) ∙ written in
-    shows_frame s c.args.name.now c.args.number held c.deref-2.result.now c.into_text.result.items _ _ takes bytes_are
-    (c.into_text.ensures ∙ c.append_frame.ensures ∙ ap (λ (t : BoundedText). t.text ++ shown_frame s c.args.name.now c.args.number c.deref-2.result.now) c.in_ok-text.ensures)
+    let long : length held ≡ g.S.Shape.LEN = frame_len c.in_ok-frame.frame.capacity c.args.number held _ _ c.in-Ok.ensures.ok ∙ ap (λ (b : BoundedBits). b.capacity) c.in_ok-frame.ensures ∙ c.LEN-len.ensures in
+    let written : c.write_bytes.new.into ≡ bytes_of held = written_whole held c.deref_mut.result.now _ c.write_bytes.result (omega (arith, c.deref_mut.ensures.len, c.in_ok-bytes.ensures.len, long, c.LEN-len.ensures)) c.write_bytes.ensures.count c.write_bytes.ensures.written in
+    let bytes_are : c.deref.result.now ≡ bytes_of held = c.deref.ensures.value ∙ with_items_is c.in_ok-bytes.bytes c.write_bytes.new.into (c.write_bytes.auto.into ∙ c.deref_mut.ensures.len) ∙ written in
+    shows_frame s c.args.name.now c.args.number held c.deref.result.now c.into_text.result.items _ _ takes bytes_are
+    (c.into_text.ensures ∙ c.append_frame.ensures ∙ ap (λ (t : BoundedText). t.text ++ shown_frame s c.args.name.now c.args.number c.deref.result.now) c.in_ok-text.ensures)

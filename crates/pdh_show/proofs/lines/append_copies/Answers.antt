@@ -26,13 +26,13 @@ loop-slot-preserved g c =
     let test : c.controls.result ≡ p k = c.controls.ensures ∙ ap (controls c.args.trib) c.role.ensures in
     elim c.if-controls.branch [
       | then-controls w ↦ record {
-        digits = picked_next (λ slot. digit (slice_index_or c.args.frame.now slot false)) p k true c.args.line.now c.loop-slot.line _ (sym w.if-controls.true ∙ test) c.loop-slot.invariant.digits
-            (w.line-is ∙ w.text.ensures.bytes ∙ ap (λ d. c.loop-slot.line ++ d) w.digit.ensures.digit);
+        digits = picked_next (λ slot. digit (slice_index_or c.args.frame.now.bits slot false)) p k true c.args.line.now c.loop-slot.line _ (sym w.if-controls.true ∙ test) c.loop-slot.invariant.digits
+            (w.line-is ∙ w.text.ensures.bytes ∙ ap (λ d. c.loop-slot.line ++ d) (w.digit.ensures.digit ∙ ap digit w.get.ensures));
         len = counted_next p k true (length c.args.line.now) (length c.loop-slot.line) _ (sym w.if-controls.true ∙ test) c.loop-slot.invariant.len
             (ap length w.line-is ∙ w.text.ensures.len ∙ ap (λ n. length c.loop-slot.line + n) w.digit.ensures.len);
       }
       | else-controls w ↦ record {
-        digits = picked_next (λ slot. digit (slice_index_or c.args.frame.now slot false)) p k false c.args.line.now c.loop-slot.line _ (sym w.if-controls.false ∙ test) c.loop-slot.invariant.digits
+        digits = picked_next (λ slot. digit (slice_index_or c.args.frame.now.bits slot false)) p k false c.args.line.now c.loop-slot.line _ (sym w.if-controls.false ∙ test) c.loop-slot.invariant.digits
             (w.line-is ∙ sym (append-nil c.loop-slot.line));
         len = counted_next p k false (length c.args.line.now) (length c.loop-slot.line) _ (sym w.if-controls.false ∙ test) c.loop-slot.invariant.len (omega (arith, ap length w.line-is));
       }

@@ -5,4 +5,4 @@ use Rattle.pdh_show.proofs.signal.is_right.Given as goal
 
 -- the slots so far
 abbrev pub invariant-loop-slot : goal.invariant-loop-slot
-invariant-loop-slot g l = l.right ≡ list_all (λ slot. not (breaks_at g.S.Shape.shape l.frame slot)) (range_with_len 0 l.slot)
+invariant-loop-slot g l = l.right ≡ list_all (λ slot. not (breaks_at g.S.Shape.shape l.frame.bits slot)) (range_with_len 0 l.slot)

@@ -3,6 +3,6 @@ use Rattle.pdh_tests_of_frames.proofs.g706.lines_are_cut_at_each_octet.Goals as 
 
 pub loop-place-preserved : goal.loop-place-preserved
 loop-place-preserved g c = record {
-  stands = c.in_ok-push_all.ensures.stands;
-  list = ap (λ h. h 0) c.push_all.ensures.holds ∙ c.loop-place.invariant.list;
+  stands = c.in_ok-take_all.ensures.stands;
+  list = ap (λ h. h 0) c.take_all.ensures.holds ∙ c.loop-place.invariant.list;
 }

@@ -4,7 +4,7 @@ use Rattle.pdh_tests_of_frames.proofs.rx.receive.Given as goal
 
 abbrev pub invariant-loop-bit : goal.invariant-loop-bit
 invariant-loop-bit g l = record {
-  tells : (line : List Bool) × g.R.Rx.tells l.rx line;
+  stands : (line : List Bool) × g.R.Rx.stands l.rx line;
   lists : HoldsAll (g.R.Rx.meaning l.rx).leaves (g.D.Drain.outputs l.drain);
   held : (g.D.Drain.outputs l.drain).holds ≡ (g.D.Drain.outputs l.fn.drain).holds;
 }

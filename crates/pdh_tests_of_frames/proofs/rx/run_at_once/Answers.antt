@@ -10,11 +10,11 @@ room-requires c = record {
   held = ap (λ (o : Outputs). o.holds c.loop-leaf.leaf) c.loop-leaf.invariant ∙ ap (λ (o : Outputs). o.holds c.loop-leaf.leaf) c.in_ok-port.ensures.outputs ∙ lt-ltb c.loop-leaf.leaf 4 (omega arith);
 }
 
-pub take-requires-clause-lists : goal.take-requires-clause-lists
-take-requires-clause-lists c k leaf =
+pub take_watched-requires-clause-lists : goal.take_watched-requires-clause-lists
+take_watched-requires-clause-lists c k leaf =
     let less = leaf_below k (ap (λ (m : Meaning). m.leaves k) (sym c.in_ok-node.ensures.meaning) ∙ leaf) in
     ap (λ (o : Outputs). o.holds k) c.loop-leaf.invariant ∙ ap (λ (o : Outputs). o.holds k) c.in_ok-port.ensures.outputs ∙ lt-ltb k 4 less
 
 pub each_got-requires : goal.each_got-requires
 each_got-requires c k less =
-    ap (λ h. h k) c.take.ensures.drained.2 ∙ ap (λ (o : Outputs). o.holds k) c.loop-leaf.invariant ∙ ap (λ (o : Outputs). o.holds k) c.in_ok-port.ensures.outputs ∙ lt-ltb k 4 less
+    ap (λ h. h k) c.take_watched.ensures.drained.2 ∙ ap (λ (o : Outputs). o.holds k) c.loop-leaf.invariant ∙ ap (λ (o : Outputs). o.holds k) c.in_ok-port.ensures.outputs ∙ lt-ltb k 4 less

@@ -10,7 +10,7 @@ invariant_of-self g c =
     let more : List Bool = take c.min-count.result rest in
     let was : c.clear_ready.new.held.bits ≡ cond c.self.inside.fresh [] c.self.inside.held.bits = ap (λ b. b.bits) c.clear_ready.ensures.held in
     let now : c.append_from.new.self.bits ≡ c.clear_ready.new.held.bits ++ more = ap (λ b. b.bits) c.append_from.ensures in
-    let count : length more ≡ c.min-count.result = length-take-le c.min-count.result rest (omega (arith, length-drop c.args.from c.args.bits.now.bits, c.min-count.ensures, c.len.ensures.count)) in
+    let count : length more ≡ c.min-count.result = length-take-le c.min-count.result rest (omega (arith, length-drop c.args.from c.args.bits.now.bits, c.min-count.ensures, c.requires)) in
     let some : 0 < g.S.Shape.LEN = omega (arith, g.met.S.Shape.len_is, g.met.S.Shape.is_frame.some_slots) in
     let below : length (cond c.self.inside.fresh [] c.self.inside.held.bits) < c.frame_end.result =
     below_end g.S.Shape.shape g.S.Shape.LEN c.self.inside.searching c.self.inside.fresh c.self.inside.signals c.self.inside.before c.self.inside.held c.self.inside.search c.frame_end.result some c.self.invariant c.frame_end.ensures in
@@ -28,7 +28,7 @@ returns-clause-waits g c line h =
     let more : List Bool = take c.min-count.result rest in
     let was : c.clear_ready.new.held.bits ≡ cond c.self.inside.fresh [] c.self.inside.held.bits = ap (λ b. b.bits) c.clear_ready.ensures.held in
     let now : c.append_from.new.self.bits ≡ c.clear_ready.new.held.bits ++ more = ap (λ b. b.bits) c.append_from.ensures in
-    let count : length more ≡ c.min-count.result = length-take-le c.min-count.result rest (omega (arith, length-drop c.args.from c.args.bits.now.bits, c.min-count.ensures, c.len.ensures.count)) in
+    let count : length more ≡ c.min-count.result = length-take-le c.min-count.result rest (omega (arith, length-drop c.args.from c.args.bits.now.bits, c.min-count.ensures, c.requires)) in
     let some : 0 < g.S.Shape.LEN = omega (arith, g.met.S.Shape.len_is, g.met.S.Shape.is_frame.some_slots) in
     let below : length (cond c.self.inside.fresh [] c.self.inside.held.bits) < c.frame_end.result =
     below_end g.S.Shape.shape g.S.Shape.LEN c.self.inside.searching c.self.inside.fresh c.self.inside.signals c.self.inside.before c.self.inside.held c.self.inside.search c.frame_end.result some c.self.invariant c.frame_end.ensures in

@@ -14,7 +14,7 @@ loop-trib-preserved g c =
       next = omega (arith, more, inv.next, c.in_ok-open.ensures.next);
       meanings = rw (c.in_ok-push.ensures.items)
           (one_more_below receivers g.C.Rx.meaning shapes c.args.path c.child_path.result c.args.next.now c.loop-trib.trib c.loop-trib.next c.loop-trib.children.items c.in_ok-open.field-0 inv.meanings c.child_path.ensures inv.next c.in_ok-open.ensures.meaning);
-      tells = rw (c.in_ok-push.ensures.items) (each_more g.C.Rx.tells c.loop-trib.children.items c.in_ok-open.field-0 inv.tells c.in_ok-open.ensures.tells);
+      stands = rw (c.in_ok-push.ensures.items) (each_more g.C.Rx.stands c.loop-trib.children.items c.in_ok-open.field-0 inv.stands c.in_ok-open.ensures.stands);
     }
 
 pub open-requires-2-clause-count : goal.open-requires-2-clause-count

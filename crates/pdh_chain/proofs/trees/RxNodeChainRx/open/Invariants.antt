@@ -9,5 +9,5 @@ abbrev pub invariant-loop-trib : goal.invariant-loop-trib
 invariant-loop-trib g l = record {
   next : l.next ≡ l.fn.next + l.trib * width g.C.ChainRx.shapes;
   meanings : map g.C.Rx.meaning l.children.items ≡ receivers_below g.C.ChainRx.shapes l.fn.path l.fn.next l.trib;
-  tells : EachStands g.C.Rx.tells l.children.items (λ j. []);
+  stands : EachStands g.C.Rx.stands l.children.items (λ j. []);
 }

@@ -12,6 +12,6 @@ pub returns : goal.returns
 returns g c =
     let s = g.S.Shape.shape in
     let is : c.deref.result.now ≡ map (alarm_slot s) (slots_with s Alarm) = c.deref.ensures.value ∙ c.self.invariant.alarm_are in
-    let says = says_are s c.deref.result.now c.args.frame.now is in
-    let result : c.agreed_alarm.result ≡ agreed c.self.inside.alarm (alarm_says s c.args.frame.now) = c.agreed_alarm.ensures ∙ ap (agreed c.self.inside.alarm) says in
-    result ∙ ap (λ kept. agreed kept.alarm (alarm_says s c.args.frame.now)) c.self.view_is
+    let says = says_are s c.deref.result.now c.args.frame.now.bits is in
+    let result : c.agreed_alarm.result ≡ agreed c.self.inside.alarm (alarm_says s c.args.frame.now.bits) = c.agreed_alarm.ensures ∙ ap (agreed c.self.inside.alarm) says in
+    result ∙ ap (λ kept. agreed kept.alarm (alarm_says s c.args.frame.now.bits)) c.self.view_is

@@ -11,12 +11,12 @@ pub returns-then-not-is_empty : goal.returns-then-not-is_empty
 returns-then-not-is_empty g c =
     let s = g.S.Shape.shape in
     let is : c.deref.result.now ≡ slots_with s PathParity = c.deref.ensures.value ∙ c.self.invariant.path_parity_are in
-    let are = bits_are s PathParity c.deref.result.now c.args.frame.now is in
-    let long = bits_long s PathParity c.deref.result.now c.args.frame.now is ∙ c.deref.ensures.len in
-    path_some (duty_bits s PathParity c.args.frame.now) _ c.is_empty.result c.most_are_ones.result c.args.odd c.is_empty.ensures c.if-not-is_empty.true long (c.most_are_ones.ensures ∙ ap most_are_ones are)
+    let are = bits_are s PathParity c.deref.result.now c.args.frame.now.bits is in
+    let long = bits_long s PathParity c.deref.result.now c.args.frame.now.bits is ∙ c.deref.ensures.len in
+    path_some (duty_bits s PathParity c.args.frame.now.bits) _ c.is_empty.result c.most_are_ones.result c.args.odd c.is_empty.ensures c.if-not-is_empty.true long (c.most_are_ones.ensures ∙ ap most_are_ones are)
 
 pub returns-else-not-is_empty : goal.returns-else-not-is_empty
 returns-else-not-is_empty g c =
     let s = g.S.Shape.shape in
-    let long = bits_long s PathParity c.self.inside.path_parity_slots.items c.args.frame.now c.self.invariant.path_parity_are ∙ sym c.self.inside.path_parity_slots.ok.0 in
-    path_none (duty_bits s PathParity c.args.frame.now) _ c.is_empty.result c.args.odd c.is_empty.ensures c.if-not-is_empty.false long
+    let long = bits_long s PathParity c.self.inside.path_parity_slots.items c.args.frame.now.bits c.self.invariant.path_parity_are ∙ sym c.self.inside.path_parity_slots.ok.0 in
+    path_none (duty_bits s PathParity c.args.frame.now.bits) _ c.is_empty.result c.args.odd c.is_empty.ensures c.if-not-is_empty.false long

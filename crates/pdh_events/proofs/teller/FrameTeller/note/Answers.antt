@@ -1,4 +1,4 @@
-use Rattle.std.proofs.Common.{◌≡◌, Bool, List, ◌++◌, map, sym, ◌∙◌, subst}
+use Rattle.std.proofs.Common.{◌≡◌, Bool, List, ◌++◌, map, sym, ap, ◌∙◌, subst, Some}
 use Rattle.pdh_shape.specs.declared.role.Duty.TheVariants.{Feac}
 use Rattle.pdh_watch.specs.declared.event.Event.{Event}
 use Rattle.pdh_cbit.specs.Channel.{HasReceived}
@@ -11,21 +11,21 @@ use Rattle.pdh_events.proofs.Noting.{remembers_more, events_are}
 use Rattle.pdh_events.proofs.teller.FrameTeller.note.Goals as goal
 
 pub note_codes-requires : goal.note_codes-requires
-note_codes-requires g c = slots_inside g.S.Shape.shape Feac _ _ (c.deref.ensures.value ∙ c.self.invariant.feac_are) (g.met.S.Shape.len_is ∙ sym c.requires)
+note_codes-requires g c = slots_inside g.S.Shape.shape Feac _ _ (c.deref.ensures.value ∙ c.self.invariant.feac_are) (g.met.S.Shape.len_is ∙ sym c.requires.whole)
 
 pub returns-clause-remembers : goal.returns-clause-remembers
 returns-clause-remembers g c pieces is =
     let s = g.S.Shape.shape in
-    let frame = c.args.frame.now in
+    let frame = c.args.frame.now.bits in
     let bits : bits_at c.deref.result.now frame ≡ duty_bits s Feac frame = bits_are s Feac c.deref.result.now frame (c.deref.ensures.value ∙ c.self.invariant.feac_are) in
-    remembers_more s c.args.self.now _ pieces frame c.alarm_after-alarm.ensures c.parity_of-self-inside.ensures
+    remembers_more s c.args.self.now _ pieces frame c.alarm_after-alarm.ensures (ap Some c.requires.odd)
     (λ before received. subst (λ more. HasReceived c.note_codes.new.channel (before ++ more)) bits (c.note_codes.ensures.received before (subst (λ kept. HasReceived kept.channel before) (sym c.self.view_is) received)))
     is
 
 pub returns-clause-seen : goal.returns-clause-seen
 returns-clause-seen g c pieces is =
     let s = g.S.Shape.shape in
-    let frame = c.args.frame.now in
+    let frame = c.args.frame.now.bits in
     let path = c.args.path in
     let bit = c.args.bit in
     let saw = g.W.Watch.saw in

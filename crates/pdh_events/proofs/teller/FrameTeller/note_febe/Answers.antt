@@ -14,6 +14,6 @@ any_differs-febe-requires g c = slots_inside g.S.Shape.shape Febe _ _ (c.deref.e
 pub returns : goal.returns
 returns g c =
     let P : Bool → Type 0 = λ febe. g.W.Watch.saw c.args.watch.now (tell c.args.path c.args.bit (cond febe (FEBE ∷ []) [])) c.note_if.new.watch in
-    let is : c.any_differs-febe.result ≡ list_any not (duty_bits g.S.Shape.shape Febe c.args.frame.now) =
-    c.any_differs-febe.ensures ∙ other_than_one (bits_at c.deref.result.now c.args.frame.now) ∙ ap (list_any not) (bits_are g.S.Shape.shape Febe _ c.args.frame.now (c.deref.ensures.value ∙ c.self.invariant.febe_are)) in
+    let is : c.any_differs-febe.result ≡ list_any not (duty_bits g.S.Shape.shape Febe c.args.frame.now.bits) =
+    c.any_differs-febe.ensures ∙ other_than_one (bits_at c.deref.result.now c.args.frame.now.bits) ∙ ap (list_any not) (bits_are g.S.Shape.shape Febe _ c.args.frame.now.bits (c.deref.ensures.value ∙ c.self.invariant.febe_are)) in
     subst P is c.note_if.ensures

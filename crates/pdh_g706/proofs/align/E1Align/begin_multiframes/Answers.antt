@@ -1,6 +1,6 @@
 use Rattle.std.proofs.Common.{◌-◌, ◌*◌, ◌/◌, ◌∷◌, [], ◌++◌, Bool, List, refl, ap, ◌∙◌, arith}
 use Rattle.std.proofs.lemmas.Result.{err_from_is_err_and}
-use Rattle.circular_buffer.specs.Buffer.{Buffer}
+use Rattle.pdh_bits.specs.BitOut.{BoundedBits}
 use Rattle.pdh_g706.specs.Machine.Phase.{Framed}
 use Rattle.pdh_g706.proofs.AlignSteps.{begun, framing_is, framing_payload, becomes, counted_more, tell_join, kinds_of, begun_kinds}
 use Rattle.pdh_watch.specs.declared.kind.TheConstants.Kind.{ALIGNED}
@@ -13,22 +13,22 @@ use Rattle.pdh_g706.proofs.align.E1Align.begin_multiframes.Goals as goal
 pub returns-in_err-put_frames-clause-part : goal.returns-in_err-put_frames-clause-part
 returns-in_err-put_frames-clause-part g c =
     let p = err_from_is_err_and c.from_residual.result c.from_residual.ensures.1 in
-    let bits = c.args.self.now.held.items in
-    rw (p.1, framing_payload bits c.args.first ((c.len.result / 256 - c.args.first) / 16) (omega arith)) c.in_err-put_frames.ensures.part
+    let bits = c.args.self.now.held.bits in
+    rw (p.1, framing_payload bits c.args.first ((c.held.result / 256 - c.args.first) / 16) (omega arith)) c.in_err-put_frames.ensures.part
 
 pub returns-clause-becomes : goal.returns-clause-becomes
 returns-clause-becomes g c =
     let self = c.args.self.now in
-    let bits = self.held.items in
+    let bits = self.held.bits in
     let first = c.args.first in
-    let whole = (c.len.result / 256 - first) / 16 in
-    let blocks = (c.len.result / 256 - first) / 8 - 1 in
+    let whole = (c.held.result / 256 - first) / 16 in
+    let blocks = (c.held.result / 256 - first) / 8 - 1 in
     becomes _ (begun bits first whole blocks c.judge-wrong.result) self _
     (framing_is bits first whole blocks c.judge-wrong.result (omega arith) (omega arith) c.judge-wrong.ensures.count)
     (record {
-      phase_is = ap (λ (b : Buffer Bool). Framed b.items blocks c.judge-wrong.result) c.drop_front.ensures;
+      phase_is = ap (λ (b : BoundedBits). Framed b.bits blocks c.judge-wrong.result) c.drop_oldest.ensures;
       counts = counted_more self.counts c.plus-self.result _ c.plus-self.ensures.multiframes c.plus-self.ensures.blocks c.plus-self.ensures.errored;
-      room = ap (λ (b : Buffer Bool). b.capacity) c.drop_front.ensures;
+      room = ap (λ (b : BoundedBits). b.capacity) c.drop_oldest.ensures;
       number = refl;
       ais = refl;
       alarm = c.note_frames-self.ensures.alarm ∙ ap (λ n. alarm_after self.alarm (frames_from (frames_of bits) first n)) (omega arith);
@@ -36,16 +36,16 @@ returns-clause-becomes g c =
 
 pub returns-clause-put : goal.returns-clause-put
 returns-clause-put g c =
-    let bits = c.args.self.now.held.items in
-    rw (framing_payload bits c.args.first ((c.len.result / 256 - c.args.first) / 16) (omega arith)) c.in_ok-put_frames.ensures.put
+    let bits = c.args.self.now.held.bits in
+    rw (framing_payload bits c.args.first ((c.held.result / 256 - c.args.first) / 16) (omega arith)) c.in_ok-put_frames.ensures.put
 
 pub returns-clause-seen : goal.returns-clause-seen
 returns-clause-seen g c =
     let self = c.args.self.now in
-    let bits = self.held.items in
+    let bits = self.held.bits in
     let first = c.args.first in
-    let whole = (c.len.result / 256 - first) / 16 in
-    let blocks = (c.len.result / 256 - first) / 8 - 1 in
+    let whole = (c.held.result / 256 - first) / 16 in
+    let blocks = (c.held.result / 256 - first) / 8 - 1 in
     let saw = g.W.Watch.saw in
     let join = g.met.W.Watch.saw_join in
     let crc = crc_kinds (each_errs (frames_of bits) first blocks) in

@@ -1,6 +1,6 @@
 -- A machine that has taken no bit stands for the empty line.
 use Rattle.std.proofs.Common.{◌≡◌, Bool, false, List, [], refl, sym, ap, subst}
-use Rattle.circular_buffer.specs.Buffer.{Buffer}
+use Rattle.pdh_bits.specs.BitOut.{BoundedBits}
 use Rattle.pdh_g706.specs.Machine.{Holds}
 use Rattle.pdh_g706.specs.Machine.Phase.{Searching}
 use Rattle.pdh_g706.proofs.HoldsLaws.{holds_empty, empty_counts, empty_signs}
@@ -10,11 +10,11 @@ use Rattle.pdh_g706.proofs.align.E1Align.open.Goals as goal
 
 pub returns : goal.returns
 returns c =
-    let empty : [] ≡ c.in_ok-with_capacity.field-0.items = ap (λ (b : Buffer Bool). b.items) (sym c.in_ok-with_capacity.ensures) in
+    let empty : [] ≡ c.in_ok-open.field-0.bits = ap (λ (b : BoundedBits). b.bits) (sym c.in_ok-open.ensures) in
     record {
       holds = subst (λ (bits : List Bool). Holds (Searching bits) []) empty holds_empty;
       counts = record { multiframes_are = empty_counts.0; blocks_are = empty_counts.1; errored_are = empty_counts.2 };
-      room = ap (λ (b : Buffer Bool). b.capacity) c.in_ok-with_capacity.ensures;
+      room = ap (λ (b : BoundedBits). b.capacity) c.in_ok-open.ensures;
       number = refl;
       long = c.new.ensures.long;
       ones = c.new.ensures.none;

@@ -1,6 +1,7 @@
 use Rattle.std.proofs.Common.{◌≡◌, ◌+◌, ◌*◌, ◌++◌, suc, true, false, List, length, take, drop, replicate, sym, ap, ◌∙◌, subst, arith}
 use Rattle.std.proofs.lemmas.List.{take_at, length-replicate}
 use Rattle.pdh_bits.specs.BitOut.{BoundedBits}
+use Rattle.pdh_runs.specs.Columns.{payload_bits}
 use Rattle.pdh_runs.specs.Taking.{HasColumns}
 use Rattle.pdh_runs.proofs.parts.Parts.open.Goals as goal
 
@@ -18,6 +19,7 @@ invariant_of-result-3 g c =
       frame_whole = ap (λ (b : BoundedBits). length b.bits) (c.frame.view_is ∙ c.in_ok-frame.ensures) ∙ length-replicate c.LEN.result false ∙ c.LEN.ensures ∙ sym g.met.S.Shape.len_is;
       frame_room = omega (arith, ap (λ (b : BoundedBits). b.capacity) (c.frame.view_is ∙ c.in_ok-frame.ensures), c.LEN.ensures, g.met.S.Shape.len_is);
       payload_room = omega (arith, ap (λ (b : BoundedBits). b.capacity) c.payload-2.view_is, c.take_apart.ensures.scratch, ap (λ (b : BoundedBits). b.capacity) c.in_ok-payload.ensures, product);
+      payload_is = ap (λ (b : BoundedBits). b.bits) c.payload-2.view_is ∙ c.take_apart.ensures.payload ∙ ap (λ (b : BoundedBits). payload_bits s b.bits) (sym c.frame.view_is);
       columns_are = subst (λ (b : BoundedBits). HasColumns s b.bits (take c.in_ok-columns.columns.len (columns ++ drop (length columns) items))) (sym c.frame.view_is) (subst (HasColumns s frame.bits) (sym all) c.take_apart.ensures.columns);
       whole_known = tt;
       bits_room = omega (arith, ap (λ (b : BoundedBits). b.capacity) c.in_ok-open.ensures, each);

@@ -1,37 +1,54 @@
+use Rattle.std.proofs.Common.{ap}
 use Rattle.std.proofs.lemmas.Result.{on_ok_weaker, on_err_weaker}
 use Rattle.pdh_line.specs.Tracking.{track}
+use Rattle.pdh_rx.specs.Node.{received_lines, node_meaning}
 use Rattle.pdh_rx.specs.laws.NodeLaws.{all_sound}
 use Rattle.pdh_rx.proofs.Gains.{on_ok_both}
-use Rattle.pdh_rx.proofs.NodePlays.{node_tells, told_gains, told_part, told_sees, told_sees_part}
+use Rattle.pdh_rx.proofs.NodePlays.{node_stands, told_gains, told_part, told_sees, told_sees_part}
 use Rattle.pdh_rx.proofs.node.RxNodeRx.push.Goals as goal
 
-pub returns-clause-tells : goal.returns-clause-tells
-returns-clause-tells g c =
+pub act-requires-clause-told : goal.act-requires-clause-told
+act-requires-clause-told g c = (track g.S.Shape.shape c.requires.stands.0, c.requires.stands.1.remembers)
+
+pub act-requires-clause-children : goal.act-requires-clause-children
+act-requires-clause-children g c = record { lines = received_lines g.S.Shape.shape c.requires.stands.0; each = c.requires.stands.1.node.each; lists = c.requires.lists }
+
+pub returns-clause-stands : goal.returns-clause-stands
+returns-clause-stands g c =
     on_ok_weaker c.act.result (λ both line told.
-    node_tells g.C.Rx.tells g.W.Watch.saw g.met.W.Watch.saw_join g.C.Rx.meaning g.S.Shape.shape c.args.self.now.path g.met.S.Shape.is_frame _ _ _ _ _ _ _ _ c.push-step.result c.args.bit line told (c.push-step.ensures.tracks line told.node.aligner) c.gap_after-self.result c.gap_after-self.ensures
-    _ _ _ (c.note.ensures.seen line told.ones_are) _ _ _ _ _ _ _ c.frames_after-self.ensures c.saturating_add-self.ensures c.note.ensures.long (c.note.ensures.counts line told.ones_are) (both.1 (track g.S.Shape.shape line) told.remembers) c.act.ensures.same (both.0 (track g.S.Shape.shape line) told.remembers))
+    node_stands g.C.Rx.stands g.W.Watch.saw g.met.W.Watch.saw_join g.C.Rx.meaning g.S.Shape.shape c.args.self.now.path g.met.S.Shape.is_frame _ _ _ _ _ _ _ _ c.push-step.result c.args.bit line told (c.push-step.ensures.tracks line told.node.aligner) c.gap_after-self.result c.gap_after-self.ensures
+    _ _ _ (c.note.ensures.seen line told.ones_are) _ _ _ _ _ _ _ c.frames_after-self.ensures c.saturating_add-self.ensures c.note.ensures.long (c.note.ensures.counts line told.ones_are) (both.1 (track g.S.Shape.shape line) told.remembers) c.act.ensures.kept.same (both.0 (track g.S.Shape.shape line) told.remembers))
     (on_ok_both _ _ c.act.result c.act.ensures.played c.act.ensures.remembers)
 
 pub returns-clause-put : goal.returns-clause-put
 returns-clause-put g c =
     on_ok_weaker c.act.result (λ played line told.
-    told_gains g.C.Rx.tells g.W.Watch.saw g.met.W.Watch.saw_join g.C.Rx.meaning g.S.Shape.shape c.args.self.now.path g.met.S.Shape.is_frame _ _ _ _ _ _ _ _ c.push-step.result c.args.bit line told (c.push-step.ensures.tracks line told.node.aligner) c.gap_after-self.result c.gap_after-self.ensures
-    _ _ _ (c.note.ensures.seen line told.ones_are) _ _ _ c.act.ensures.same (played (track g.S.Shape.shape line) told.remembers)) c.act.ensures.played
+    told_gains g.C.Rx.stands g.W.Watch.saw g.met.W.Watch.saw_join g.C.Rx.meaning g.S.Shape.shape c.args.self.now.path g.met.S.Shape.is_frame _ _ _ _ _ _ _ _ c.push-step.result c.args.bit line told (c.push-step.ensures.tracks line told.node.aligner) c.gap_after-self.result c.gap_after-self.ensures
+    _ _ _ (c.note.ensures.seen line told.ones_are) _ _ _ c.act.ensures.kept.same (played (track g.S.Shape.shape line) told.remembers)) c.act.ensures.played
 
 pub returns-clause-put_err : goal.returns-clause-put_err
 returns-clause-put_err g c =
     on_err_weaker c.act.result (λ played line told.
-    told_part g.C.Rx.tells g.W.Watch.saw g.met.W.Watch.saw_join g.C.Rx.meaning g.S.Shape.shape c.args.self.now.path g.met.S.Shape.is_frame _ _ _ _ _ _ _ _ c.push-step.result c.args.bit line told (c.push-step.ensures.tracks line told.node.aligner) c.gap_after-self.result c.gap_after-self.ensures
+    told_part g.C.Rx.stands g.W.Watch.saw g.met.W.Watch.saw_join g.C.Rx.meaning g.S.Shape.shape c.args.self.now.path g.met.S.Shape.is_frame _ _ _ _ _ _ _ _ c.push-step.result c.args.bit line told (c.push-step.ensures.tracks line told.node.aligner) c.gap_after-self.result c.gap_after-self.ensures
     _ _ _ (c.note.ensures.seen line told.ones_are) _ _ (played (track g.S.Shape.shape line) told.remembers)) c.act.ensures.part
 
 pub returns-clause-seen : goal.returns-clause-seen
 returns-clause-seen g c =
     on_ok_weaker c.act.result (λ played line told.
-    told_sees g.C.Rx.tells g.W.Watch.saw g.met.W.Watch.saw_join g.C.Rx.meaning g.S.Shape.shape c.args.self.now.path g.met.S.Shape.is_frame _ _ _ _ _ _ _ _ c.push-step.result c.args.bit line told (c.push-step.ensures.tracks line told.node.aligner) c.gap_after-self.result c.gap_after-self.ensures
+    told_sees g.C.Rx.stands g.W.Watch.saw g.met.W.Watch.saw_join g.C.Rx.meaning g.S.Shape.shape c.args.self.now.path g.met.S.Shape.is_frame _ _ _ _ _ _ _ _ c.push-step.result c.args.bit line told (c.push-step.ensures.tracks line told.node.aligner) c.gap_after-self.result c.gap_after-self.ensures
     _ _ _ (c.note.ensures.seen line told.ones_are) _ _ _ (played (track g.S.Shape.shape line) told.remembers)) c.act.ensures.played
 
 pub returns-clause-seen_err : goal.returns-clause-seen_err
 returns-clause-seen_err g c =
     on_err_weaker c.act.result (λ played line told.
-    told_sees_part g.C.Rx.tells g.W.Watch.saw g.met.W.Watch.saw_join g.C.Rx.meaning g.S.Shape.shape c.args.self.now.path g.met.S.Shape.is_frame _ _ _ _ _ _ _ _ c.push-step.result c.args.bit line told (c.push-step.ensures.tracks line told.node.aligner) c.gap_after-self.result c.gap_after-self.ensures
-    _ _ _ (c.note.ensures.seen line told.ones_are) (all_sound g.C.Rx.meaning g.met.C.Rx.sound c.args.self.now.children.items) _ _ (played (track g.S.Shape.shape line) told.remembers)) c.act.ensures.part
+    told_sees_part g.C.Rx.stands g.W.Watch.saw g.met.W.Watch.saw_join g.C.Rx.meaning g.S.Shape.shape c.args.self.now.path g.met.S.Shape.is_frame _ _ _ _ _ _ _ _ c.push-step.result c.args.bit line told (c.push-step.ensures.tracks line told.node.aligner) c.gap_after-self.result c.gap_after-self.ensures
+    _ _ _ (c.note.ensures.seen line told.ones_are) (all_sound g.C.Rx.meaning g.met.C.Rx.sound c.args.self.now.children) _ _ (played (track g.S.Shape.shape line) told.remembers)) c.act.ensures.part
+
+pub returns-clause-cause : goal.returns-clause-cause
+returns-clause-cause g c = c.act.ensures.kept.cause
+
+pub returns-clause-drained : goal.returns-clause-drained
+returns-clause-drained g c = c.act.ensures.kept.drains
+
+pub returns-clause-same : goal.returns-clause-same
+returns-clause-same g c = ap (node_meaning g.S.Shape.shape c.args.self.now.path) c.act.ensures.kept.same
