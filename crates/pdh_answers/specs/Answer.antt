@@ -2,17 +2,14 @@
 use Rattle.std.specs.Prelude.{ℕ, List, ◌++◌, codes, decimal, Result, Ok, Err}
 use Rattle.pdh_shape.specs.declared.place.Place.{Place}
 use Rattle.pdh_line.specs.Paths.{steps_of, path_text}
-use Rattle.pdh_chain.specs.Chains.{name_of as name_of_chain}
 use Rattle.pdh_clock.specs.declared.fault.ScheduleFault.{ScheduleFault}
 use Rattle.pdh_clock.specs.declared.fault.ScheduleFault.TheVariants.{TooLong as LongText, BadRow as RowIsBad, UnknownNode as NodeIsUnknown, CountOver as CountIsOver, Memory as NoMemory}
 use Rattle.pdh_script.specs.declared.fault.ScriptFault.{ScriptFault}
 use Rattle.pdh_script.specs.declared.fault.ScriptFault.TheVariants.{TooLong as LongScriptText, BadRow as ScriptRowIsBad, PastEnd as EndIsPast, Memory as NoScriptMemory}
-use Rattle.pdh_lab.specs.declared.report.Drill.{Drill}
+use Rattle.pdh_words.specs.Commands.{usage_text}
 use Rattle.pdh_answers.specs.Names.{name_of}
 use Rattle.pdh_answers.specs.declared.answer.Done.{Done}
-use Rattle.pdh_answers.specs.declared.answer.Done.TheVariants.{Demuxed, Muxed, ClockInside, ClockOutside, ClockMade, E1Packed, E1Unpacked, Inspected, E1Inspected, Shown, Disturbed, Drilled}
-use Rattle.pdh_answers.specs.declared.answer.E1Counts.{E1Counts}
-use Rattle.pdh_answers.specs.declared.answer.OutOfTolerance.{OutOfTolerance}
+use Rattle.pdh_answers.specs.declared.answer.Done.TheVariants.{Line, Watched, Frame}
 use Rattle.pdh_answers.specs.declared.answer.Stop.{Stop}
 use Rattle.pdh_answers.specs.declared.answer.Stop.TheVariants.{Memory, Usage, Read, Write, Missing, LongSchedule, BadRow, UnknownNode, CountOver, ShortNode, Short, Overflow, Underflow, ManyFrames, NoAlignment, NotWhole, LongScript, BadScriptRow, PastEnd}
 
@@ -66,39 +63,16 @@ abbrev pub place_text : Place → List ℕ
 place_text place =
     path_text (steps_of place.path) ++ codes " tributary " ++ decimal place.trib ++ codes " frame " ++ decimal place.frame ++ codes " slot " ++ decimal place.slot
 
--- a tributary that isn't within the tolerance, and the run of frames that shows it: the frame behind the run is named
-abbrev pub outside_text : OutOfTolerance → List ℕ
-outside_text out =
-    path_text (steps_of out.node) ++ codes " tributary " ++ decimal out.trib ++ codes " frames " ++ decimal out.run.from ++ codes " to " ++ decimal out.run.to ++ codes " sum " ++ decimal out.run.sum
-
--- what was found in a framed 2048 kbit/s line
-abbrev pub counts_text : E1Counts → List ℕ
-counts_text found = decimal found.multiframes ++ codes " blocks " ++ decimal found.blocks ++ codes " errored " ++ decimal found.errored
-
--- the report of a drill
-abbrev pub drill_text : Drill → List ℕ
-drill_text drill =
-    decimal drill.leaves ++ codes " in " ++ decimal drill.entered ++ codes " out " ++ decimal drill.out ++ codes " equal " ++ decimal drill.equal ++ codes " late " ++ decimal drill.late
-
--- Each text is one line, but for that of a frame. What an inspection did stands behind the lines of the monitors.
+-- the text of what was done
 abbrev pub done_text : Done → List ℕ
-done_text (Demuxed chain frames) = codes "demux " ++ name_of_chain chain ++ codes ": frames " ++ decimal frames ++ codes "\n"
-done_text (Muxed chain frames) = codes "mux " ++ name_of_chain chain ++ codes ": frames " ++ decimal frames ++ codes "\n"
-done_text (ClockInside chain) = codes "clock " ++ name_of_chain chain ++ codes ": inside\n"
-done_text (ClockOutside chain out) = codes "clock " ++ name_of_chain chain ++ codes ": outside " ++ outside_text out ++ codes "\n"
-done_text (ClockMade chain rows) = codes "clock " ++ name_of_chain chain ++ codes ": rows " ++ decimal rows ++ codes "\n"
-done_text (E1Packed multiframes) = codes "e1pack: multiframes " ++ decimal multiframes ++ codes "\n"
-done_text (E1Unpacked found) = codes "e1unpack: multiframes " ++ counts_text found ++ codes "\n"
-done_text (Inspected chain frames events) = codes "inspect " ++ name_of_chain chain ++ codes ": frames " ++ decimal frames ++ codes " events " ++ decimal events ++ codes "\n"
-done_text (E1Inspected multiframes events) = codes "inspect e1: multiframes " ++ decimal multiframes ++ codes " events " ++ decimal events ++ codes "\n"
-done_text (Shown text) = text
-done_text (Disturbed chain bits) = codes "disturb " ++ name_of_chain chain ++ codes ": bits " ++ decimal bits ++ codes "\n"
-done_text (Drilled chain seed frames drill) =
-    codes "drill " ++ name_of_chain chain ++ codes " seed " ++ decimal seed ++ codes " frames " ++ decimal frames ++ codes ": leaves " ++ drill_text drill ++ codes "\n"
+done_text (Line text) = text
+done_text (Watched text) = text
+done_text (Frame text) = text
 
+-- each text of a stop is one line
 abbrev pub stop_text : Stop → List ℕ
 stop_text Memory = codes "memory\n"
-stop_text Usage = codes "usage: pdh mux demux clock inspect show e1pack e1unpack disturb drill\n"
+stop_text Usage = usage_text ++ codes "\n"
 stop_text (Read file) = codes "read fault: " ++ name_of file ++ codes "\n"
 stop_text (Write file) = codes "write fault: " ++ name_of file ++ codes "\n"
 stop_text (Missing file) = codes "missing: " ++ name_of file ++ codes "\n"

@@ -4,7 +4,7 @@ use Rattle.pdh_edge.specs.Files.{SinkState, Sends, FailsToSend}
 use Rattle.pdh_watch.specs.Monitors.{State, says}
 use Rattle.pdh_answers.specs.Answer.{Answer, status_of, done_text, stop_text}
 use Rattle.pdh_answers.specs.declared.answer.Done.{Done}
-use Rattle.pdh_answers.specs.declared.answer.Done.TheVariants.{Inspected, E1Inspected}
+use Rattle.pdh_answers.specs.declared.answer.Done.TheVariants.{Watched}
 
 -- the line of a monitor
 abbrev pub monitor_line : State → List ℕ
@@ -14,10 +14,9 @@ monitor_line state = says state ++ codes "\n"
 abbrev pub monitor_lines : List State → List ℕ
 monitor_lines states = flat_map monitor_line states
 
--- The whole text of what was done. An inspection tells what the monitors say first, which are in these states.
+-- the whole text of what was done, with what the monitors say, which are in these states
 abbrev pub whole_text : List State → Done → List ℕ
-whole_text states (Inspected chain frames events) = monitor_lines states ++ done_text (Inspected chain frames events)
-whole_text states (E1Inspected multiframes events) = monitor_lines states ++ done_text (E1Inspected multiframes events)
+whole_text states (Watched text) = monitor_lines states ++ text
 whole_text states done = done_text done
 
 -- An answer is told by its status and its text. Where the sink failed, it got a prefix of the text; the status of what

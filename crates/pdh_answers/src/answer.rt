@@ -1,35 +1,12 @@
-//! What a command did, with the numbers of its text, or why it stopped, with the program's status.
+//! What a command did, as its text, or why it stopped, with the program's status.
 
 use crate::file::File;
-use pdh_chain::Chain;
-use pdh_clock::{Outside, ScheduleFault};
-use pdh_lab::Drill;
+use pdh_clock::ScheduleFault;
 use pdh_script::ScriptFault;
 use pdh_shape::{Path, Place};
+use pdh_words::Text;
 use std::alloc::AllocError;
 use std::marker::Model;
-
-/// A tributary that isn't within the tolerance.
-#[derive(Clone, Copy, Debug, PartialEq, Eq)]
-pub struct OutOfTolerance {
-    /// Its node.
-    pub node: Path,
-    /// Its number, from 1.
-    pub trib: u8,
-    /// The first run of frames that breaks the tolerance.
-    pub run: Outside,
-}
-
-/// What was found in a framed 2048 kbit/s line.
-#[derive(Clone, Copy, Debug, PartialEq, Eq)]
-pub struct E1Counts {
-    /// The delivered multiframes.
-    pub multiframes: u64,
-    /// The judged blocks.
-    pub blocks: u64,
-    /// The errored ones among them.
-    pub errored: u64,
-}
 
 /// The text that shows a frame.
 #[derive(Drop)]
@@ -63,33 +40,15 @@ impl FrameText {
     }
 }
 
-/// What a command did, with the numbers of its text.
+/// What a command did, as its text.
 #[derive(Drop)]
 pub enum Done {
-    /// `demux`, with the whole frames of the line.
-    Demuxed(Chain, u64),
-    /// `mux`, with the frames of the line.
-    Muxed(Chain, u64),
-    /// `clock check`, where every tributary is within the tolerance.
-    ClockInside(Chain),
-    /// `clock check`, with the first tributary that isn't.
-    ClockOutside(Chain, OutOfTolerance),
-    /// `clock make`, with the rows of the schedule.
-    ClockMade(Chain, u64),
-    /// `e1pack`, with the multiframes of the line.
-    E1Packed(u64),
-    /// `e1unpack`, with what was found in the line.
-    E1Unpacked(E1Counts),
-    /// `inspect` of a chain, with the delivered frames of the line and its events.
-    Inspected(Chain, u64, u64),
-    /// `inspect e1`, with the delivered multiframes of the line and its events.
-    E1Inspected(u64, u64),
-    /// `show`, with its text.
-    Shown(FrameText),
-    /// `disturb`, with the bits of the disturbed line.
-    Disturbed(Chain, u64),
-    /// `drill`, with what the test patterns begin with, the frames of the line, and the report.
-    Drilled(Chain, u64, u64, Drill),
+    /// A line.
+    Line(Text),
+    /// A line behind those of the monitors.
+    Watched(Text),
+    /// The text of a frame.
+    Frame(FrameText),
 }
 
 /// Why a command ended early. Lines of a text are counted from 1.

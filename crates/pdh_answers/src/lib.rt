@@ -7,6 +7,6 @@ mod answer;
 mod file;
 mod reporting;
 
-pub use answer::{Done, E1Counts, FrameText, OutOfTolerance, Stop};
+pub use answer::{Done, FrameText, Stop};
 pub use file::{File, Name};
 pub use reporting::report;

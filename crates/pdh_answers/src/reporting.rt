@@ -1,21 +1,18 @@
-//! The text of each answer, and its way to the sink, behind the lines of the monitors.
+//! The text of each stop, and the way of all texts to the sink, behind the lines of the monitors.
 
 ghost use Rattle.std.specs.Prelude.{◌≡◌, ◌≤◌, ◌++◌, length, map, decimal, codes, OnOk, OnErr};
-ghost use Rattle.pdh_chain.specs.Chains.{name_of as name_of_chain};
 ghost use Rattle.pdh_line.specs.Paths.{steps_of, path_text};
 ghost use Rattle.pdh_answers.specs.Names.{name_of};
-ghost use Rattle.pdh_answers.specs.Answer.{done_text as done_of, stop_text as stop_of, place_text as place_of, outside_text as outside_of, counts_text, drill_text};
+ghost use Rattle.pdh_answers.specs.Answer.{stop_text as stop_of, place_text as place_of};
 ghost use Rattle.pdh_edge.specs.Files.{Sends, FailsToSend};
 ghost use Rattle.pdh_answers.specs.Lines.{monitor_line, monitor_lines, whole_text, IsTold};
 
-use crate::answer::{Done, E1Counts, OutOfTolerance, Stop};
+use crate::answer::{Done, Stop};
 use crate::file::File;
-use pdh_chain::Chain;
 use pdh_edge::{Failed, Sink};
-use pdh_lab::Drill;
 use pdh_shape::{Path, Place};
 use pdh_watch::Monitor;
-use pdh_words::Text;
+use pdh_words::{Text, usage};
 
 // A line of a part and a number.
 #[tactic(auto, using(pdh_text::proofs::Lengths::digits))]
@@ -57,107 +54,6 @@ fn placed(part: &str, place: Place) -> Text
     text.number(place.frame);
     text.text(" slot ");
     text.number(u64::from(place.slot));
-    text.text("\n");
-    text
-}
-
-// The line of a command, its chain, a part and a number.
-#[tactic(auto, using(pdh_text::proofs::Lengths::digits))]
-fn chain_counted(command: &str, chain: Chain, part: &str, n: u64) -> Text
-    requires command { length command.now ≤ 100 }
-    requires part { length part.now ≤ 100 }
-    ensures { result ≡ command.now ++ name_of_chain chain ++ part.now ++ decimal n ++ codes "\n" }
-{
-    let mut text = Text::new();
-    text.text(command);
-    text.text(chain.name());
-    text.text(part);
-    text.number(n);
-    text.text("\n");
-    text
-}
-
-// The line of a schedule within the tolerance.
-fn inside(chain: Chain) -> Text
-    ensures { result ≡ codes "clock " ++ name_of_chain chain ++ codes ": inside\n" }
-{
-    let mut text = Text::new();
-    text.text("clock ");
-    text.text(chain.name());
-    text.text(": inside\n");
-    text
-}
-
-// The line of a tributary that isn't within the tolerance.
-#[tactic(auto, using(pdh_text::proofs::Lengths::digits, pdh_text::proofs::Lengths::path_len))]
-fn outside(chain: Chain, out: OutOfTolerance) -> Text
-    ensures { result ≡ codes "clock " ++ name_of_chain chain ++ codes ": outside " ++ outside_of out ++ codes "\n" }
-{
-    let mut text = Text::new();
-    text.text("clock ");
-    text.text(chain.name());
-    text.text(": outside ");
-    text.path(&out.node);
-    text.text(" tributary ");
-    text.number(u64::from(out.trib));
-    text.text(" frames ");
-    text.number(out.run.from);
-    text.text(" to ");
-    text.number(out.run.to);
-    text.text(" sum ");
-    text.number(out.run.sum);
-    text.text("\n");
-    text
-}
-
-// The line of what was found in a framed 2048 kbit/s line.
-#[tactic(auto, using(pdh_text::proofs::Lengths::digits))]
-fn unpacked(found: E1Counts) -> Text
-    ensures { result ≡ codes "e1unpack: multiframes " ++ counts_text found ++ codes "\n" }
-{
-    let mut text = Text::new();
-    text.text("e1unpack: multiframes ");
-    text.number(found.multiframes);
-    text.text(" blocks ");
-    text.number(found.blocks);
-    text.text(" errored ");
-    text.number(found.errored);
-    text.text("\n");
-    text
-}
-
-// Appends the report of a drill.
-#[tactic(auto, using(pdh_text::proofs::Lengths::digits))]
-fn add_report(text: &mut Text, report: Drill)
-    requires { length text.old ≤ 150 }
-    ensures added { text.new ≡ text.old ++ drill_text report }
-    ensures short { length text.new ≤ 300 }
-{
-    text.number(u64::from(report.leaves));
-    text.text(" in ");
-    text.number(report.entered);
-    text.text(" out ");
-    text.number(report.out);
-    text.text(" equal ");
-    text.number(u64::from(report.equal));
-    text.text(" late ");
-    text.number(report.late);
-}
-
-// The line of a drill.
-#[tactic(auto, using(pdh_text::proofs::Lengths::digits))]
-fn drilled(chain: Chain, seed: u64, frames: u64, report: Drill) -> Text
-    ensures { result ≡ codes "drill " ++ name_of_chain chain ++ codes " seed " ++ decimal seed ++ codes " frames " ++ decimal frames ++ codes ": leaves " ++ drill_text report ++ codes "\n" }
-{
-    let mut text = Text::new();
-    text.text("drill ");
-    text.text(chain.name());
-    text.text(" seed ");
-    text.number(seed);
-    text.text(" frames ");
-    text.number(frames);
-    text.text(": leaves ");
-    add_report(&mut text, report);
     text.text("\n");
     text
 }
@@ -260,44 +156,12 @@ fn short_node(node: Path, have: u64, need: u64) -> Text
     text
 }
 
-// The line of what an inspection of a chain's line found.
-#[tactic(auto, using(pdh_text::proofs::Lengths::digits))]
-fn inspected(chain: Chain, frames: u64, events: u64) -> Text
-    ensures { result ≡ codes "inspect " ++ name_of_chain chain ++ codes ": frames " ++ decimal frames ++ codes " events " ++ decimal events ++ codes "\n" }
-{
-    let mut text = Text::new();
-    text.text("inspect ");
-    text.text(chain.name());
-    text.text(": frames ");
-    text.number(frames);
-    text.text(" events ");
-    text.number(events);
-    text.text("\n");
-    text
-}
-
-// The line of what an inspection of a framed 2048 kbit/s line found.
-#[tactic(auto, using(pdh_text::proofs::Lengths::digits))]
-fn e1_inspected(multiframes: u64, events: u64) -> Text
-    ensures { result ≡ codes "inspect e1: multiframes " ++ decimal multiframes ++ codes " events " ++ decimal events ++ codes "\n" }
-{
-    let mut text = Text::new();
-    text.text("inspect e1: multiframes ");
-    text.number(multiframes);
-    text.text(" events ");
-    text.number(events);
-    text.text("\n");
-    text
-}
-
 fn stop_text(stop: Stop) -> Text
     ensures { result ≡ stop_of stop }
 {
     match stop {
         Stop::Memory => plain("memory"),
-        Stop::Usage => plain(
-            "usage: pdh mux demux clock inspect show e1pack e1unpack disturb drill",
-        ),
+        Stop::Usage => plain(usage()),
         Stop::Read(file) => named("read fault: ", file),
         Stop::Write(file) => named("write fault: ", file),
         Stop::Missing(file) => named("missing: ", file),
@@ -353,27 +217,11 @@ fn write_done<K: Sink>(
     ensures ok { OnOk result (Sends (whole_text (map ⟦<Box<dyn Monitor> as Monitor>⟧.state monitors.now) done.now) (K.state out.old) (K.state out.new)) }
     ensures err { OnErr result (FailsToSend (whole_text (map ⟦<Box<dyn Monitor> as Monitor>⟧.state monitors.now) done.now) (K.state out.old) (K.state out.new)) }
 {
-    let text = match done {
-        Done::Inspected(chain, frames, events) => {
-            let last = inspected(*chain, *frames, *events);
-            return write_lines(out, monitors, last.bytes());
-        }
-        Done::E1Inspected(multiframes, events) => {
-            let last = e1_inspected(*multiframes, *events);
-            return write_lines(out, monitors, last.bytes());
-        }
-        Done::Shown(text) => return out.write(text.bytes()),
-        Done::Demuxed(chain, frames) => chain_counted("demux ", *chain, ": frames ", *frames),
-        Done::Muxed(chain, frames) => chain_counted("mux ", *chain, ": frames ", *frames),
-        Done::ClockInside(chain) => inside(*chain),
-        Done::ClockOutside(chain, out) => outside(*chain, *out),
-        Done::ClockMade(chain, rows) => chain_counted("clock ", *chain, ": rows ", *rows),
-        Done::E1Packed(multiframes) => counted("e1pack: multiframes ", *multiframes),
-        Done::E1Unpacked(found) => unpacked(*found),
-        Done::Drilled(chain, seed, frames, report) => drilled(*chain, *seed, *frames, *report),
-        Done::Disturbed(chain, bits) => chain_counted("disturb ", *chain, ": bits ", *bits),
-    };
-    out.write(text.bytes())
+    match done {
+        Done::Line(text) => out.write(text.bytes()),
+        Done::Watched(last) => write_lines(out, monitors, last.bytes()),
+        Done::Frame(text) => out.write(text.bytes()),
+    }
 }
 
 /// Writes the text of an answer, that of an inspection behind the lines of the monitors, and answers the status.

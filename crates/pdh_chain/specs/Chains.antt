@@ -3,10 +3,10 @@
 -- per million are this project's own.
 use Rattle.std.specs.Prelude.{ℕ, ◌*◌, ◌/◌, List, [], ◌∷◌, map, codes, refl}
 use Rattle.pdh_shape.specs.Frame.{FrameShape}
-use Rattle.pdh_shape.specs.Sets.{e2, e3, e4}
-use Rattle.pdh_shape.specs.laws.E2Laws.{e2_keeps_laws}
-use Rattle.pdh_shape.specs.laws.E3Laws.{e3_keeps_laws}
-use Rattle.pdh_shape.specs.laws.E4Laws.{e4_keeps_laws}
+use Rattle.pdh_eframes.specs.Plans.{e2, e3, e4}
+use Rattle.pdh_eframes.specs.laws.E2Laws.{e2_keeps_laws}
+use Rattle.pdh_eframes.specs.laws.E3Laws.{e3_keeps_laws}
+use Rattle.pdh_eframes.specs.laws.E4Laws.{e4_keeps_laws}
 use Rattle.pdh_ds.specs.Plans.{ds2, ds3, ds3c}
 use Rattle.pdh_ds.specs.laws.Ds2Laws.{ds2_keeps_laws}
 use Rattle.pdh_ds.specs.laws.Ds3Laws.{ds3_keeps_laws}
@@ -41,20 +41,20 @@ ds2_stage = record { frame = ds2; rates = whole_rates 6312000 30 1544000 32; law
 abbrev pub ds3_stage : Stage
 ds3_stage = record { frame = ds3; rates = whole_rates 44736000 20 6312000 30; lawful = ds3_keeps_laws; keeps = ds3_keeps; numbers = refl; rated = refl }
 
--- the rate of each of the seven streams that a DS3 with C-bit parity carries: a frame of 4760 bits has 671 bits of each, so it
--- is the line's rate times 671 / 4760
+-- the rate of each of the seven streams that a DS3 with C-bit parity carries: each of its frames has as many bits of each, so it
+-- is to the line's rate as these bits to those of the frame
 abbrev pub locked_rate : ℕ
-locked_rate = 44736000 * 671
+locked_rate = 44736000 * ds3c.low
 
 abbrev pub ds3c_rates : Rates
-ds3c_rates = record { rate = 44736000; per = 1; ppm = 20; trib_rate = locked_rate; trib_per = 4760; trib_ppm = 20 }
+ds3c_rates = record { rate = 44736000; per = 1; ppm = 20; trib_rate = locked_rate; trib_per = ds3c.len; trib_ppm = 20 }
 
 -- seven streams in one of 44736 kbit/s with C-bit parity, which have the line's clock
 abbrev pub ds3c_stage : Stage
 ds3c_stage = record { frame = ds3c; rates = ds3c_rates; lawful = ds3c_keeps_laws; keeps = ds3c_keeps; numbers = refl; rated = refl }
 
 abbrev pub locked_ds2_rates : Rates
-locked_ds2_rates = record { rate = locked_rate; per = 4760; ppm = 20; trib_rate = 1544000; trib_per = 1; trib_ppm = 32 }
+locked_ds2_rates = record { rate = locked_rate; per = ds3c.len; ppm = 20; trib_rate = 1544000; trib_per = 1; trib_ppm = 32 }
 
 -- four streams of 1544 kbit/s in one of those
 abbrev pub locked_ds2_stage : Stage

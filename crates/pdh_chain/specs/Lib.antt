@@ -9,3 +9,4 @@ pub mod Demuxing
 pub mod Demuxes
 pub mod Recovered
 pub mod Faults
+pub mod Calls

@@ -161,15 +161,10 @@ pub record FailsToTake (m : Meaning) (says : ℕ → Service) (old : Supply → 
 
 -- ---- why sending stopped
 
--- what holds of the sender's stop, where it is one
-abbrev pub IfSender : SendStop → (TxStop → Type 0) → Type 0
-IfSender (Sender stop) P = P stop
-IfSender WriteFailed P = Unit {0}
-
--- what holds where a bit couldn't be put
-abbrev pub IfWriteFailed : SendStop → Type 0 → Type 0
-IfWriteFailed (Sender stop) P = Unit {0}
-IfWriteFailed WriteFailed P = P
+-- why frames that were made bit by bit weren't all sent
+abbrev pub IsSendStop : Meaning → (ℕ → Service) → (Supply → ℕ → Type 0) → Plan → ℕ → ℕ → Inputs → Inputs → Outputs → Outputs → ℕ → ℕ → ℕ → ℕ → SendStop → Type 0
+IsSendStop m says old plan len frames inputs inputs_now outputs outputs_now reads reads_now writes writes_now (Sender stop) = StopsSending m says old plan len frames stop inputs inputs_now outputs outputs_now reads reads_now
+IsSendStop m says old plan len frames inputs inputs_now outputs outputs_now reads reads_now writes writes_now WriteFailed = FailsToSend m says old plan len frames inputs inputs_now outputs outputs_now writes writes_now
 
 -- why frames in whose way nothing stands weren't all sent
 abbrev pub IsCallStop : Meaning → (ℕ → Service) → (Supply → ℕ → Type 0) → Plan → ℕ → ℕ → Inputs → Inputs → Outputs → Outputs → ℕ → ℕ → ℕ → ℕ → CallStop → Type 0

@@ -1,14 +1,13 @@
 //! `mux` and `demux` of each chain, by the types of its nodes.
 
-ghost use Rattle.std.specs.Prelude.{◌≡◌, ◌<◌, ◌≤◌, ◌^◌, ℕ, [], IsTrue, Err, IfOk, OnOk, IfErr, IsErrOf, IfSome};
-ghost use Rattle.pdh_clock.specs.Contents.{frame_count, counts};
+ghost use Rattle.std.specs.Prelude.{◌≡◌, ◌<◌, ◌≤◌, ◌^◌, [], Err, IfOk, OnOk, IfErr, IfSome};
+ghost use Rattle.pdh_clock.specs.Contents.{frame_count};
 ghost use Rattle.pdh_chain.specs.Chains.{shapes_of, leaves_of, levels_of};
-ghost use Rattle.pdh_chain.specs.Saying.{says_of};
-ghost use Rattle.pdh_chain.specs.Muxes.{Muxes, IsMuxStop, IsLeftReady};
-ghost use Rattle.pdh_chain.specs.Demuxes.{Demuxes, IsDemuxStop, IsDemuxLeft};
+ghost use Rattle.pdh_chain.specs.Muxes.{IsLeftReady};
 ghost use Rattle.pdh_chain.specs.Recovered.{ComesBackFrom};
-ghost use Rattle.pdh_chain.specs.declared.stop.DemuxStop.TheVariants.{Memory, ReadFailed};
+ghost use Rattle.pdh_chain.specs.declared.stop.DemuxStop.TheVariants.{Memory};
 ghost use Rattle.pdh_chain.specs.Faults.{mux_reads, mux_writes, demux_reads, demux_writes};
+ghost use Rattle.pdh_chain.specs.Calls.{IsPortFor, MuxesBy, MuxStopsBy, DemuxesBy, DemuxStopsBy, IsLeft};
 
 use crate::chain::Chain;
 use crate::making::mux_with;
@@ -17,9 +16,9 @@ use crate::stop::{DemuxStop, MuxStop};
 use pdh_clock::Schedule;
 use pdh_ds::{Ds2, Ds3, Ds3C};
 use pdh_edge::Port;
+use pdh_eframes::{E2, E3, E4};
 use pdh_locked::Locked;
 use pdh_rx::{RxNode, Tail};
-use pdh_shape::{E2, E3, E4};
 use pdh_tx::{Leaf, Node};
 use pdh_watch::Watch;
 use std::alloc::Global;
@@ -59,18 +58,13 @@ pub fn mux<P: Port>(
     requires levels { clock.now.levels ≡ levels_of chain }
     requires scheduled { frames ≤ frame_count clock.now.rows [] }
     requires code { IfSome feac (λ code. code < 64) }
-    requires fresh { P.fresh port.old }
-    requires leaves { (k : ℕ) → k < leaves_of chain → IsTrue ((P.inputs port.old).holds k) }
-    requires line { IsTrue ((P.outputs port.old).holds 0) }
+    requires port { IsPortFor (P.fresh port.old) (leaves_of chain) (P.inputs port.old).holds (P.outputs port.old).holds }
     ensures kept { P.kept port.old port.new }
     ensures reads { P.feed_faults port.new ≡ mux_reads result (P.feed_faults port.old) }
     ensures writes { P.drain_faults port.new ≡ mux_writes result (P.drain_faults port.old) }
     ensures ready { IsLeftReady (P.fresh port.new) (P.ready port.new) (P.refused port.new) result }
-    ensures ok { OnOk result (Muxes (shapes_of chain) (counts clock.now.rows) (says_of feac) (frame_count clock.now.rows) frames
-        (P.inputs port.old) (P.inputs port.new) (P.outputs port.old) (P.outputs port.new)) }
-    ensures err { IfErr result (IsMuxStop (shapes_of chain) (counts clock.now.rows) (says_of feac) (frame_count clock.now.rows) frames
-        (P.inputs port.old) (P.inputs port.new) (P.outputs port.old) (P.outputs port.new)
-        (P.feed_faults port.old) (P.feed_faults port.new) (P.drain_faults port.old) (P.drain_faults port.new)) }
+    ensures ok { OnOk result (MuxesBy P.Feed P.Drain (shapes_of chain) clock.now feac frames port.old port.new) }
+    ensures err { IfErr result (MuxStopsBy P.Feed P.Drain (shapes_of chain) clock.now feac frames port.old port.new) }
 {
     let levels = chain.levels();
     match chain {
@@ -98,22 +92,15 @@ fn demux_by_types<P: Port, W: Watch>(
     watch: &mut W,
 ) -> Result<u64, DemuxStop>
     requires few { bits < 2 ^ 63 }
-    requires fresh { P.fresh port.old }
-    requires line { IsTrue ((P.inputs port.old).holds 0) }
-    requires leaves { (k : ℕ) → k < leaves_of chain → IsTrue ((P.outputs port.old).holds k) }
+    requires port { IsPortFor (P.fresh port.old) (leaves_of chain) (P.outputs port.old).holds (P.inputs port.old).holds }
     ensures kept { P.kept port.old port.new }
     ensures reads { P.feed_faults port.new ≡ demux_reads result (P.feed_faults port.old) }
     ensures writes { P.drain_faults port.new ≡ demux_writes result (P.drain_faults port.old) }
-    ensures unread { IsErrOf result ReadFailed → P.unread port.new 0 }
-    ensures ready { IsDemuxLeft (P.fresh port.new) (P.ready port.new) (P.refused port.new) result }
-    ensures ok { IfOk result (λ frames. Demuxes (shapes_of chain)
-        (λ events. W.saw watch.old events watch.new) bits frames
-        (P.inputs port.old) (P.inputs port.new) (P.outputs port.old) (P.outputs port.new)) }
-    ensures err { IfErr result (IsDemuxStop (shapes_of chain)
-        (λ events. W.saw watch.old events watch.new) bits
-        (P.inputs port.old) (P.inputs port.new) (P.outputs port.old) (P.outputs port.new)
-        (P.feed_faults port.old) (P.feed_faults port.new)
-        (P.drain_faults port.old) (P.drain_faults port.new)) }
+    ensures left { IsLeft (P.fresh port.new) (P.ready port.new) (P.refused port.new) (P.unread port.new 0) result }
+    ensures ok { IfOk result (DemuxesBy P.Feed P.Drain (shapes_of chain) (λ events. W.saw watch.old events watch.new) bits
+        port.old port.new) }
+    ensures err { IfErr result (DemuxStopsBy P.Feed P.Drain (shapes_of chain) (λ events. W.saw watch.old events watch.new) bits
+        port.old port.new) }
     ensures unseen { result ≡ Err Memory → watch.new ≡ watch.old }
 {
     match chain {
@@ -141,24 +128,17 @@ pub fn demux<P: Port, W: Watch>(
     watch: &mut W,
 ) -> Result<u64, DemuxStop>
     requires few { bits < 2 ^ 63 }
-    requires fresh { P.fresh port.old }
-    requires line { IsTrue ((P.inputs port.old).holds 0) }
-    requires leaves { (k : ℕ) → k < leaves_of chain → IsTrue ((P.outputs port.old).holds k) }
+    requires port { IsPortFor (P.fresh port.old) (leaves_of chain) (P.outputs port.old).holds (P.inputs port.old).holds }
     ensures kept { P.kept port.old port.new }
     ensures reads { P.feed_faults port.new ≡ demux_reads result (P.feed_faults port.old) }
     ensures writes { P.drain_faults port.new ≡ demux_writes result (P.drain_faults port.old) }
-    ensures unread { IsErrOf result ReadFailed → P.unread port.new 0 }
-    ensures ready { IsDemuxLeft (P.fresh port.new) (P.ready port.new) (P.refused port.new) result }
-    ensures ok { IfOk result (λ frames. Demuxes (shapes_of chain)
-        (λ events. W.saw watch.old events watch.new) bits frames
-        (P.inputs port.old) (P.inputs port.new) (P.outputs port.old) (P.outputs port.new)) }
+    ensures left { IsLeft (P.fresh port.new) (P.ready port.new) (P.refused port.new) (P.unread port.new 0) result }
+    ensures ok { IfOk result (DemuxesBy P.Feed P.Drain (shapes_of chain) (λ events. W.saw watch.old events watch.new) bits
+        port.old port.new) }
     ensures comes_back { IfOk result (λ frames. ComesBackFrom (shapes_of chain) bits
         (P.inputs port.old) (P.outputs port.old) (P.outputs port.new)) }
-    ensures err { IfErr result (IsDemuxStop (shapes_of chain)
-        (λ events. W.saw watch.old events watch.new) bits
-        (P.inputs port.old) (P.inputs port.new) (P.outputs port.old) (P.outputs port.new)
-        (P.feed_faults port.old) (P.feed_faults port.new)
-        (P.drain_faults port.old) (P.drain_faults port.new)) }
+    ensures err { IfErr result (DemuxStopsBy P.Feed P.Drain (shapes_of chain) (λ events. W.saw watch.old events watch.new) bits
+        port.old port.new) }
     ensures unseen { result ≡ Err Memory → watch.new ≡ watch.old }
 {
     demux_by_types(alloc, chain, bits, port, watch)

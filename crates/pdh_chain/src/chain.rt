@@ -7,10 +7,10 @@ ghost use Rattle.pdh_clock.specs.Made.{IsRated};
 ghost use Rattle.pdh_shape.specs.declared.place.Level.{Level};
 ghost use Rattle.pdh_chain.specs.Chains.{chains, name_of, shapes_of, frame_bytes_of, leaves_of, levels_of, delay_of};
 
-use pdh_levels::{
+use crate::stages::{
     DS2_LEVEL, DS2_LOCKED_LEVEL, DS3_LEVEL, DS3_LOCKED_LEVEL, E2_LEVEL, E3_LEVEL, E4_LEVEL,
-    leaf_count,
 };
+use pdh_levels::leaf_count;
 use pdh_shape::Level;
 
 /// A chain of multiplexers, from its top to its leaves.

@@ -1,9 +1,7 @@
 //! Sending a line in whose way nothing stands, a frame at a time.
 
-ghost use Rattle.std.specs.Prelude.{◌≡◌, ◌≤◌, ◌<◌, ℕ, ◌*◌, IsTrue, false, All, OnOk, IfErr, IfSome};
-ghost use Rattle.pdh_tx.specs.Meaning.{plan_of, IsNodeOf, HoldsAll};
-ghost use Rattle.pdh_chain.specs.Saying.{says_of};
-ghost use Rattle.pdh_chain.specs.Muxing.{HasFrames, IsFree, Sends, IsCallStop};
+ghost use Rattle.std.specs.Prelude.{◌≤◌, ◌<◌, ◌*◌, OnOk, IfErr, IfSome};
+ghost use Rattle.pdh_chain.specs.Calls.{IsAtStart, IsLinked, RunsOn, HasCounted, StartsFree, SendsBy, CallStopsBy};
 ghost use Rattle.pdh_chain.specs.Faults.{call_reads, call_writes};
 
 use crate::multiplexer::Multiplexer;
@@ -33,31 +31,18 @@ pub fn send_clear_frames<T: Multiplexer, P: Port>(
     frame: &mut Packed,
     port: &mut P,
 ) -> Result<(), CallStop>
-    requires running { T.is_stopped sender.old ≡ false }
-    requires lists { HoldsAll (T.meaning sender.old).leaves (P.inputs port.old) }
-    requires line { IsTrue ((P.outputs port.old).holds 0) }
-    requires nodes { All (IsNodeOf clock.now.levels) (T.meaning sender.old).nodes }
-    requires frames { HasFrames (T.meaning sender.old) len }
+    requires sender { IsAtStart T.Tx sender.old clock.now len }
+    requires port { IsLinked (T.meaning sender.old) clock.now (P.inputs port.old) (P.outputs port.old) }
     requires code { IfSome feac (λ code. code < 64) }
-    requires stands { T.stands_at sender.old (plan_of clock.now) 0 }
-    requires free { IsFree (T.meaning sender.old) (plan_of clock.now) 0
-        (frames * len) (P.inputs port.old) }
+    requires free { StartsFree T.Tx sender.old clock.now (frames * len) (P.inputs port.old) }
     requires room { len ≤ frame.old.capacity }
-    ensures sent { OnOk result
-        (Sends (T.meaning sender.old) (says_of feac) (T.stands_at sender.new (plan_of clock.now))
-        (T.stands_for sender.old) (T.stands_for sender.new) (plan_of clock.now)
-        (frames * len)
-        (P.inputs port.old) (P.inputs port.new) (P.outputs port.old) (P.outputs port.new)) }
-    ensures fails { IfErr result (IsCallStop (T.meaning sender.old) (says_of feac) (T.stands_for sender.old)
-        (plan_of clock.now) len frames
-        (P.inputs port.old) (P.inputs port.new) (P.outputs port.old) (P.outputs port.new)
-        (P.feed_faults port.old) (P.feed_faults port.new)
-        (P.drain_faults port.old) (P.drain_faults port.new)) }
-    ensures running { OnOk result (T.is_stopped sender.new ≡ false) }
+    ensures sent { OnOk result (SendsBy T.Tx P.Feed P.Drain sender.old sender.new clock.now feac (frames * len)
+        port.old port.new) }
+    ensures err { IfErr result (CallStopsBy T.Tx P.Feed P.Drain sender.old clock.now feac len frames port.old port.new) }
+    ensures runs { RunsOn T.Tx sender.old sender.new result }
     ensures kept { P.kept port.old port.new }
-    ensures reads { P.feed_faults port.new ≡ call_reads result (P.feed_faults port.old) }
-    ensures writes { P.drain_faults port.new ≡ call_writes result (P.drain_faults port.old) }
-    ensures same { T.meaning sender.new ≡ T.meaning sender.old }
+    ensures counted { HasCounted (call_reads result (P.feed_faults port.old)) (P.feed_faults port.new)
+        (call_writes result (P.drain_faults port.old)) (P.drain_faults port.new) }
 {
     let mut channel = channel_of(feac);
     for _whole in 0..frames {

@@ -1,7 +1,5 @@
 //! Laws of whole chains. Each function does nothing: what it ensures is the law.
-ghost use Rattle.std.specs.Prelude.{◌≤◌, ◌<◌, ◌+◌, ◌*◌, ◌/◌, ℕ, Bool, List, length, ⊤};
-ghost use Rattle.pdh_edge.specs.Ports.{Inputs, Outputs};
-ghost use Rattle.pdh_edge.specs.MemLists.{bits_held};
+ghost use Rattle.std.specs.Prelude.{◌≤◌, ◌<◌, ◌*◌, ◌/◌, ℕ, Bool, List, length, ⊤};
 ghost use Rattle.pdh_shape.specs.declared.role.Service.{Service};
 ghost use Rattle.pdh_shape.specs.Frame.{FrameShape};
 ghost use Rattle.pdh_nesting.specs.Chains.{width, top_len, AreFrames};
@@ -9,6 +7,7 @@ ghost use Rattle.pdh_line.specs.Nodes.{Counts};
 ghost use Rattle.pdh_nesting.specs.Receiving.{far};
 ghost use Rattle.pdh_chain.specs.Muxes.{obstacle_at, IsNoEvent, IsTolerated, PutsPrefix};
 ghost use Rattle.pdh_chain.specs.Demuxes.{DemuxesPart};
+ghost use Rattle.pdh_chain.specs.Calls.{PutsAtMost};
 
 /// Within the tolerance no bit of a chain's line meets an event of a store, whatever the leaves' lists
 /// hold and however many frames are scheduled.
@@ -26,17 +25,12 @@ pub fn leaf_receives_no_more_than_its_share()
 
 /// Where `mux` couldn't put a bit, no list took more bits than its frames have.
 pub fn mux_puts_no_more_than_its_frames()
-    ensures { (shapes : List FrameShape) (counts : Counts) (says : ℕ → Service)
-        (scheduled : List ℕ → ℕ) (frames : ℕ)
-        (inputs inputs_now : Inputs) (outputs outputs_now : Outputs)
-        → PutsPrefix shapes counts says scheduled frames inputs inputs_now outputs outputs_now
-        → (k : ℕ) → bits_held outputs_now k ≤ bits_held outputs k + frames * top_len shapes }
+    ensures { (shapes : List FrameShape) (counts : Counts) (says : ℕ → Service) (scheduled : List ℕ → ℕ) (frames : ℕ)
+        → PutsAtMost (PutsPrefix shapes counts says scheduled frames) (frames * top_len shapes) }
 {}
 
 /// Where `demux` couldn't put a bit, no list took more bits than a leaf's share of the line.
 pub fn demux_puts_no_more_than_the_shares()
-    ensures { (shapes : List FrameShape) (bits : ℕ)
-        (inputs inputs_now : Inputs) (outputs outputs_now : Outputs) → AreFrames shapes
-        → DemuxesPart shapes (λ events. ⊤) bits inputs inputs_now outputs outputs_now
-        → (k : ℕ) → bits_held outputs_now k ≤ bits_held outputs k + bits / width shapes }
+    ensures { (shapes : List FrameShape) (bits : ℕ) → AreFrames shapes
+        → PutsAtMost (DemuxesPart shapes (λ events. ⊤) bits) (bits / width shapes) }
 {}

@@ -1,14 +1,12 @@
 //! `mux` of a chain by the type of its top: its frames at once where nothing can stand in the way,
 //! and else bit by bit.
 
-ghost use Rattle.std.specs.Prelude.{◌≡◌, ◌<◌, ◌≤◌, ◌^◌, ℕ, [], length, IsTrue, OnOk, IfErr, IfSome};
-ghost use Rattle.pdh_clock.specs.Contents.{frame_count, counts};
+ghost use Rattle.std.specs.Prelude.{◌≡◌, ◌<◌, ◌≤◌, [], OnOk, IfErr, IfSome};
+ghost use Rattle.pdh_clock.specs.Contents.{frame_count};
 ghost use Rattle.pdh_nesting.specs.Chains.{width};
-ghost use Rattle.pdh_chain.specs.Trees.{AreLevelsOf};
-ghost use Rattle.pdh_chain.specs.Saying.{says_of};
-ghost use Rattle.pdh_chain.specs.Muxes.{Muxes, IsMuxStop, IsLeftReady, mux_stop};
-ghost use Rattle.pdh_levels.specs.Levels.{AreLevels};
+ghost use Rattle.pdh_chain.specs.Muxes.{IsLeftReady, mux_stop};
 ghost use Rattle.pdh_chain.specs.Faults.{mux_reads, mux_writes};
+ghost use Rattle.pdh_chain.specs.Calls.{IsPortFor, IsChainOf, MuxesBy, MuxStopsBy};
 
 use crate::clear_sending::send_clear_frames;
 use crate::clearing::is_unhindered;
@@ -45,26 +43,16 @@ pub fn mux_with<T: ChainTop, P: Port>(
     feac: Option<u8>,
     port: &mut P,
 ) -> Result<(), MuxStop>
-    requires sound { AreLevels levels.now }
-    requires same { clock.now.levels ≡ levels.now }
-    requires depth { length T.shapes ≤ 3 }
-    requires numbered { width T.shapes < 2 ^ 32 }
-    requires fits { T.fits }
-    requires levels { AreLevelsOf T.shapes clock.now.levels }
+    requires chain { IsChainOf T.shapes T.fits levels.now clock.now }
     requires scheduled { frames ≤ frame_count clock.now.rows [] }
     requires code { IfSome feac (λ code. code < 64) }
-    requires fresh { P.fresh port.old }
-    requires leaves { (k : ℕ) → k < width T.shapes → IsTrue ((P.inputs port.old).holds k) }
-    requires line { IsTrue ((P.outputs port.old).holds 0) }
+    requires port { IsPortFor (P.fresh port.old) (width T.shapes) (P.inputs port.old).holds (P.outputs port.old).holds }
     ensures kept { P.kept port.old port.new }
     ensures reads { P.feed_faults port.new ≡ mux_reads result (P.feed_faults port.old) }
     ensures writes { P.drain_faults port.new ≡ mux_writes result (P.drain_faults port.old) }
     ensures ready { IsLeftReady (P.fresh port.new) (P.ready port.new) (P.refused port.new) result }
-    ensures ok { OnOk result (Muxes T.shapes (counts clock.now.rows) (says_of feac) (frame_count clock.now.rows) frames
-        (P.inputs port.old) (P.inputs port.new) (P.outputs port.old) (P.outputs port.new)) }
-    ensures err { IfErr result (IsMuxStop T.shapes (counts clock.now.rows) (says_of feac) (frame_count clock.now.rows) frames
-        (P.inputs port.old) (P.inputs port.new) (P.outputs port.old) (P.outputs port.new)
-        (P.feed_faults port.old) (P.feed_faults port.new) (P.drain_faults port.old) (P.drain_faults port.new)) }
+    ensures ok { OnOk result (MuxesBy P.Feed P.Drain T.shapes clock.now feac frames port.old port.new) }
+    ensures err { IfErr result (MuxStopsBy P.Feed P.Drain T.shapes clock.now feac frames port.old port.new) }
 {
     let mut next_leaf = 0;
     let tables = T::tables(alloc)?;

@@ -7,7 +7,7 @@ ghost use Rattle.pdh_tx.specs.Meaning.{Plan, Supply};
 use crate::trees::ChainTx;
 use pdh_locked::Locked;
 use pdh_shape::{Service, Shape};
-use pdh_tx::{Node, Tx};
+use pdh_tx::{Body, Node, Sender, Tx};
 
 /// A sender with frames of its own, whose service bits can be set.
 pub trait Multiplexer: Tx {
@@ -20,15 +20,9 @@ pub trait Multiplexer: Tx {
         ensures stopped { Self.is_stopped self.new ≡ Self.is_stopped self.old };
 }
 
-impl<S: Shape, C: Tx> Multiplexer for Node<S, C> {
+impl<S: Shape, B: Body<S>> Multiplexer for Sender<S, B> {
     fn set(&mut self, say: Service) {
-        Node::set(self, say);
-    }
-}
-
-impl<S: Shape, C: Tx> Multiplexer for Locked<S, C> {
-    fn set(&mut self, say: Service) {
-        Locked::set(self, say);
+        Sender::set(self, say);
     }
 }
 

@@ -1,12 +1,10 @@
 //! `demux` of a chain by the types of its nodes. Its receiver gets the line many bits at a time.
 
-ghost use Rattle.std.specs.Prelude.{◌≡◌, ◌<◌, ◌≤◌, ◌^◌, ℕ, [], length, IsTrue, IfOk, IfErr, OnOk, IsErrOf, ◌∷◌, Err};
+ghost use Rattle.std.specs.Prelude.{◌≡◌, ◌<◌, ◌≤◌, ◌^◌, [], IfOk, IfErr, OnOk, IsErrOf, ◌∷◌, Err};
 ghost use Rattle.pdh_nesting.specs.Chains.{width};
-ghost use Rattle.pdh_rx.specs.Meaning.{HoldsAll};
-ghost use Rattle.pdh_chain.specs.Demuxing.{Receives, IsReceiveStop};
-ghost use Rattle.pdh_chain.specs.Demuxes.{Demuxes, IsDemuxStop, IsDemuxLeft};
 ghost use Rattle.pdh_chain.specs.declared.stop.DemuxStop.TheVariants.{Memory, ReadFailed};
 ghost use Rattle.pdh_chain.specs.Faults.{demux_reads, demux_writes};
+ghost use Rattle.pdh_chain.specs.Calls.{AreFew, IsPortFor, DemuxesBy, DemuxStopsBy, IsLeft, IsLinkedTo, ReceivesBy, ReceiveStopsBy};
 
 use crate::stop::DemuxStop;
 use crate::trees::ChainRx;
@@ -42,15 +40,11 @@ fn receive<R: Rx, P: Port, W: Watch>(
 ) -> Result<(), DemuxStop>
     requires some { 0 < buffer.old.capacity }
     requires stands { R.stands receiver.old [] }
-    requires lists { HoldsAll (R.meaning receiver.old).leaves (P.outputs port.old) }
-    requires line { IsTrue ((P.inputs port.old).holds 0) }
-    ensures received { OnOk result
-        (Receives (R.meaning receiver.old) (R.stands receiver.new) (λ events. W.saw watch.old events watch.new) bits
-        (P.inputs port.old) (P.inputs port.new) (P.outputs port.old) (P.outputs port.new)) }
-    ensures stops { IfErr result (IsReceiveStop (R.meaning receiver.old) (λ events. W.saw watch.old events watch.new) bits
-        (P.inputs port.old) (P.inputs port.new) (P.outputs port.old) (P.outputs port.new)
-        (P.feed_faults port.old) (P.feed_faults port.new)
-        (P.drain_faults port.old) (P.drain_faults port.new)) }
+    requires port { IsLinkedTo (R.meaning receiver.old) (P.inputs port.old) (P.outputs port.old) }
+    ensures received { OnOk result (ReceivesBy P.Feed P.Drain (R.meaning receiver.old) (R.stands receiver.new)
+        (λ events. W.saw watch.old events watch.new) bits port.old port.new) }
+    ensures stops { IfErr result (ReceiveStopsBy P.Feed P.Drain (R.meaning receiver.old)
+        (λ events. W.saw watch.old events watch.new) bits port.old port.new) }
     ensures kept { P.kept port.old port.new }
     ensures reads { P.feed_faults port.new ≡ demux_reads result (P.feed_faults port.old) }
     ensures writes { P.drain_faults port.new ≡ demux_writes result (P.drain_faults port.old) }
@@ -76,25 +70,17 @@ pub fn demux_with<S: Shape, C: ChainRx, P: Port, W: Watch>(
     port: &mut P,
     watch: &mut W,
 ) -> Result<u64, DemuxStop>
+    requires levels { AreFew (S.shape ∷ C.shapes) }
     requires few { bits < 2 ^ 63 }
-    requires depth { length C.shapes < 3 }
-    requires numbered { width (S.shape ∷ C.shapes) < 2 ^ 32 }
-    requires fresh { P.fresh port.old }
-    requires line { IsTrue ((P.inputs port.old).holds 0) }
-    requires leaves { (k : ℕ) → k < width (S.shape ∷ C.shapes) → IsTrue ((P.outputs port.old).holds k) }
+    requires port { IsPortFor (P.fresh port.old) (width (S.shape ∷ C.shapes)) (P.outputs port.old).holds (P.inputs port.old).holds }
     ensures kept { P.kept port.old port.new }
     ensures reads { P.feed_faults port.new ≡ demux_reads result (P.feed_faults port.old) }
     ensures writes { P.drain_faults port.new ≡ demux_writes result (P.drain_faults port.old) }
-    ensures unread { IsErrOf result ReadFailed → P.unread port.new 0 }
-    ensures ready { IsDemuxLeft (P.fresh port.new) (P.ready port.new) (P.refused port.new) result }
-    ensures ok { IfOk result (λ frames. Demuxes (S.shape ∷ C.shapes)
-        (λ events. W.saw watch.old events watch.new) bits frames
-        (P.inputs port.old) (P.inputs port.new) (P.outputs port.old) (P.outputs port.new)) }
-    ensures err { IfErr result (IsDemuxStop (S.shape ∷ C.shapes)
-        (λ events. W.saw watch.old events watch.new) bits
-        (P.inputs port.old) (P.inputs port.new) (P.outputs port.old) (P.outputs port.new)
-        (P.feed_faults port.old) (P.feed_faults port.new)
-        (P.drain_faults port.old) (P.drain_faults port.new)) }
+    ensures left { IsLeft (P.fresh port.new) (P.ready port.new) (P.refused port.new) (P.unread port.new 0) result }
+    ensures ok { IfOk result (DemuxesBy P.Feed P.Drain (S.shape ∷ C.shapes) (λ events. W.saw watch.old events watch.new) bits
+        port.old port.new) }
+    ensures err { IfErr result (DemuxStopsBy P.Feed P.Drain (S.shape ∷ C.shapes) (λ events. W.saw watch.old events watch.new) bits
+        port.old port.new) }
     ensures unseen { result ≡ Err Memory → watch.new ≡ watch.old }
 {
     let mut next_leaf = 0;

@@ -1,11 +1,8 @@
 //! Sending a line that is made bit by bit: its whole frames, up to what stands in the way.
 
-ghost use Rattle.std.specs.Prelude.{◌≡◌, ◌≤◌, ◌<◌, ℕ, ◌+◌, ◌*◌, IsTrue, false, All, OnOk, IfErr, IfSome, OnErr};
-ghost use Rattle.pdh_shape.specs.declared.role.Service.{Service};
-ghost use Rattle.pdh_edge.specs.Ports.{Puts, PutsPart, HasCause};
-ghost use Rattle.pdh_tx.specs.Meaning.{plan_of, IsNodeOf, HoldsAll};
-ghost use Rattle.pdh_chain.specs.Saying.{says_of};
-ghost use Rattle.pdh_chain.specs.Muxing.{as_line, HasFrames, SayInFrames, MakesBits, StopsMaking, Sends, StopsSending, FailsToSend, IfSender, IfWriteFailed};
+ghost use Rattle.std.specs.Prelude.{◌≡◌, ◌≤◌, ◌<◌, ◌*◌, false, OnOk, IfErr, IfSome};
+ghost use Rattle.pdh_tx.specs.Calls.{Draws, IsFed, IsKept, StandsBy};
+ghost use Rattle.pdh_chain.specs.Calls.{IsAtStart, IsLinked, RunsOn, HasCounted, MakesFrame, StopsInFrame, SendsBy, SendStopsBy};
 ghost use Rattle.pdh_chain.specs.Faults.{send_reads, send_writes};
 
 use crate::multiplexer::Multiplexer;
@@ -33,25 +30,17 @@ fn make_frame<T: Tx, F: Feed>(
     feed: &mut F,
 ) -> Result<(), TxStop>
     requires running { T.is_stopped sender.old ≡ false }
-    requires lists { HoldsAll (T.meaning sender.old).leaves (F.inputs feed.old) }
-    requires nodes { All (IsNodeOf clock.now.levels) (T.meaning sender.old).nodes }
-    requires stands { (x : ℕ) × T.stands_at sender.old (plan_of clock.now) x }
+    requires fed { IsFed (T.meaning sender.old) clock.now (F.inputs feed.old) }
+    requires stands { StandsBy T.stands_at sender.old clock.now }
     requires room { len ≤ frame.old.capacity }
-    ensures made { OnOk result ((x : ℕ) (says : ℕ → Service) → T.stands_at sender.old (plan_of clock.now) x
-        → SayInFrames (T.meaning sender.old) says (T.says sender.old) x (x + len)
-        → MakesBits (T.meaning sender.old) says (T.stands_at sender.new (plan_of clock.now))
-        (T.stands_for sender.old) (T.stands_for sender.new) (plan_of clock.now) x (x + len)
-        frame.new.bits (F.inputs feed.old) (F.inputs feed.new)) }
-    ensures stops { IfErr result (λ stop. (x : ℕ) → T.stands_at sender.old (plan_of clock.now) x
-        → StopsMaking (T.meaning sender.old) (plan_of clock.now) x (x + len) stop
-        (F.inputs feed.old) (F.inputs feed.new)
-        (F.feed_faults feed.old) (F.feed_faults feed.new)) }
+    ensures made { OnOk result (MakesFrame T.Tx sender.old sender.new clock.now len frame.new.bits
+        (F.inputs feed.old) (F.inputs feed.new)) }
+    ensures stops { IfErr result (λ stop. StopsInFrame T.Tx sender.old clock.now len stop
+        (F.inputs feed.old) (F.inputs feed.new) (F.feed_faults feed.old) (F.feed_faults feed.new)) }
     ensures running { OnOk result (T.is_stopped sender.new ≡ false) }
     ensures room { frame.new.capacity ≡ frame.old.capacity }
-    ensures unfailed { OnOk result (F.feed_faults feed.new ≡ F.feed_faults feed.old) }
-    ensures fed { F.fed feed.old feed.new }
-    ensures same { T.meaning sender.new ≡ T.meaning sender.old }
-    ensures same_says { T.says sender.new ≡ T.says sender.old }
+    ensures fed { Draws F.Feed feed.old feed.new result }
+    ensures kept { IsKept T.meaning T.says sender.old sender.new }
 {
     frame.clear();
     for _made in 0..len {
@@ -73,32 +62,18 @@ pub fn send_frames<T: Multiplexer, P: Port>(
     frame: &mut Packed,
     port: &mut P,
 ) -> Result<(), SendStop>
-    requires running { T.is_stopped sender.old ≡ false }
-    requires lists { HoldsAll (T.meaning sender.old).leaves (P.inputs port.old) }
-    requires line { IsTrue ((P.outputs port.old).holds 0) }
-    requires nodes { All (IsNodeOf clock.now.levels) (T.meaning sender.old).nodes }
-    requires frames { HasFrames (T.meaning sender.old) len }
+    requires sender { IsAtStart T.Tx sender.old clock.now len }
+    requires port { IsLinked (T.meaning sender.old) clock.now (P.inputs port.old) (P.outputs port.old) }
     requires code { IfSome feac (λ code. code < 64) }
-    requires stands { T.stands_at sender.old (plan_of clock.now) 0 }
     requires room { len ≤ frame.old.capacity }
-    ensures sent { OnOk result
-        (Sends (T.meaning sender.old) (says_of feac) (T.stands_at sender.new (plan_of clock.now))
-        (T.stands_for sender.old) (T.stands_for sender.new) (plan_of clock.now) (frames * len)
-        (P.inputs port.old) (P.inputs port.new) (P.outputs port.old) (P.outputs port.new)) }
-    ensures stops { IfErr result (λ why. IfSender why (λ stop.
-        StopsSending (T.meaning sender.old) (says_of feac) (T.stands_for sender.old) (plan_of clock.now) len frames
-        stop (P.inputs port.old) (P.inputs port.new) (P.outputs port.old) (P.outputs port.new)
-        (P.feed_faults port.old) (P.feed_faults port.new))) }
-    ensures fails { IfErr result (λ why. IfWriteFailed why
-        (FailsToSend (T.meaning sender.old) (says_of feac) (T.stands_for sender.old) (plan_of clock.now) len frames
-        (P.inputs port.old) (P.inputs port.new) (P.outputs port.old) (P.outputs port.new)
-        (P.drain_faults port.old) (P.drain_faults port.new))) }
-    ensures running { OnOk result (T.is_stopped sender.new ≡ false) }
+    ensures sent { OnOk result (SendsBy T.Tx P.Feed P.Drain sender.old sender.new clock.now feac (frames * len)
+        port.old port.new) }
+    ensures err { IfErr result (SendStopsBy T.Tx P.Feed P.Drain sender.old clock.now feac len frames port.old port.new) }
+    ensures runs { RunsOn T.Tx sender.old sender.new result }
     ensures room { frame.new.capacity ≡ frame.old.capacity }
     ensures kept { P.kept port.old port.new }
-    ensures reads { P.feed_faults port.new ≡ send_reads result (P.feed_faults port.old) }
-    ensures writes { P.drain_faults port.new ≡ send_writes result (P.drain_faults port.old) }
-    ensures same { T.meaning sender.new ≡ T.meaning sender.old }
+    ensures counted { HasCounted (send_reads result (P.feed_faults port.old)) (P.feed_faults port.new)
+        (send_writes result (P.drain_faults port.old)) (P.drain_faults port.new) }
 {
     let mut channel = channel_of(feac);
     for _whole in 0..frames {

@@ -9,7 +9,7 @@ ghost use Rattle.pdh_tx.specs.Meaning.{IsFresh};
 ghost use Rattle.pdh_events.specs.Chain.{child_path as path_of_child};
 ghost use Rattle.pdh_chain.specs.Trees.{HasNoStores, sender_of, senders_below, receiver_of};
 
-use pdh_locked::Locked;
+use pdh_locked::{Locked, open_locked};
 use pdh_runs::Layout;
 use pdh_rx::{Rx, RxNode, Tail};
 use pdh_shape::{Path, Shape};
@@ -214,7 +214,7 @@ impl<S: Shape, C: ChainTx> ChainTx for Locked<S, C> {
         next: &mut u32,
     ) -> Result<Self, AllocError> {
         let children = open_tributaries::<S, C>(alloc, &tables.below, path, next)?;
-        Locked::open(alloc, path, tables.here.clone()?, children)
+        open_locked(alloc, path, tables.here.clone()?, children)
     }
 }
 

@@ -13,4 +13,4 @@ pub use block_frame::{BlockFrame, Ds2, Ds3, Ds3C};
 pub use block_plan::{BlockPlan, InBlocks};
 pub use loss::LossRule;
 pub use ones::parity;
-pub use plans::{Ds2Plan, Ds3Plan, Ds3cPlan};
+pub use plans::{DS2_PLAN, DS3_PLAN, DS3C_PLAN, Ds2Plan, Ds3Plan, Ds3cPlan};

@@ -8,6 +8,22 @@ ghost use Rattle.pdh_ds.specs.Plans.{ds2_firsts, ds3_firsts, ds3c_c_bit};
 use crate::{BlockPlan, InBlocks, LossRule};
 use pdh_shape::{Duty, Role, Service};
 
+/// The numbers of the DS2 frame.
+pub const DS2_PLAN: BlockPlan = BlockPlan {
+    len: 1176,
+    subframe: 294,
+    blocks: 6,
+    block: 49,
+    tribs: 4,
+    copies: 3,
+    low: 287,
+    loss: LossRule {
+        framing: 8,
+        window: 4,
+        wrong: 2,
+    },
+};
+
 /// The plan of the DS2 frame of ANSI T1.107, of the M12 multiplexer.
 pub struct Ds2Plan;
 
@@ -17,20 +33,7 @@ impl InBlocks for Ds2Plan {
 
     ghost PLAN = { ds2_plan };
 
-    const PLAN: BlockPlan = BlockPlan {
-        len: 1176,
-        subframe: 294,
-        blocks: 6,
-        block: 49,
-        tribs: 4,
-        copies: 3,
-        low: 287,
-        loss: LossRule {
-            framing: 8,
-            window: 4,
-            wrong: 2,
-        },
-    };
+    const PLAN: BlockPlan = DS2_PLAN;
 
     ghost overhead = { ds2_overhead };
 
@@ -85,8 +88,8 @@ fn ds2_first(subframe: u8) -> Role
     }
 }
 
-// The numbers of the DS3 frame in the M23 application.
-const DS3_PLAN: BlockPlan = BlockPlan {
+/// The numbers of the DS3 frame in the M23 application.
+pub const DS3_PLAN: BlockPlan = BlockPlan {
     len: 4760,
     subframe: 680,
     blocks: 8,
@@ -159,6 +162,12 @@ impl InBlocks for Ds3Plan {
     ghost lawful = { ds3_keeps_laws };
 }
 
+/// The numbers of the DS3 frame with C-bit parity.
+pub const DS3C_PLAN: BlockPlan = BlockPlan {
+    copies: 0,
+    ..DS3_PLAN
+};
+
 /// The plan of the DS3 frame of ANSI T1.107 with C-bit parity: no bit is justified, each justifiable slot carries nothing, and
 /// the C bits are service bits.
 pub struct Ds3cPlan;
@@ -170,10 +179,7 @@ impl InBlocks for Ds3cPlan {
 
     ghost PLAN = { ds3c_plan };
 
-    const PLAN: BlockPlan = BlockPlan {
-        copies: 0,
-        ..DS3_PLAN
-    };
+    const PLAN: BlockPlan = DS3C_PLAN;
 
     ghost overhead = { ds3c_overhead };
 

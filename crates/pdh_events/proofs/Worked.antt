@@ -6,15 +6,15 @@ use Rattle.pdh_shape.specs.declared.role.Role.TheVariants.{Align, Service, Info}
 use Rattle.pdh_shape.specs.declared.role.Duty.TheVariants.{Alarm, Parity, PathParity, Febe, Feac, Other}
 use Rattle.pdh_shape.specs.Frame.{FrameShape, is_right, wrong}
 use Rattle.pdh_shape.specs.Tributary.{stripped}
-use Rattle.pdh_shape.specs.Sets.{e2, set_role, set_mark, set_service, set_duty, four_wrong}
-use Rattle.pdh_shape.proofs.Worked.{zeros_frame, bad_frame}
+use Rattle.pdh_eframes.specs.Sets.{set_role, set_mark, set_service, set_duty, four_wrong}
+use Rattle.pdh_eframes.specs.Plans.{e2}
+use Rattle.pdh_eframes.proofs.Worked.{zeros_frame, bad_frame, four_bad_signals}
 use Rattle.pdh_watch.specs.declared.kind.TheConstants.Kind.{ALIGNED, LOST, AIS_ON, AIS_OFF, ALARM_ON, ALARM_OFF, PARITY, PATH_PARITY, FEBE}
 use Rattle.pdh_line.specs.Least.{least_below}
 use Rattle.pdh_line.specs.Tracking.{track, track_within, one_search, is_lost, after_loss, delivered, gap_of, completes_loss}
 use Rattle.pdh_line.specs.Tracking.Piece.{Gap, Delivered}
 use Rattle.pdh_line.specs.Receiving.{received, piece_bits}
 use Rattle.pdh_line.specs.Paths.{top}
-use Rattle.pdh_line.proofs.Worked.{four_bad_signals}
 use Rattle.pdh_cbit.specs.Feac.{word_of, ten_words, answers, answer_of}
 use Rattle.pdh_events.specs.Telling.{event_of, ones_at_end}
 use Rattle.pdh_events.specs.Duties.{alarm_says, alarm_after, duty_bits, is_odd, channel_bits, codes_answered, frame_events}

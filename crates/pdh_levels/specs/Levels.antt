@@ -18,15 +18,15 @@ numbers_of levels = map level_numbers levels
 abbrev pub nodes_in : List Level → List (List ℕ)
 nodes_in levels = nodes_of (numbers_of levels)
 
--- What is fixed of all levels; the code has the same numbers in `src/bounds.rt`. The bits of the shortest frame and of the
--- longest one:
+-- What is fixed of all levels: limits of this project's own, which each stage of a chain is tested against. The bits of the
+-- shortest frame and of the longest one:
 abbrev pub shortest_frame : ℕ
 shortest_frame = 848
 
 abbrev pub longest_frame : ℕ
 longest_frame = 4760
 
--- and the fewest and the most tributaries of a node
+-- and the fewest and the most tributaries of a node; the code has the most in `src/bounds.rt`
 abbrev pub fewest_tributaries : ℕ
 fewest_tributaries = 4
 

@@ -1,14 +1,4 @@
-//! What is fixed of all levels. Each number stands here once for the code, and in `specs/Levels.antt` once for the
-//! definitions.
+//! What is fixed of all levels, as far as the code asks for it: `specs/Levels.antt` has it all.
 
-/// The bits of the shortest frame.
-pub const SHORTEST_FRAME: u32 = 848;
-
-/// The bits of the longest frame.
-pub const LONGEST_FRAME: u32 = 4_760;
-
-/// The fewest tributaries of a node.
-pub const FEWEST_TRIBUTARIES: usize = 4;
-
-/// The most tributaries of a node.
+/// The most tributaries of a node, for which a row has room.
 pub const MOST_TRIBUTARIES: usize = 7;

@@ -15,14 +15,10 @@ mod bounds;
 mod frame;
 mod leaves;
 mod nodes;
-mod stages;
 mod stores;
 
-pub use bounds::{FEWEST_TRIBUTARIES, LONGEST_FRAME, MOST_TRIBUTARIES, SHORTEST_FRAME};
+pub use bounds::MOST_TRIBUTARIES;
 pub use frame::{delay, frame_bytes};
 pub use leaves::{LeafPlace, leaf_count, leaf_place};
 pub use nodes::{level_of, node_at, node_count, node_place};
-pub use stages::{
-    DS2_LEVEL, DS2_LOCKED_LEVEL, DS3_LEVEL, DS3_LOCKED_LEVEL, E2_LEVEL, E3_LEVEL, E4_LEVEL,
-};
 pub use stores::store_count;

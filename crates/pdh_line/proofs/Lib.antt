@@ -13,5 +13,3 @@ pub mod SameLines
 pub mod EventLaws
 pub mod FillBounds
 pub mod WithinTolerance
-pub mod Worked
-pub mod WorkedLines

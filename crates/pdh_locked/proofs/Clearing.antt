@@ -15,7 +15,8 @@ use Rattle.pdh_tx.specs.Node.{obstacle_of, IsDisjoint}
 use Rattle.pdh_tx.specs.Locked.{locked_to, locked_beginning, locked_read, locked_steps}
 use Rattle.pdh_tx.proofs.Moving.{fit_one}
 use Rattle.pdh_tx.proofs.Clearing.{none_right, none_map}
-use Rattle.pdh_locked.specs.Children.{held_in, SlotsClear}
+use Rattle.pdh_tx.specs.Body.{SlotsClear}
+use Rattle.pdh_locked.specs.Children.{held_in}
 use Rattle.pdh_locked.proofs.OneSlot.{locked_step, begin_stop}
 
 module _ (s : FrameShape) (path : Path) (plan : Plan) (ms : List Meaning) (size : ℕ → ℕ) (n : ℕ) where
@@ -43,7 +44,7 @@ module _ (s : FrameShape) (path : Path) (plan : Plan) (ms : List Meaning) (size 
         ]
       ]
 
-module _ {C : Type 0} (tx : Ghosts C) (s : FrameShape) (path : Path) (plan : Plan) (children : List C) (n t len : ℕ) (a : Inputs) (clear : SlotsClear s path plan (map tx.meaning children) n t len a) where
+module _ {C : Type 0} (tx : Ghosts C) (s : FrameShape) (path : Path) (plan : Plan) (children : List C) (n t len : ℕ) (a : Inputs) (clear : SlotsClear (λ size. locked_steps s path plan (map tx.meaning children) size n) (map tx.meaning children) plan (locked_to s n t) t len a) where
   -- nothing stands in the way of a child
   pub passable : (j : ℕ) (m : Meaning) → IsDisjoint (map tx.meaning children) → j < s.tribs → slice_get (map tx.meaning children) j ≡ Some m → IsClear m plan (locked_to s n t j) (locked_to s n (t + len) j) a
   passable j m dis known at = record {

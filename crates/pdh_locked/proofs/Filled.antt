@@ -21,12 +21,13 @@ use Rattle.pdh_tx.specs.Making.{MakesAll}
 use Rattle.pdh_tx.specs.Node.{below, source_of, any_leaf, given_by, overhead_bit, EachPlaced, EachHeld, EachInChain}
 use Rattle.pdh_tx.specs.Passing.{up_to, carried_in, HoldsBits, HoldsLine, HoldsOverhead, Passes}
 use Rattle.pdh_tx.specs.Locked.{locked_to}
-use Rattle.pdh_tx.proofs.Moving.{given_same, inside}
+use Rattle.pdh_tx.specs.Calls.{IsFed}
+use Rattle.pdh_tx.proofs.Moving.{leaf_of, given_same, inside}
 use Rattle.pdh_tx.proofs.Passing.{carried_is, fills_part}
 use Rattle.pdh_tx.proofs.PieceSteps.{line_from, not_carried}
 use Rattle.pdh_tx.proofs.PassingAll.{upto_past, upto_below}
 use Rattle.pdh_locked.specs.declared.children.Children.{Children}
-use Rattle.pdh_locked.specs.Children.{meanings, HaveMade, FillOn, AreFed, Stands, StandsFor, placed_in, held_in, filled_in, Gives}
+use Rattle.pdh_locked.specs.Children.{meanings, AreFed, Stands, StandsFor, placed_in, held_in, filled_in, Gives}
 use Rattle.pdh_locked.proofs.OneSlot.{overhead_is}
 
 -- ---- one child
@@ -77,19 +78,9 @@ still_fed old new schedule a b same holds fed = record {
   nodes = subst (EachInChain schedule.levels) (sym same) fed.nodes;
 }
 
--- and after one that left the children
-module _ {S C : Type 0} {shape : shape.Ghosts S} {tx : Ghosts C} (old new : Children S C shape tx) (list : new.list.items ≡ old.list.items) (plan : Plan) where
-  pub still_made : (made : ℕ → ℕ) → HaveMade old plan made → HaveMade new plan made
-  still_made made each =
-      let P : List C → Type 0 = λ children. EachPlaced (placed_in tx) children plan made made in
-      subst P (sym list) each
-
-  pub still_fills : (after : Children S C shape tx) (n t u i k : ℕ) (a b : Inputs) (written : Source → Type 0) → FillOn new after plan n t u i k a b written → FillOn old after plan n t u i k a b written
-  still_fills after n t u i k a b written fills path =
-      let f : ℕ → ℕ = locked_to shape.shape n t in
-      let f' : ℕ → ℕ = locked_to shape.shape n u in
-      let P : List C → Type 0 = λ children. Passes (held_in tx) path (map tx.meaning children) plan children after.list.items (up_to f f' i) (up_to f f' k) (up_to f f' i) (up_to f f' k) a b written in
-      subst P list (fills path)
+-- and so is each of them
+pub fed_one : {S C : Type 0} {shape : shape.Ghosts S} {tx : Ghosts C} (cs : Children S C shape tx) (schedule : Contents) (a : Inputs) (i : ℕ) (child : C) → slice_get (meanings cs) i ≡ Some (tx.meaning child) → AreFed cs schedule a → IsFed (tx.meaning child) schedule a
+fed_one {tx = tx} cs schedule a i child maker fed = record { lists = λ k leaf. fed.lists k (leaf_of (meanings cs) i k (tx.meaning child) maker leaf); nodes = fed.nodes i (tx.meaning child) maker }
 
 module _ {C : Type 0} (tx : Ghosts C) (s : FrameShape) (has : HasTributaries s) (locked : eqb s.copies 0 ≡ true) (path : Path) (plan : Plan) (old new : List C) (n t u : ℕ) where
   abbrev ms : List Meaning
@@ -112,7 +103,7 @@ module _ {C : Type 0} (tx : Ghosts C) (s : FrameShape) (has : HasTributaries s) 
   pub filled_gives : (say : Service) (odd : Bool) (len : ℕ) (overhead bits : List Bool) (columns : List (List Bool)) (a b : Inputs) → length old ≡ s.tribs → length new ≡ s.tribs → length bits ≡ len → t + len ≤ s.len → n < plan.frames path → suc n < 2 ^ 64
       → HoldsOverhead s say odd [] t len overhead → Assembled s t len overhead columns bits → EachPlaced (placed_in tx) new plan (up_to f f' s.tribs) (up_to f f' s.tribs)
       → Passes (held_in tx) path ms plan old new (up_to f f' 0) (up_to f f' s.tribs) (up_to f f' 0) (up_to f f' s.tribs) a b (λ source. HoldsBits s source n t len columns s.tribs)
-      → Gives tx ms s path plan old new n t u say odd bits a b
+      → Gives tx s path plan ms old new n t u say odd bits a b
   filled_gives say odd len overhead bits columns a b old_long new_long long most scheduled bounded over assembled place passes =
       let start : (k : ℕ) → given_by ms plan (up_to f f' 0) k ≡ given_by ms plan f k = λ k. ap (λ v. given_by ms plan v k) (upto_none f f') in
       record {
@@ -125,8 +116,7 @@ module _ {C : Type 0} (tx : Ghosts C) (s : FrameShape) (has : HasTributaries s) 
             let last : given_by ms plan (up_to f f' s.tribs) k ≡ given_by ms plan f' k = given_same ms plan (up_to f f' s.tribs) f' k
             (λ j m at leaf. ap (λ x. m.given plan x k) (upto_below f f' s.tribs j (let i = inside ms j m at in let l = length-map old tx.meaning in omega arith))) in
             omega arith;
-        place = λ j c e. subst (Stands tx c plan) (upto_below f f' s.tribs j (let i = inside new j c e in omega arith)) (place j c e);
-        scheduled = scheduled;
+        place = record { made = λ j c e. subst (Stands tx c plan) (upto_below f f' s.tribs j (let i = inside new j c e in omega arith)) (place j c e); scheduled = scheduled; bounded = bounded };
         bounded = bounded;
         onward = λ supply is each said parity agrees.
             let P : (ℕ → ℕ) → Type 0 = λ v. EachHeld (held_in tx) old (below supply) v v in

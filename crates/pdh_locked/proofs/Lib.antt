@@ -2,6 +2,5 @@ mod OneSlot
 mod Reading
 mod OneBit
 mod Opening
-mod LockedNodes
 mod Filled
 mod Clearing

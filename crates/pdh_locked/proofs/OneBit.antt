@@ -1,38 +1,25 @@
 -- The bit of one slot, and what stands in its way.
-use Rattle.std.proofs.Common.{◌≡◌, ℕ, suc, ◌+◌, ◌<◌, ◌≤◌, ◌^◌, Bool, true, false, List, [], ◌∷◌, map, eqb, refl, sym, ap, ◌∙◌, subst, arith, Option, Some, None, slice_get, Result, Ok, Err, IfOk, OnOk}
-use Rattle.std.specs.List.{slice_index_or}
+use Rattle.std.proofs.Common.{◌≡◌, ℕ, suc, ◌<◌, ◌≤◌, ◌^◌, Bool, true, List, [], ◌∷◌, map, eqb, refl, sym, ap, ◌∙◌, subst, arith, Option, Some, None, slice_get}
 use Rattle.pdh_edge.specs.Ports.{Inputs, nothing}
 use Rattle.pdh_shape.specs.declared.place.Path.{Path}
 use Rattle.pdh_shape.specs.declared.role.Service.{Service}
 use Rattle.pdh_shape.specs.Frame.{FrameShape}
-use Rattle.pdh_line.specs.Sending.{Source, slot_bit}
 use Rattle.pdh_tx.specs.declared.tx.Tx.{Ghosts}
 use Rattle.pdh_tx.specs.declared.tx.TxStop.{TxStop}
 use Rattle.pdh_tx.specs.declared.tx.TxStop.TheVariants.{NoFrame}
 use Rattle.pdh_tx.specs.Meaning.{Meaning, Plan, IsUsedUp, faults_met}
 use Rattle.pdh_tx.specs.Held.{first_some}
 use Rattle.pdh_tx.specs.Node.{below, source_of, given_by, obstacle_of, set_at, carried_by, overhead_bit, AllFit, EachPlaced, Blocked}
-use Rattle.pdh_tx.specs.Passing.{HoldsLine}
 use Rattle.pdh_tx.specs.Locked.{locked_to, locked_beginning, locked_steps}
 use Rattle.pdh_tx.specs.laws.Growing.{given_more}
 use Rattle.pdh_tx.proofs.Moving.{takes_none, given_same}
+use Rattle.pdh_tx.proofs.NodePieces.{one_line}
 use Rattle.pdh_locked.specs.Children.{Stands, StandsFor, placed_in, Reads, Gives}
 use Rattle.pdh_locked.proofs.OneSlot.{read_one, read_none, read_is, overhead_is, locked_step, locked_same, locked_set, one_free, one_stop, begin_stop}
-
-line_one : (s : FrameShape) (source : Source) (n t : ℕ) (bit : Bool) → bit ≡ slot_bit s source n t (s.role t) → HoldsLine s source n t (bit ∷ [])
-line_one s source n t bit is v less =
-    let zero : 0 ≡ v = omega arith in
-    let same : t ≡ t + 0 = omega arith in
-    let P : ℕ → Type 0 = λ v. slice_index_or (bit ∷ []) v false ≡ slot_bit s source n (t + v) (s.role (t + v)) in
-    subst P zero (is ∙ ap (λ u. slot_bit s source n u (s.role u)) same)
 
 first_one : {X : Type 0} (o : Option X) (x : X) → first_some (o ∷ []) ≡ Some x → o ≡ Some x
 first_one None x h = h
 first_one (Some y) x h = h
-
-pub on_ok_of : {T E A : Type 0} (r : Result T E) (P : T → Type 0) → ((x : T) → P x → A) → IfOk r P → OnOk r A
-on_ok_of (Ok x) P f h = f x h
-on_ok_of (Err e) P f h = tt
 
 module _ {C : Type 0} (tx : Ghosts C) (s : FrameShape) (path : Path) (plan : Plan) (old : List C) (n t : ℕ) where
   abbrev ms : List Meaning
@@ -51,18 +38,17 @@ module _ {C : Type 0} (tx : Ghosts C) (s : FrameShape) (path : Path) (plan : Pla
     given_next k = given_same ms plan next (locked_to s n (suc t)) k (λ j m e leaf. ap (λ v. m.given plan v k) (next_is j))
 
     pub bit_read : (new : List C) (say : Service) (odd bit : Bool) (a b : Inputs) → eqb s.copies 0 ≡ true → n < plan.frames path → suc n < 2 ^ 64
-        → Reads tx s plan old new (locked_to s n t) i bit a b → Gives tx ms s path plan old new n t (suc t) say odd (bit ∷ []) a b
+        → Reads tx s plan old new (locked_to s n t) i bit a b → Gives tx s path plan ms old new n t (suc t) say odd (bit ∷ []) a b
     bit_read new say odd bit a b locked scheduled bounded made = record {
       given = made.given;
       takes = made.takes;
       others = made.others;
       exact = λ k leaf. made.exact k leaf ∙ given_next k;
-      place = λ j c e. subst (λ v. Stands tx c plan v) (next_is j) (made.place j c e);
-      scheduled = scheduled;
+      place = record { made = λ j c e. subst (λ v. Stands tx c plan v) (next_is j) (made.place j c e); scheduled = scheduled; bounded = bounded };
       bounded = bounded;
       onward = λ supply is each said parity agrees.
           let both = made.onward (below supply) is each agrees in (
-            line_one s (source_of path ms supply) n t bit (both.0 ∙ sym (read_is s locked (source_of path ms supply) n t i (s.role t) reads)),
+            one_line s (source_of path ms supply) n t bit (both.0 ∙ sym (read_is s locked (source_of path ms supply) n t i (s.role t) reads)),
             λ j c e. subst (λ v. StandsFor tx c (below supply) v) (next_is j) (both.1 j c e),
           );
     }
@@ -91,7 +77,7 @@ module _ {C : Type 0} (tx : Ghosts C) (s : FrameShape) (path : Path) (plan : Pla
   -- ---- a slot that reads none
 
   pub bit_none : (say : Service) (odd bit : Bool) (a : Inputs) → eqb s.copies 0 ≡ true → carried_by [] (s.role t) ≡ None → n < plan.frames path → suc n < 2 ^ 64 → EachPlaced (placed_in tx) old plan (locked_to s n t) (locked_to s n t)
-      → bit ≡ overhead_bit s say odd [] (s.role t) → Gives tx ms s path plan old old n t (suc t) say odd (bit ∷ []) a a
+      → bit ≡ overhead_bit s say odd [] (s.role t) → Gives tx s path plan ms old old n t (suc t) say odd (bit ∷ []) a a
   bit_none say odd bit a locked none scheduled bounded each is =
       let same = locked_same s n t (read_none (s.role t) none) in
       record {
@@ -99,11 +85,10 @@ module _ {C : Type 0} (tx : Ghosts C) (s : FrameShape) (path : Path) (plan : Pla
         takes = takes_none a;
         others = λ k h. refl;
         exact = λ k leaf. (let e = given_same ms plan (locked_to s n t) (locked_to s n (suc t)) k (λ j m e leaf. ap (λ v. m.given plan v k) (same j)) in omega arith);
-        place = λ j c e. subst (λ v. Stands tx c plan v) (same j) (each j c e);
-        scheduled = scheduled;
+        place = record { made = λ j c e. subst (λ v. Stands tx c plan v) (same j) (each j c e); scheduled = scheduled; bounded = bounded };
         bounded = bounded;
         onward = λ supply plan_is held said parity agrees. (
-          line_one s (source_of path ms supply) n t bit (is ∙ overhead_is s locked (source_of path ms supply) n t say odd (s.role t) none said parity),
+          one_line s (source_of path ms supply) n t bit (is ∙ overhead_is s locked (source_of path ms supply) n t say odd (s.role t) none said parity),
           λ j c e. subst (λ v. StandsFor tx c (below supply) v) (same j) (held j c e),
         );
       }

@@ -1,6 +1,6 @@
 -- The children of a multiplexer without stores.
 use Rattle.std.specs.Prelude.{◌≡◌, ℕ, suc, ◌+◌, ◌<◌, ◌^◌, Bool, true, false, List, [], ◌∷◌, length, map, slice_get, Some, None}
-use Rattle.std.specs.List.{range_with_len}
+use Rattle.std.specs.List.{range_with_len, slice_index_or}
 use Rattle.pdh_bits.specs.BitOut.{BoundedBits}
 use Rattle.pdh_edge.specs.Ports.{Inputs, Takes}
 use Rattle.pdh_shape.specs.declared.shape.Shape as shape
@@ -8,17 +8,18 @@ use Rattle.pdh_shape.specs.declared.place.Path.{Path}
 use Rattle.pdh_shape.specs.declared.role.Service.{Service}
 use Rattle.pdh_shape.specs.Frame.{FrameShape, idle}
 use Rattle.pdh_shape.specs.Tributary.{turned}
-use Rattle.pdh_line.specs.Sending.{Source, odd_before}
-use Rattle.pdh_runs.specs.Pieces.{FillsColumn}
+use Rattle.pdh_line.specs.Sending.{Source, given}
+use Rattle.pdh_runs.specs.Pieces.{rows, FillsColumn}
 use Rattle.pdh_clock.specs.Contents.{Contents}
 use Rattle.pdh_tx.specs.declared.tx.Tx.{Ghosts}
 use Rattle.pdh_tx.specs.declared.tx.TxStop.{TxStop}
 use Rattle.pdh_tx.specs.declared.tx.TxStop.TheVariants.{Failed}
-use Rattle.pdh_tx.specs.Meaning.{Plan, Supply, Meaning, Agrees, HoldsAll}
-use Rattle.pdh_tx.specs.Held.{first_some}
+use Rattle.pdh_tx.specs.Meaning.{Plan, Supply, plan_of, Meaning, Agrees, HoldsAll}
+use Rattle.pdh_tx.specs.Held.{Gains, Halts}
 use Rattle.pdh_tx.specs.Making.{IsClear}
-use Rattle.pdh_tx.specs.Node.{below, source_of, line_of, any_leaf, given_by, obstacle_of, set_at, EachPlaced, EachHeld, EachInChain, AllFit, Blocked, Stays}
-use Rattle.pdh_tx.specs.Passing.{up_to, carried_in, HoldsLine, Passes}
+use Rattle.pdh_tx.specs.Node.{below, line_of, any_leaf, given_by, obstacle_of, set_at, EachPlaced, EachHeld, EachInChain, AllFit, Blocked, Stays}
+use Rattle.pdh_tx.specs.Passing.{up_to, carried_in, Passes, HoldsBits, HoldsBitsOf, HasRows, HasRowsOf}
+use Rattle.pdh_tx.specs.Body.{Kind, GivesSlots}
 use Rattle.pdh_tx.specs.Locked.{locked_to, locked_steps}
 use Rattle.pdh_locked.specs.declared.children.Children.{Children}
 
@@ -47,6 +48,26 @@ abbrev pub filled_in : {C : Type 0} → Ghosts C → FrameShape → ℕ → ℕ 
 filled_in tx s j first len from old new column supply made read =
     StandsFor tx new supply made × FillsColumn s j false first len (map ((tx.meaning old).line supply) (range_with_len from (carried_in s j false first len))) column
 
+-- it has made some bits by this schedule, and nothing stands in the way of the next ones, so many
+pub record FillsFreely {C : Type 0} (tx : Ghosts C) (child : C) (schedule : Contents) (count : ℕ) (inputs : Inputs) : Type 0 where
+  pub made : ℕ
+  pub stands : Stands tx child (plan_of schedule) made
+  pub clear : IsClear (tx.meaning child) (plan_of schedule) made (made + count) inputs
+
+-- its bits of a piece of a frame went into the column of child j
+pub record FillsBits {C : Type 0} (tx : Ghosts C) (s : FrameShape) (j first len : ℕ) (old new : C) (column : List Bool) (plan : Plan) (made : ℕ) (before after : Inputs) : Type 0 where
+  pub placed : Stands tx new plan (made + carried_in s j false first len)
+  pub gains : Gains (tx.meaning old) plan (held_in tx old) (filled_in tx s j first len made old new column) made (made + carried_in s j false first len) made before after
+
+-- and the column is as long as the piece wants it
+pub record FillsOne {C : Type 0} (tx : Ghosts C) (s : FrameShape) (j first len : ℕ) (old new : C) (column : List Bool) (schedule : Contents) (before after : Inputs) : Type 0 where
+  pub bits : (made : ℕ) → Stands tx old (plan_of schedule) made → FillsBits tx s j first len old new column (plan_of schedule) made before after
+  pub rows : length column ≡ rows s first len
+
+-- a call failed on the way of its next bits, so many
+abbrev pub HaltsFilling : {C : Type 0} → Ghosts C → C → Contents → ℕ → Inputs → Inputs → Type 0
+HaltsFilling tx child schedule count before after = (made : ℕ) → Stands tx child (plan_of schedule) made → Halts (tx.meaning child) (plan_of schedule) made (made + count) Failed before after
+
 -- ---- all of them
 
 -- Child j gave its next bit, as the line has it, where each has made so many.
@@ -61,26 +82,35 @@ pub record Reads {C : Type 0} (tx : Ghosts C) (s : FrameShape) (plan : Plan) (ol
   pub onward : (supply : Supply) → supply.plan ≡ plan → EachHeld (held_in tx) old supply made made → Agrees (any_leaf (map tx.meaning old)) supply.lists (given_by (map tx.meaning old) plan made) given
       → (bit ≡ turned (s.inverted j) (line_of (slice_get (map tx.meaning old) j) supply (made j))) × EachHeld (held_in tx) new supply (set_at made j (suc (made j))) (set_at made j (suc (made j)))
 
--- The children gave what slots t to u of frame n read, and these are the bits of the slots, where the frame says `say` and
--- `odd` is whether the information and justifiable slots of the frame before hold an odd number of ones.
-pub record Gives {C : Type 0} (tx : Ghosts C) (ms : List Meaning) (s : FrameShape) (path : Path) (plan : Plan) (old new : List C) (n t u : ℕ) (say : Service) (odd : Bool) (bits : List Bool) (before after : Inputs) : Type 0 where
-  pub given : ℕ → List Bool
-  pub takes : Takes given before after
-  pub others : (k : ℕ) → any_leaf ms k ≡ false → given k ≡ []
-  pub exact : (k : ℕ) → any_leaf ms k ≡ true → given_by ms plan (locked_to s n t) k + length (given k) ≡ given_by ms plan (locked_to s n u) k
-  pub place : EachPlaced (placed_in tx) new plan (locked_to s n u) (locked_to s n u)
-  pub scheduled : n < plan.frames path
-  pub bounded : suc n < 2 ^ 64
-  pub onward : (supply : Supply) → supply.plan ≡ plan → EachHeld (held_in tx) old (below supply) (locked_to s n t) (locked_to s n t) → supply.says n ≡ say → odd ≡ odd_before s (source_of path ms supply) n
-      → Agrees (any_leaf ms) supply.lists (given_by ms plan (locked_to s n t)) given
-      → HoldsLine s (source_of path ms supply) n t bits × EachHeld (held_in tx) new (below supply) (locked_to s n u) (locked_to s n u)
+-- how they are taken
+abbrev pub locked_kind : FrameShape → Kind
+locked_kind s = record {
+  taken = λ path plan. locked_to s;
+  came = λ path plan. locked_to s;
+  by = λ path plan j x. given s j (plan.counts path j) x;
+  steps = locked_steps s;
+}
 
--- nothing stands in the way of so many slots of frame n, from slot t on
-pub record SlotsClear (s : FrameShape) (path : Path) (plan : Plan) (ms : List Meaning) (n t len : ℕ) (inputs : Inputs) : Type 0 where
-  -- how many bits the leaves' lists hold in all
-  pub size : ℕ → ℕ
-  pub fits : AllFit ms plan (locked_to s n t) inputs size
-  pub clear : (v : ℕ) → v < len → first_some (locked_steps s path plan ms size n (t + v)) ≡ None
+module _ {C : Type 0} (tx : Ghosts C) (s : FrameShape) (path : Path) (plan : Plan) where
+  -- they have made all bits before slot t of frame n; inside a frame it is scheduled
+  pub record Before (children : List C) (n t : ℕ) : Type 0 where
+    pub made : EachPlaced (placed_in tx) children plan (locked_to s n t) (locked_to s n t)
+    pub scheduled : 0 < t → n < plan.frames path
+    pub bounded : 0 < t → suc n < 2 ^ 64
+
+  -- they have made the slots of frame n below slot t
+  pub record Through (children : List C) (n t : ℕ) : Type 0 where
+    pub made : EachPlaced (placed_in tx) children plan (locked_to s n t) (locked_to s n t)
+    pub scheduled : n < plan.frames path
+    pub bounded : suc n < 2 ^ 64
+
+  -- what they hold is what this supply gives
+  abbrev pub HoldTo : List C → ℕ → ℕ → Supply → Type 0
+  HoldTo children n t supply = EachHeld (held_in tx) children (below supply) (locked_to s n t) (locked_to s n t)
+
+  -- they gave what slots t to u of frame n read
+  abbrev pub Gives : List Meaning → List C → List C → ℕ → ℕ → ℕ → Service → Bool → List Bool → Inputs → Inputs → Type 0
+  Gives ms old new n t u = GivesSlots (Through new n u) (HoldTo old n t) (HoldTo new n u) ms s path plan (locked_to s n t) (locked_to s n u) n t
 
 module _ {S C : Type 0} {shape : shape.Ghosts S} {tx : Ghosts C} where
   -- what each makes, takes and meets
@@ -101,61 +131,74 @@ module _ {S C : Type 0} {shape : shape.Ghosts S} {tx : Ghosts C} where
   HaveMade cs plan made = EachPlaced (placed_in tx) cs.list.items plan made made
 
   -- they have made all bits before slot t of frame n; inside a frame it is scheduled
-  pub record StandBefore (cs : Children S C shape tx) (path : Path) (plan : Plan) (n t : ℕ) : Type 0 where
-    pub made : HaveMade cs plan (locked_to shape.shape n t)
-    pub scheduled : 0 < t → n < plan.frames path
-    pub bounded : 0 < t → suc n < 2 ^ 64
+  abbrev pub StandBefore : Children S C shape tx → Path → Plan → ℕ → ℕ → Type 0
+  StandBefore cs path plan = Before tx shape.shape path plan cs.list.items
+
+  -- they have made the slots of frame n below slot t
+  abbrev pub StandThrough : Children S C shape tx → Path → Plan → ℕ → ℕ → Type 0
+  StandThrough cs path plan = Through tx shape.shape path plan cs.list.items
+
+  -- what they hold is what this supply gives
+  abbrev pub HoldsTo : Children S C shape tx → Path → Plan → Supply → ℕ → ℕ → Type 0
+  HoldsTo cs path plan supply n t = HoldTo tx shape.shape path plan cs.list.items n t supply
 
   -- ---- one slot
 
+  -- each has made some bits by this schedule
+  abbrev pub HaveMadeSome : Children S C shape tx → Contents → Type 0
+  HaveMadeSome cs schedule = (made : ℕ → ℕ) × HaveMade cs (plan_of schedule) made
+
   -- child j gave its next bit
-  abbrev pub ReadOne : Children S C shape tx → Children S C shape tx → Plan → (ℕ → ℕ) → ℕ → Bool → Inputs → Inputs → Type 0
-  ReadOne old new plan = Reads tx shape.shape plan old.list.items new.list.items
+  abbrev pub ReadOne : Children S C shape tx → Children S C shape tx → Contents → ℕ → Bool → Inputs → Inputs → Type 0
+  ReadOne old new schedule j bit before after = (made : ℕ → ℕ) → HaveMade old (plan_of schedule) made → Reads tx shape.shape (plan_of schedule) old.list.items new.list.items made j bit before after
 
   -- or it met what stands in its way
-  abbrev pub StopAtRead : Children S C shape tx → Plan → (ℕ → ℕ) → ℕ → TxStop → Inputs → Inputs → ℕ → ℕ → Type 0
-  StopAtRead cs plan made j = Blocked (meanings cs) plan made (set_at made j (suc (made j))) (λ size. obstacle_of (slice_get (meanings cs) j) plan size (made j) ∷ [])
+  abbrev pub StopAtRead : Children S C shape tx → Contents → ℕ → TxStop → Inputs → Inputs → ℕ → ℕ → Type 0
+  StopAtRead cs schedule j stop before after faults now =
+      (made : ℕ → ℕ) → HaveMade cs (plan_of schedule) made
+      → Blocked (meanings cs) (plan_of schedule) made (set_at made j (suc (made j))) (λ size. obstacle_of (slice_get (meanings cs) j) (plan_of schedule) size (made j) ∷ []) stop before after faults now
 
-  -- nothing stands in the way of slot t of frame n
-  abbrev pub IsFree : Children S C shape tx → Path → Plan → ℕ → ℕ → Inputs → Type 0
-  IsFree cs path plan n t inputs =
-      (size : ℕ → ℕ) → AllFit (meanings cs) plan (locked_to shape.shape n t) inputs size → first_some (locked_steps shape.shape path plan (meanings cs) size n t) ≡ None
+  -- ---- many slots: so many, from slot t of frame n on
 
-  -- what stands in its way was met, at the first step where it does
-  abbrev pub StopInSlot : Children S C shape tx → Path → Plan → ℕ → ℕ → TxStop → Inputs → Inputs → ℕ → ℕ → Type 0
-  StopInSlot cs path plan n t = Blocked (meanings cs) plan (locked_to shape.shape n t) (locked_to shape.shape n (suc t)) (λ size. locked_steps shape.shape path plan (meanings cs) size n t)
-
-  -- ---- many slots
-
-  -- they gave what slots t to u of frame n read, and these are the slots' bits
-  abbrev pub GiveSlots : Children S C shape tx → Children S C shape tx → Path → Plan → ℕ → ℕ → ℕ → Service → Bool → List Bool → Inputs → Inputs → Type 0
-  GiveSlots old new path plan = Gives tx (meanings old) shape.shape path plan old.list.items new.list.items
-
-  -- how many bits each has made, where the first i have filled slots t to u of frame n
+  -- how many bits each has made, where the first i have filled their slots
   abbrev pub filled_to : Children S C shape tx → ℕ → ℕ → ℕ → ℕ → ℕ → ℕ
-  filled_to cs n t u = up_to (locked_to shape.shape n t) (locked_to shape.shape n u)
+  filled_to cs n t len = up_to (locked_to shape.shape n t) (locked_to shape.shape n (t + len))
 
   -- the first i have filled their slots
-  abbrev pub HaveFilled : Children S C shape tx → Plan → ℕ → ℕ → ℕ → ℕ → Type 0
-  HaveFilled cs plan n t u i = HaveMade cs plan (filled_to cs n t u i)
+  abbrev pub HaveFilled : Children S C shape tx → Contents → ℕ → ℕ → ℕ → ℕ → Type 0
+  HaveFilled cs schedule n t len i = HaveMade cs (plan_of schedule) (filled_to cs n t len i)
 
   -- nothing stands in the way of child j
-  abbrev pub IsPassable : Children S C shape tx → Plan → ℕ → ℕ → ℕ → Inputs → ℕ → Type 0
-  IsPassable cs plan n t u inputs j = (m : Meaning) → slice_get (meanings cs) j ≡ Some m → IsClear m plan (locked_to shape.shape n t j) (locked_to shape.shape n u j) inputs
+  abbrev pub IsPassable : Children S C shape tx → Contents → ℕ → ℕ → ℕ → Inputs → ℕ → Type 0
+  IsPassable cs schedule n t len inputs j = (m : Meaning) → slice_get (meanings cs) j ≡ Some m → IsClear m (plan_of schedule) (locked_to shape.shape n t j) (locked_to shape.shape n (t + len) j) inputs
 
   -- those from i up to k filled their slots, and wrote this
-  abbrev pub FillOn : Children S C shape tx → Children S C shape tx → Plan → ℕ → ℕ → ℕ → ℕ → ℕ → Inputs → Inputs → (Source → Type 0) → Type 0
-  FillOn old new plan n t u i k before after written =
-      (path : Path) → Passes (held_in tx) path (meanings old) plan old.list.items new.list.items (filled_to old n t u i) (filled_to old n t u k) (filled_to old n t u i) (filled_to old n t u k) before after written
+  abbrev pub FillOn : Children S C shape tx → Children S C shape tx → Contents → ℕ → ℕ → ℕ → ℕ → ℕ → Inputs → Inputs → (Source → Type 0) → Type 0
+  FillOn old new schedule n t len i k before after written =
+      (path : Path) → Passes (held_in tx) path (meanings old) (plan_of schedule) old.list.items new.list.items (filled_to old n t len i) (filled_to old n t len k) (filled_to old n t len i) (filled_to old n t len k) before after written
+
+  -- child i filled its slots, whose bits stand in its column
+  pub record FillOne (old new : Children S C shape tx) (schedule : Contents) (n t len i : ℕ) (before after : Inputs) : Type 0 where
+    pub placed : HaveFilled new schedule n t len (suc i)
+    pub fills : FillOn old new schedule n t len i (suc i) before after (λ source. HoldsBitsOf shape.shape source n t len (columns new) i)
+    pub rows : HasRowsOf shape.shape t len (columns new) i
+
+  -- the first so many did, which are all of them
+  pub record FillAll (old new : Children S C shape tx) (schedule : Contents) (n t len count : ℕ) (before after : Inputs) : Type 0 where
+    pub placed : HaveFilled new schedule n t len count
+    pub fills : FillOn old new schedule n t len 0 count before after (λ source. HoldsBits shape.shape source n t len (columns new) count)
+    pub rows : HasRows shape.shape t len (columns new) count
 
   -- a call failed on the way of those from i on
-  abbrev pub FailFrom : Children S C shape tx → Plan → ℕ → ℕ → ℕ → ℕ → Inputs → Inputs → Type 0
-  FailFrom cs plan n t u i = Stays (meanings cs) plan (filled_to cs n t u i) (locked_to shape.shape n u) Failed
+  abbrev pub FailFrom : Children S C shape tx → Contents → ℕ → ℕ → ℕ → ℕ → Inputs → Inputs → Type 0
+  FailFrom cs schedule n t len i = Stays (meanings cs) (plan_of schedule) (filled_to cs n t len i) (locked_to shape.shape n (t + len)) Failed
 
-  -- nothing stands in the way of so many slots of frame n, from slot t on
-  abbrev pub IsClearFor : Children S C shape tx → Path → Plan → ℕ → ℕ → ℕ → Inputs → Type 0
-  IsClearFor cs path plan = SlotsClear shape.shape path plan (meanings cs)
+  -- what no call that fills slots changes: what they mean, and the overhead that is written
+  pub record KeepAll (old new : Children S C shape tx) : Type 0 where
+    pub same : meanings new ≡ meanings old
+    pub overhead : new.scratch.overhead ≡ old.scratch.overhead
 
-  -- a call failed on the way from slot t to slot u
-  abbrev pub FailIn : Children S C shape tx → Plan → ℕ → ℕ → ℕ → Inputs → Inputs → Type 0
-  FailIn cs plan n t u = Stays (meanings cs) plan (locked_to shape.shape n t) (locked_to shape.shape n u) Failed
+  -- nor the columns of the first i
+  pub record KeepFirst (old new : Children S C shape tx) (i : ℕ) : Type 0 where
+    pub all : KeepAll old new
+    pub earlier : (j : ℕ) → j < i → slice_index_or (columns new) j [] ≡ slice_index_or (columns old) j []

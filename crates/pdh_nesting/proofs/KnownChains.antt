@@ -1,10 +1,10 @@
 -- The chains of the known shapes keep what the laws ask of a chain.
 use Rattle.std.proofs.Common.{[], ◌∷◌}
 use Rattle.pdh_shape.specs.Frame.{FrameShape}
-use Rattle.pdh_shape.specs.Sets.{e2, e3, e4}
-use Rattle.pdh_shape.specs.laws.E2Laws.{e2_is_frame, e2_has_tributaries, e2_reads_evenly}
-use Rattle.pdh_shape.specs.laws.E3Laws.{e3_is_frame, e3_has_tributaries, e3_reads_evenly}
-use Rattle.pdh_shape.specs.laws.E4Laws.{e4_is_frame, e4_has_tributaries, e4_reads_evenly}
+use Rattle.pdh_eframes.specs.Plans.{e2, e3, e4}
+use Rattle.pdh_eframes.specs.laws.E2Laws.{e2_is_frame, e2_has_tributaries, e2_reads_evenly}
+use Rattle.pdh_eframes.specs.laws.E3Laws.{e3_is_frame, e3_has_tributaries, e3_reads_evenly}
+use Rattle.pdh_eframes.specs.laws.E4Laws.{e4_is_frame, e4_has_tributaries, e4_reads_evenly}
 use Rattle.pdh_nesting.specs.Chains.{AreFrames, ReadEvenly}
 
 pub e2_frames : AreFrames (e2 ∷ [])

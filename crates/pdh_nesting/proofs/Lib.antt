@@ -1,4 +1,6 @@
 pub mod Worked
+pub mod WorkedTracking
+pub mod WorkedLines
 pub mod WorkedEvents
 pub mod KnownChains
 pub mod RoundTrip

@@ -3,7 +3,8 @@ use Rattle.std.specs.Prelude.{◌≡◌, Bool, true, false, List, [], ◌∷◌,
 use Rattle.std.specs.List.{range_with_len}
 use Rattle.pdh_shape.specs.Frame.{FrameShape, is_right, wrong}
 use Rattle.pdh_shape.specs.Tributary.{stripped}
-use Rattle.pdh_shape.specs.Sets.{e2, e3, e4, e2_signal, set_role, set_mark, four_wrong}
+use Rattle.pdh_eframes.specs.Sets.{set_role, set_mark, four_wrong}
+use Rattle.pdh_eframes.specs.Plans.{e2, e3, e4, e2_signal}
 use Rattle.pdh_line.specs.Least.{least_below}
 use Rattle.pdh_line.specs.Tracking.{track, track_within, one_search, is_lost, after_loss, delivered, gap_of, completes_loss}
 use Rattle.pdh_line.specs.Receiving.{received, piece_bits}

@@ -1,7 +1,8 @@
 -- Worked examples of events in chains and of the order of their lists, computed by the checker.
 use Rattle.std.proofs.Common.{◌≡◌, ℕ, ◌*◌, true, false, [], ◌∷◌, None, Some, map, refl, arith}
 use Rattle.std.specs.Prelude.{◌==◌, ◌&&◌, if◌then◌else◌}
-use Rattle.pdh_shape.specs.Sets.{e2, e3, set_role}
+use Rattle.pdh_eframes.specs.Sets.{set_role}
+use Rattle.pdh_eframes.specs.Plans.{e2, e3}
 use Rattle.pdh_line.specs.Progress.{arrived}
 use Rattle.pdh_line.specs.Sending.{sent, begun, given}
 use Rattle.pdh_line.specs.Events.{Event}

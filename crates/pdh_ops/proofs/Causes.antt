@@ -3,25 +3,25 @@ use Rattle.std.proofs.Common.{◌≡◌, ◌⊎◌, ℕ, List, Option, None, Som
 use Rattle.pdh_edge.specs.Counts.{one_more}
 use Rattle.pdh_edge.specs.Files.{ShelfState, Counts, SinkState, Looks, Rose}
 use Rattle.pdh_answers.specs.Answer.{Answer}
-use Rattle.pdh_ops.specs.Schedules.{Files}
-use Rattle.pdh_ops.specs.Commands.{AreTold, IsOutput, comes_to, outputs}
+use Rattle.pdh_ops.specs.Operation.{Operation, AreTold, IsOutput, Files}
+use Rattle.pdh_ops.specs.Commands.{operation_of}
 use Rattle.pdh_watch.specs.Monitors.{State}
 use Rattle.pdh_answers.specs.Lines.{IsTold}
 use Rattle.pdh_ops.specs.Run.{HasCause, ChangesOnly, IsCounted, Performs, Runs, Completes}
 use Rattle.pdh_words.specs.declared.commands.Command.{Command}
 use Rattle.pdh_answers.specs.declared.answer.Done.{Done}
-use Rattle.pdh_answers.specs.declared.answer.Stop.TheVariants.{Memory, Usage, Read, Write, Missing, LongSchedule, BadRow, UnknownNode, CountOver, ShortNode, Short, Overflow, Underflow, ManyFrames, NoAlignment, NotWhole, LongScript, BadScriptRow, PastEnd}
+use Rattle.pdh_answers.specs.declared.answer.Stop.TheVariants.{Memory, Usage, Read, Write}
 use Rattle.pdh_ops.proofs.Touching.{looks_same}
 
 pub looks_others : (P : List ℕ → Type 0) (a b : ShelfState) → Looks a b → ChangesOnly P a b
 looks_others P a b looks name out = looks_same a b name looks
 
 -- a command that writes nothing did its work
-pub did : (command : Command) (a b : ShelfState) (done : Done) → (outputs command).count ≡ 0 → Looks a b → b.counts ≡ a.counts → ((files : Files) → AreTold command a.told files → ◌≡◌ {A = Answer} (Ok done) (comes_to command files)) → Performs command a b (Ok done)
-did command a b done none looks same comes = record {
+pub did : (operation : Operation) (a b : ShelfState) (done : Done) → operation.outputs.count ≡ 0 → Looks a b → b.counts ≡ a.counts → ((files : Files) → AreTold operation a.told files → ◌≡◌ {A = Answer} (Ok done) (operation.comes_to files)) → Performs operation a b (Ok done)
+did operation a b done none looks same comes = record {
   cause = comes;
   outputs = λ i low. absurd (omega (arith, low, none));
-  others = looks_others (IsOutput command) a b looks;
+  others = looks_others (IsOutput operation) a b looks;
   counted = same;
 }
 
@@ -30,34 +30,20 @@ one_more_rose : (n m : ℕ) → m ≡ one_more n → Rose n m
 one_more_rose n m e = omega arith
 
 -- where no fault rose, a command answers exactly what its inputs come to, or want of memory
-exact : (command : Command) (a b : ShelfState) (answer : Answer) (files : Files) → HasCause command a b answer → IsCounted a b answer → AreTold command a.told files →
-    (Rose a.counts.read_faults b.counts.read_faults → ⊥) → (Rose a.counts.write_faults b.counts.write_faults → ⊥) → (answer ≡ Err Memory) ⊎ (answer ≡ comes_to command files)
-exact command a b (Ok done) files cause counted told reads writes = inr (cause files told)
-exact command a b (Err Memory) files cause counted told reads writes = inl refl
-exact command a b (Err Usage) files cause counted told reads writes = absurd cause
-exact command a b (Err (Read file)) files cause counted told reads writes = absurd (reads (one_more_rose a.counts.read_faults b.counts.read_faults (ap (λ (c : Counts). c.read_faults) counted)))
-exact command a b (Err (Write file)) files cause counted told reads writes = absurd (writes (one_more_rose a.counts.write_faults b.counts.write_faults (ap (λ (c : Counts). c.write_faults) counted)))
-exact command a b (Err (Missing file)) files cause counted told reads writes = inr (cause files told)
-exact command a b (Err (NoAlignment n)) files cause counted told reads writes = inr (cause files told)
-exact command a b (Err (NotWhole n)) files cause counted told reads writes = inr (cause files told)
-exact command a b (Err LongScript) files cause counted told reads writes = inr (cause files told)
-exact command a b (Err (BadScriptRow l)) files cause counted told reads writes = inr (cause files told)
-exact command a b (Err (PastEnd l)) files cause counted told reads writes = inr (cause files told)
-exact command a b (Err LongSchedule) files cause counted told reads writes = inr (cause files told)
-exact command a b (Err (BadRow l)) files cause counted told reads writes = inr (cause files told)
-exact command a b (Err (UnknownNode l)) files cause counted told reads writes = inr (cause files told)
-exact command a b (Err (CountOver l n m)) files cause counted told reads writes = inr (cause files told)
-exact command a b (Err (ShortNode p h n)) files cause counted told reads writes = inr (cause files told)
-exact command a b (Err (Short f h n)) files cause counted told reads writes = inr (cause files told)
-exact command a b (Err (Overflow p)) files cause counted told reads writes = inr (cause files told)
-exact command a b (Err (Underflow p)) files cause counted told reads writes = inr (cause files told)
-exact command a b (Err (ManyFrames n)) files cause counted told reads writes = inr (cause files told)
+exact : (operation : Operation) (a b : ShelfState) (answer : Answer) (files : Files) → HasCause operation a b answer → IsCounted a b answer → AreTold operation a.told files →
+    (Rose a.counts.read_faults b.counts.read_faults → ⊥) → (Rose a.counts.write_faults b.counts.write_faults → ⊥) → (answer ≡ Err Memory) ⊎ (answer ≡ operation.comes_to files)
+exact operation a b (Ok done) files cause counted told reads writes = inr (cause files told)
+exact operation a b (Err Memory) files cause counted told reads writes = inl refl
+exact operation a b (Err Usage) files cause counted told reads writes = absurd cause
+exact operation a b (Err (Read file)) files cause counted told reads writes = absurd (reads (one_more_rose a.counts.read_faults b.counts.read_faults (ap (λ (c : Counts). c.read_faults) counted)))
+exact operation a b (Err (Write file)) files cause counted told reads writes = absurd (writes (one_more_rose a.counts.write_faults b.counts.write_faults (ap (λ (c : Counts). c.write_faults) counted)))
+exact operation a b (Err stop) files cause counted told reads writes = inr (cause files told)
 
 -- and the run tells it
 pub completes : (command : Option Command) (a b : ShelfState) (k l : SinkState) (v w : List State) (status : ℕ) → Runs command a b k l v w status → Completes command a b k l w status
 completes None a b k l v w status runs = tt
 completes (Some command) a b k l v w status runs = λ files told reads writes.
-    elim (exact command a b runs.answer files runs.does.cause runs.does.counted told reads writes) [
+    elim (exact (operation_of command) a b runs.answer files runs.does.cause runs.does.counted told reads writes) [
       | inl e ↦ inl (subst (λ answer. IsTold w answer k l status) e runs.told)
       | inr e ↦ inr (subst (λ answer. IsTold w answer k l status) e runs.told)
     ]

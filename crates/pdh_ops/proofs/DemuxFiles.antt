@@ -18,27 +18,25 @@ use Rattle.pdh_blocks.specs.Lists.{inputs_of}
 use Rattle.pdh_blocks.specs.Held.{AllDiffer}
 use Rattle.pdh_words.specs.declared.commands.Bits.{Bits}
 use Rattle.pdh_words.specs.declared.commands.Bits.TheVariants.{Line as Recorded, Bent as Disturbed}
-use Rattle.pdh_words.specs.declared.commands.Command.TheVariants.{Demux}
 use Rattle.pdh_answers.specs.Names.{name_of, line_file, output_name}
 use Rattle.pdh_answers.specs.Answer.{and_then}
-use Rattle.pdh_ops.specs.Demux.{line_of, frames_of, demuxed}
-use Rattle.pdh_ops.specs.Schedules.{Files, bytes_in}
-use Rattle.pdh_ops.specs.Commands.{AreTold, OfInputs, comes_to, reaches_outputs, IsReadDue}
+use Rattle.pdh_ops.specs.Commands.Demux.{line_of, frames_of, demuxed, demuxing}
+use Rattle.pdh_ops.specs.Operation.{AreTold, OfInputs, reaches_outputs, IsReadDue, Files, bytes_in}
 use Rattle.pdh_ops.specs.Run.{GoesOn}
 use Rattle.pdh_ops.specs.PortFiles.{HasBits, AreFiles, AreRead, opened_for, input_name}
-use Rattle.pdh_ops.specs.Steps.{IsLine, HasLine, AreLeafOutputs, IsDemuxPort}
+use Rattle.pdh_ops.specs.Steps.{IsLine, AreLeafOutputs, CanReceive, IsDemuxPort}
+use Rattle.pdh_ops.specs.Running.{ArePrepared}
 use Rattle.pdh_answers.specs.declared.file.File.{File}
 use Rattle.pdh_answers.specs.declared.file.File.TheVariants.{Output}
 use Rattle.pdh_ops.specs.declared.port.Input.{Input}
-use Rattle.pdh_ops.proofs.LineStops.{line_due}
 use Rattle.pdh_ops.proofs.OneInput.{BeginsWith, held_of}
-use Rattle.pdh_ops.proofs.LineComes.{demuxed_reaches}
+use Rattle.pdh_ops.proofs.LineComes.{demuxed_reaches, few_bits}
 use Rattle.pdh_ops.proofs.OutputNames.{numbered, numbered_at, numbered_differ, one_more_differs, same_output, output_is_not_line, output_is_not_bent}
-use Rattle.pdh_ops.proofs.PortOpen.{open_for, long_has, told_read, left_read, holds_read}
+use Rattle.pdh_ops.proofs.PortOpen.{open_for, long_has, told_read, left_read, holds_read, holds_written}
 use Rattle.pdh_shape.specs.OwnNumbers.{most_frames}
 
-pub begins_with_line : (chain : Chain) (source : Bits) → BeginsWith (Demux chain source) (line_file source) (line_of (line_file source) chain) (demuxed chain)
-begins_with_line chain source = record { some = lit< tt; first = refl; missing = refl; comes = λ files. refl; due = line_due source (Demux chain source); reaches = demuxed_reaches chain }
+pub begins_with_line : (chain : Chain) (source : Bits) → BeginsWith (demuxing chain source) (line_file source) (line_of (line_file source) chain) (demuxed chain)
+begins_with_line chain source = record { some = lit< tt; first = refl; missing = refl; comes = λ files. refl; due = λ files on. on; reaches = demuxed_reaches chain }
 
 -- ---- a line that isn't refused
 
@@ -75,11 +73,11 @@ module _ (chain : Chain) (bits : Bits) (line : Input) (file_is : line.file ≡ l
       go (suc k) here = absurd (none-some input here)
 
   -- the line is read in the run, and due there
-  pub demux_reads : (a : ShelfState) → GoesOn (Demux chain bits) a → AreRead (Demux chain bits) a reads
+  pub demux_reads : (a : ShelfState) → GoesOn (demuxing chain bits) a → AreRead (demuxing chain bits) a reads
   demux_reads a goes_on = record {
     input = λ k input here. (0, lit< tt, ap input_name (the_line k input here) ∙ ap name_of file_is);
     in_run = λ k input here. refl;
-    due = λ k input here files told. subst (λ file. IsReadDue (Demux chain bits) file files) (sym (ap (λ (input : Input). input.file) (the_line k input here) ∙ file_is)) (line_due bits (Demux chain bits) files (goes_on files told));
+    due = λ k input here. goes_on;
   }
 
   module _ (writes : List File) (outs : AreLeafOutputs chain writes) where
@@ -105,28 +103,43 @@ module _ (chain : Chain) (bits : Bits) (line : Input) (file_is : line.file ≡ l
       few = omega (arith, ap length one, count, few_leaves chain);
     }
 
-    told_now : (a b : ShelfState) (files : Files) → Looks a b → AreTold (Demux chain bits) a.told files → b.told (name_of line.file) ≡ Known (files (name_of line.file))
+    told_now : (a b : ShelfState) (files : Files) → Looks a b → AreTold (demuxing chain bits) a.told files → b.told (name_of line.file) ≡ Known (files (name_of line.file))
     told_now a b files looks told =
         ap (λ (t : List ℕ → Told). t (name_of line.file)) looks.told ∙ subst (λ file. a.told (name_of file) ≡ Known (files (name_of file))) (sym file_is) (told 0 (lit< tt))
 
     -- the port is open for `demux`
     pub demux_port : (a b : ShelfState) → Looks a b → b.counts ≡ a.counts → IsLine chain line b → IsDemuxPort chain bits line a (opened_for b reads writes)
     demux_port a b looks same is = record {
-      open_for = open_for (Demux chain bits) a b reads writes looks same goes_on count (λ k low. ap (λ all. slice_get all k) output_names_are ∙ numbered_at output_name 0 (leaves_of chain) k k low (omega arith));
+      open_for = open_for (demuxing chain bits) a b reads writes looks same goes_on count (λ k low. ap (λ all. slice_get all k) output_names_are ∙ numbered_at output_name 0 (leaves_of chain) k k low (omega arith));
       file_is = file_is;
       comes = comes;
       gives = λ files told. all_bits chain line b reads writes (name_of line.file) (files (name_of line.file)) is first (told_now a b files looks told);
     }
       where
-        comes : OfInputs (Demux chain bits) a (λ files. comes_to (Demux chain bits) files ≡ demuxed chain (bytes_in files (name_of line.file)))
+        comes : OfInputs (demuxing chain bits) a (λ files. (demuxing chain bits).comes_to files ≡ demuxed chain (bytes_in files (name_of line.file)))
         comes files told =
             let found = line_held chain line b is (files (name_of line.file)) (told_now a b files looks told) in
             let judged : line_of (line_file bits) chain (files (name_of (line_file bits))) ≡ Ok found.0 = subst (λ file. line_of file chain (files (name_of file)) ≡ Ok found.0) file_is found.3 in
             ap (λ r. and_then r (demuxed chain)) judged ∙ ap (λ (h : Option (List ℕ)). demuxed chain (unwrap_or h [])) (sym found.1)
 
-        goes_on : GoesOn (Demux chain bits) a
+        goes_on : GoesOn (demuxing chain bits) a
         goes_on files told = ap reaches_outputs (comes files told) ∙ demuxed_reaches chain (bytes_in files (name_of line.file))
 
-    -- its list 0 is the line
-    pub demux_line : (b : ShelfState) → HasLine line.bits (inputs_of (opened_for b reads writes))
-    demux_line b = record { holds = holds_read b reads writes 0 1 (ap length one) (lit< tt); left = left_read b reads writes 0 line first }
+    -- its list 0 is the line, and each leaf has a list
+    demux_lists : (b : ShelfState) → IsLine chain line b → CanReceive chain line.bits (opened_for b reads writes)
+    demux_lists b is = record {
+      fresh = refl;
+      few = few_bits chain line b is;
+      line = record { holds = holds_read b reads writes 0 1 (ap length one) (lit< tt); left = left_read b reads writes 0 line first };
+      leaves = λ k low. holds_written b reads writes k (leaves_of chain) count low;
+    }
+
+    pub demux_prepared : (b : ShelfState) → IsLine chain line b → ArePrepared (demuxing chain bits) (CanReceive chain line.bits) (IsDemuxPort chain bits line) b reads writes
+    demux_prepared b is = record {
+      files = demux_files b is;
+      port = demux_lists b is;
+      given = λ begun looks same.
+          let port = demux_port begun b looks same is in
+          record { open_for = port.open_for; due = demux_reads begun port.open_for.goes_on; alone = tt };
+      lists = λ begun looks same. demux_port begun b looks same is;
+    }

@@ -16,12 +16,13 @@ use Rattle.pdh_answers.specs.Lines.{IsTold}
 use Rattle.pdh_answers.specs.Names.{name_of, line_file, line_name}
 use Rattle.pdh_words.specs.declared.commands.Bits.{Bits}
 use Rattle.pdh_words.specs.declared.commands.Command.{Command}
-use Rattle.pdh_words.specs.declared.commands.Command.TheVariants.{Demux, Mux, ClockCheck, ClockMake, Inspect, InspectE1, Show, E1Pack, E1Unpack, Disturb, Drill}
-use Rattle.pdh_ops.specs.Schedules.{bytes_in, rows_in}
-use Rattle.pdh_ops.specs.Demux.{output_of}
+use Rattle.pdh_words.specs.declared.commands.Command.TheVariants.{Mux, Disturb, Demux}
+use Rattle.pdh_ops.specs.Schedules.{rows_in}
+use Rattle.pdh_ops.specs.Operation.{bytes_in}
+use Rattle.pdh_ops.specs.Commands.Demux.{output_of, demuxing}
 use Rattle.pdh_ops.specs.Run.{Performs, Runs}
-use Rattle.pdh_ops.specs.Mux.{line_bytes}
-use Rattle.pdh_ops.specs.Disturb.{script_in, bent_bytes}
+use Rattle.pdh_ops.specs.Commands.Mux.{line_bytes, muxing}
+use Rattle.pdh_ops.specs.Commands.Disturb.{script_in, bent_bytes, disturbing}
 use Rattle.pdh_ops.specs.Rejoined.{made_from, end_from, AreRejoined}
 use Rattle.pdh_ops.proofs.MuxGivesBack.{stop_status, mux_done}
 use Rattle.pdh_ops.proofs.MuxIsSent.{sent_line}
@@ -37,21 +38,21 @@ output_comes_back chain line output leaf low is counts lists says bits e u quiet
 
 -- ---- the commands
 
-answer_sent : (chain : Chain) (feac : Option ℕ) (a b : ShelfState) (k l : SinkState) (v : List State) (status : ℕ) (answer : Answer) → Performs (Mux chain feac) a b answer → IsTold v answer k l status → AreRejoined (Some (Mux chain feac)) a b status
+answer_sent : (chain : Chain) (feac : Option ℕ) (a b : ShelfState) (k l : SinkState) (v : List State) (status : ℕ) (answer : Answer) → Performs (muxing chain feac) a b answer → IsTold v answer k l status → AreRejoined (Some (Mux chain feac)) a b status
 answer_sent chain feac a b k l v status (Err stop) performs tells files line told now status_is = absurd (omega (arith, tells.0, stop_status stop))
 answer_sent chain feac a b k l v status (Ok done) performs tells files line told now status_is =
     let same : Some line ≡ Some (line_bytes chain feac files (rows_in chain files)) = performs.outputs 0 (lit< tt) files told (Some line) now in
     let is : line ≡ line_bytes chain feac files (rows_in chain files) = cc in
     sent_line chain feac files line (mux_done chain feac files done (performs.cause files told)) is
 
-answer_bent : (chain : Chain) (a b : ShelfState) (k l : SinkState) (v : List State) (status : ℕ) (answer : Answer) → Performs (Disturb chain) a b answer → IsTold v answer k l status → AreRejoined (Some (Disturb chain)) a b status
+answer_bent : (chain : Chain) (a b : ShelfState) (k l : SinkState) (v : List State) (status : ℕ) (answer : Answer) → Performs (disturbing chain) a b answer → IsTold v answer k l status → AreRejoined (Some (Disturb chain)) a b status
 answer_bent chain a b k l v status (Err stop) performs tells files line told now status_is = absurd (omega (arith, tells.0, stop_status stop))
 answer_bent chain a b k l v status (Ok done) performs tells files line told now status_is =
     let same : Some line ≡ Some (bent_bytes (bytes_in files line_name) (script_in files)) = performs.outputs 0 (lit< tt) files told (Some line) now in
     let is : bent_bytes (bytes_in files line_name) (script_in files) ≡ line = cc in
     subst (λ l. RejoinsList (bits_of l) (bits_of (bytes_in files line_name)) (made_from 0 (script_in files)) (end_from 0 (script_in files))) is (bent_rejoins files)
 
-answer_rejoined : (chain : Chain) (bits : Bits) (a b : ShelfState) (k l : SinkState) (v : List State) (status : ℕ) (answer : Answer) → Performs (Demux chain bits) a b answer → IsTold v answer k l status → AreRejoined (Some (Demux chain bits)) a b status
+answer_rejoined : (chain : Chain) (bits : Bits) (a b : ShelfState) (k l : SinkState) (v : List State) (status : ℕ) (answer : Answer) → Performs (demuxing chain bits) a b answer → IsTold v answer k l status → AreRejoined (Some (Demux chain bits)) a b status
 answer_rejoined chain bits a b k l v status (Err stop) performs tells files output leaf told now status_is low = absurd (omega (arith, tells.0, stop_status stop))
 answer_rejoined chain bits a b k l v status (Ok done) performs tells files output leaf told now status_is low =
     let line : List ℕ = bytes_in files (name_of (line_file bits)) in
@@ -60,15 +61,7 @@ answer_rejoined chain bits a b k l v status (Ok done) performs tells files outpu
     output_comes_back chain line output leaf low is
 
 pub are_rejoined : (command : Option Command) (a b : ShelfState) (k l : SinkState) (v w : List State) (status : ℕ) → Runs command a b k l v w status → AreRejoined command a b status
-are_rejoined None a b k l v w status runs = tt
 are_rejoined (Some (Mux chain feac)) a b k l v w status runs = answer_sent chain feac a b k l w status runs.answer runs.does runs.told
-are_rejoined (Some (ClockCheck chain)) a b k l v w status runs = tt
-are_rejoined (Some (ClockMake chain frames bias)) a b k l v w status runs = tt
-are_rejoined (Some (Inspect chain bits)) a b k l v w status runs = tt
-are_rejoined (Some InspectE1) a b k l v w status runs = tt
-are_rejoined (Some (Show chain frame)) a b k l v w status runs = tt
 are_rejoined (Some (Disturb chain)) a b k l v w status runs = answer_bent chain a b k l w status runs.answer runs.does runs.told
-are_rejoined (Some (Drill chain seed frames)) a b k l v w status runs = tt
-are_rejoined (Some E1Pack) a b k l v w status runs = tt
-are_rejoined (Some E1Unpack) a b k l v w status runs = tt
 are_rejoined (Some (Demux chain bits)) a b k l v w status runs = answer_rejoined chain bits a b k l w status runs.answer runs.does runs.told
+are_rejoined _ a b k l v w status runs = tt

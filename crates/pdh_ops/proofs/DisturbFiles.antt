@@ -1,5 +1,5 @@
 -- What `disturb` comes to where no step refuses its inputs, and the port that it opens then.
-use Rattle.std.proofs.Common.{◌≡◌, ℕ, zero, suc, ◌<◌, List, [], ◌∷◌, ◌++◌, true, Option, Some, length, map, take, slice_get, refl, ap, sym, subst, ◌∙◌, arith, lit<}
+use Rattle.std.proofs.Common.{◌≡◌, ℕ, zero, suc, ◌<◌, List, [], ◌∷◌, ◌++◌, true, Option, Some, length, map, take, slice_get, refl, ap, sym, subst, ◌∙◌, rules, arith, lit<}
 use Rattle.std.specs.Prelude.{IsTrue, unwrap_or}
 use Rattle.std.specs.Result.{result_unwrap_or}
 use Rattle.std.proofs.lemmas.Option.{none-some, same_Some}
@@ -11,16 +11,14 @@ use Rattle.pdh_edge.specs.Files.Told.{Known}
 use Rattle.pdh_chain.specs.declared.chain.Chain.{Chain}
 use Rattle.pdh_blocks.specs.Lists.{inputs_of, outputs_of}
 use Rattle.pdh_blocks.specs.Held.{AllDiffer}
-use Rattle.pdh_words.specs.declared.commands.Command.TheVariants.{Disturb}
 use Rattle.pdh_answers.specs.Names.{name_of, line_name, bent_name, script_name}
-use Rattle.pdh_ops.specs.Disturb.{script_rows, bent}
-use Rattle.pdh_ops.specs.Schedules.{Files, bytes_in}
-use Rattle.pdh_ops.specs.Commands.{AreTold, OfInputs, comes_to, reaches_outputs, IsReadDue}
-use Rattle.pdh_ops.specs.Run.{GoesOn, is_read_in_run}
+use Rattle.pdh_ops.specs.Commands.Disturb.{script_rows, bent, disturbing}
+use Rattle.pdh_ops.specs.Operation.{AreTold, OfInputs, reaches_outputs, IsReadDue, Files, bytes_in}
+use Rattle.pdh_ops.specs.Run.{GoesOn}
 use Rattle.pdh_ops.specs.PortFiles.{HasBits, AreFiles, AreRead, opened_for, input_name}
-use Rattle.pdh_ops.specs.Steps.{HasLine}
-use Rattle.pdh_ops.specs.DisturbSteps.{IsBendPlan, IsBendPort}
-use Rattle.pdh_ops.specs.declared.disturb.Plan.{Plan}
+use Rattle.pdh_ops.specs.Running.{ArePrepared}
+use Rattle.pdh_ops.specs.DisturbSteps.{IsBendPlan, CanBend, IsBendPort}
+use Rattle.pdh_ops.specs.declared.commands.disturb.Plan.{Plan}
 use Rattle.pdh_answers.specs.declared.file.File.{File}
 use Rattle.pdh_answers.specs.declared.file.File.TheVariants.{Line, Bent}
 use Rattle.pdh_ops.specs.declared.port.Input.{Input}
@@ -46,11 +44,11 @@ module _ (chain : Chain) (plan : Plan) (reads : List Input) (one : reads ≡ rec
       go (suc k) here = absurd (none-some input here)
 
   -- the line is read in the run, and due there
-  pub bend_reads : (a : ShelfState) → GoesOn (Disturb chain) a → AreRead (Disturb chain) a reads
+  pub bend_reads : (a : ShelfState) → GoesOn (disturbing chain) a → AreRead (disturbing chain) a reads
   bend_reads a goes_on = record {
     input = λ k input here. (0, lit< tt, ap input_name (the_line k input here));
-    in_run = λ k input here. subst (λ (input : Input). is_read_in_run (Disturb chain) input.file ≡ true) (sym (the_line k input here)) refl;
-    due = λ k input here. subst (λ (input : Input). OfInputs (Disturb chain) a (IsReadDue (Disturb chain) input.file)) (sym (the_line k input here)) goes_on;
+    in_run = λ k input here. subst (λ (input : Input). (disturbing chain).reads_in_run input.file ≡ true) (sym (the_line k input here)) refl;
+    due = λ k input here. subst (λ (input : Input). OfInputs (disturbing chain) a (IsReadDue (disturbing chain) input.file)) (sym (the_line k input here)) goes_on;
   }
 
   module _ (writes : List File) (out : writes ≡ Bent ∷ []) where
@@ -67,13 +65,13 @@ module _ (chain : Chain) (plan : Plan) (reads : List Input) (one : reads ≡ rec
         apart zero here = bent_is_not_line (same_Some _ _ here)
         apart (suc k) here = none-some line_name here
 
-    told_now : (a b : ShelfState) (files : Files) → Looks a b → AreTold (Disturb chain) a.told files → AreTold (Disturb chain) b.told files
-    told_now a b files looks told = subst (λ (t : List ℕ → Told). AreTold (Disturb chain) t files) (sym looks.told) told
+    told_now : (a b : ShelfState) (files : Files) → Looks a b → AreTold (disturbing chain) a.told files → AreTold (disturbing chain) b.told files
+    told_now a b files looks told = subst (λ (t : List ℕ → Told). AreTold (disturbing chain) t files) (sym looks.told) told
 
     -- the port is open for `disturb`
     pub bend_port : (a b : ShelfState) → Looks a b → b.counts ≡ a.counts → IsBendPlan chain plan b → IsBendPort chain plan.script a (opened_for b reads writes)
     bend_port a b looks same is = record {
-      open_for = open_for (Disturb chain) a b reads writes looks same goes_on (ap length out) named;
+      open_for = open_for (disturbing chain) a b reads writes looks same goes_on (ap length out) named;
       comes = comes;
       rows_are = λ files told.
           let now = told_now a b files looks told in
@@ -82,12 +80,12 @@ module _ (chain : Chain) (plan : Plan) (reads : List Input) (one : reads ≡ rec
       gives = λ files told. all_bits files (files line_name) refl (line_told chain b files (told_now a b files looks told));
     }
       where
-        comes : OfInputs (Disturb chain) a (λ files. comes_to (Disturb chain) files ≡ bent chain (bytes_in files line_name) plan.script)
+        comes : OfInputs (disturbing chain) a (λ files. (disturbing chain).comes_to files ≡ bent chain (bytes_in files line_name) plan.script)
         comes files told =
             let found = ready chain b is.sizes plan.script files is.has is.script_is (told_now a b files looks told) in
             found.1 ∙ ap (λ (h : Option (List ℕ)). bent chain (unwrap_or h []) plan.script) (sym found.0.line_is)
 
-        goes_on : GoesOn (Disturb chain) a
+        goes_on : GoesOn (disturbing chain) a
         goes_on files told = ap reaches_outputs (comes files told)
 
         named : (k : ℕ) → k < 1 → slice_get (map name_of writes) k ≡ Some bent_name
@@ -102,8 +100,21 @@ module _ (chain : Chain) (plan : Plan) (reads : List Input) (one : reads ≡ rec
             ∙ ap (λ n. Some (take n (bits_of found.0))) all ∙ ap Some (take-length (bits_of found.0)) ∙ ap (λ (h : Option (List ℕ)). Some (bits_of (unwrap_or h []))) (sym found.1)
 
     -- its lists are the line and what becomes of it
-    pub bend_line : (b : ShelfState) → HasLine plan.bits (inputs_of (opened_for b reads writes))
-    bend_line b = record { holds = holds_read b reads writes 0 1 (ap length one) (lit< tt); left = left_read b reads writes 0 (bend_input plan) first }
+    bend_lists : (b : ShelfState) → IsBendPlan chain plan b → CanBend plan (opened_for b reads writes)
+    bend_lists b is = record {
+      fresh = refl;
+      few = let bits = is.bits_are in let few = is.has.few in search rules;
+      fit = is.fit;
+      line = record { holds = holds_read b reads writes 0 1 (ap length one) (lit< tt); left = left_read b reads writes 0 (bend_input plan) first };
+      out = holds_written b reads writes 0 1 (ap length out) (lit< tt);
+    }
 
-    pub bend_out : (b : ShelfState) → IsTrue ((outputs_of (opened_for b reads writes)).holds 0)
-    bend_out b = holds_written b reads writes 0 1 (ap length out) (lit< tt)
+    pub bend_prepared : (b : ShelfState) → IsBendPlan chain plan b → ArePrepared (disturbing chain) (CanBend plan) (IsBendPort chain plan.script) b reads writes
+    bend_prepared b is = record {
+      files = bend_files b is;
+      port = bend_lists b is;
+      given = λ begun looks same.
+          let port = bend_port begun b looks same is in
+          record { open_for = port.open_for; due = bend_reads begun port.open_for.goes_on; alone = tt };
+      lists = λ begun looks same. bend_port begun b looks same is;
+    }

@@ -9,14 +9,13 @@ use Rattle.pdh_lab.specs.declared.report.Drill.{Drill as Report}
 use Rattle.pdh_lab.specs.Drill.{drill_of}
 use Rattle.pdh_lab.proofs.InTime.{in_time}
 use Rattle.pdh_words.specs.declared.commands.Command.{Command}
-use Rattle.pdh_words.specs.declared.commands.Command.TheVariants.{Demux, Mux, ClockCheck, ClockMake, Inspect, InspectE1, Show, E1Pack, E1Unpack, Disturb, Drill}
+use Rattle.pdh_words.specs.declared.commands.Command.TheVariants.{Drill}
 use Rattle.pdh_answers.specs.Answer.{Answer}
-use Rattle.pdh_ops.specs.Drill.{drilled}
+use Rattle.pdh_ops.specs.Commands.Drill.{drilled, drilling, drill_says}
 use Rattle.pdh_ops.specs.InTime.{AreInTime}
 use Rattle.pdh_answers.specs.Lines.{IsTold}
-use Rattle.pdh_ops.specs.Commands.{IsOutput}
+use Rattle.pdh_ops.specs.Operation.{IsOutput}
 use Rattle.pdh_ops.specs.Run.{Performs, Runs}
-use Rattle.pdh_answers.specs.declared.answer.Done.TheVariants.{Drilled}
 use Rattle.pdh_answers.specs.declared.answer.Stop.TheVariants.{ManyFrames}
 use Rattle.pdh_ops.proofs.Causes.{did, looks_others}
 use Rattle.pdh_ops.proofs.MuxGivesBack.{stop_status}
@@ -26,24 +25,24 @@ use Rattle.pdh_shape.specs.OwnNumbers.{most_frames}
 many_drilled : (chain : Chain) (seed frames : ℕ) → most_frames < frames → drilled chain seed frames ≡ Err (ManyFrames frames)
 many_drilled chain seed frames many = let test : nat_lt most_frames frames ≡ true = grind (arith, nat_tests) in rw test refl
 
-few_drilled : (chain : Chain) (seed frames : ℕ) → frames ≤ most_frames → drilled chain seed frames ≡ Ok (Drilled chain seed frames (drill_of chain seed frames))
+few_drilled : (chain : Chain) (seed frames : ℕ) → frames ≤ most_frames → drilled chain seed frames ≡ Ok (drill_says chain seed frames (drill_of chain seed frames))
 few_drilled chain seed frames few = let test : nat_lt most_frames frames ≡ false = grind (arith, nat_tests) in rw test refl
 
-pub drill_refused : (chain : Chain) (seed frames : ℕ) (a : ShelfState) → most_frames < frames → Performs (Drill chain seed frames) a a (Err (ManyFrames frames))
+pub drill_refused : (chain : Chain) (seed frames : ℕ) (a : ShelfState) → most_frames < frames → Performs (drilling chain seed frames) a a (Err (ManyFrames frames))
 drill_refused chain seed frames a many = record {
   cause = λ files told. sym (many_drilled chain seed frames many);
   outputs = refl;
-  others = looks_others (IsOutput (Drill chain seed frames)) a a (looks_none a);
+  others = looks_others (IsOutput (drilling chain seed frames)) a a (looks_none a);
   counted = refl;
 }
 
-pub drill_done : (chain : Chain) (seed frames : ℕ) (report : Report) (a : ShelfState) → frames ≤ most_frames → report ≡ drill_of chain seed frames → Performs (Drill chain seed frames) a a (Ok (Drilled chain seed frames report))
-drill_done chain seed frames report a few is = did (Drill chain seed frames) a a (Drilled chain seed frames report) refl (looks_none a) refl
-    (λ files told. ap (λ r. Ok (Drilled chain seed frames r)) is ∙ sym (few_drilled chain seed frames few))
+pub drill_done : (chain : Chain) (seed frames : ℕ) (report : Report) (a : ShelfState) → frames ≤ most_frames → report ≡ drill_of chain seed frames → Performs (drilling chain seed frames) a a (Ok (drill_says chain seed frames report))
+drill_done chain seed frames report a few is = did (drilling chain seed frames) a a (drill_says chain seed frames report) refl (looks_none a) refl
+    (λ files told. ap (λ r. Ok (drill_says chain seed frames r)) is ∙ sym (few_drilled chain seed frames few))
 
 -- ---- the run
 
-answer_in_time : (chain : Chain) (seed frames : ℕ) (a b : ShelfState) (k l : SinkState) (v : List State) (status : ℕ) (answer : Answer) → Performs (Drill chain seed frames) a b answer → IsTold v answer k l status → AreInTime (Some (Drill chain seed frames)) status
+answer_in_time : (chain : Chain) (seed frames : ℕ) (a b : ShelfState) (k l : SinkState) (v : List State) (status : ℕ) (answer : Answer) → Performs (drilling chain seed frames) a b answer → IsTold v answer k l status → AreInTime (Some (Drill chain seed frames)) status
 answer_in_time chain seed frames a b k l v status (Err stop) performs tells status_is = absurd (omega (arith, tells.0, stop_status stop))
 answer_in_time chain seed frames a b k l v status (Ok done) performs tells status_is = elim (cases_lt most_frames frames) [
   | inl many ↦
@@ -53,15 +52,5 @@ answer_in_time chain seed frames a b k l v status (Ok done) performs tells statu
 ]
 
 pub are_in_time : (command : Option Command) (a b : ShelfState) (k l : SinkState) (v w : List State) (status : ℕ) → Runs command a b k l v w status → AreInTime command status
-are_in_time None a b k l v w status runs = tt
-are_in_time (Some (Demux chain bits)) a b k l v w status runs = tt
-are_in_time (Some (Mux chain feac)) a b k l v w status runs = tt
-are_in_time (Some (ClockCheck chain)) a b k l v w status runs = tt
-are_in_time (Some (ClockMake chain frames bias)) a b k l v w status runs = tt
-are_in_time (Some (Inspect chain bits)) a b k l v w status runs = tt
-are_in_time (Some InspectE1) a b k l v w status runs = tt
-are_in_time (Some (Show chain frame)) a b k l v w status runs = tt
-are_in_time (Some E1Pack) a b k l v w status runs = tt
-are_in_time (Some E1Unpack) a b k l v w status runs = tt
-are_in_time (Some (Disturb chain)) a b k l v w status runs = tt
 are_in_time (Some (Drill chain seed frames)) a b k l v w status runs = answer_in_time chain seed frames a b k l w status runs.answer runs.does runs.told
+are_in_time _ a b k l v w status runs = tt

@@ -8,13 +8,12 @@ use Rattle.pdh_e1.specs.Codec.{IsPacked}
 use Rattle.pdh_g706.specs.Tracking.{multiframes_in, counted}
 use Rattle.pdh_edge.specs.Files.{ShelfState, Looks, Touches, Starts, Appends, Holds, SinkState}
 use Rattle.pdh_words.specs.declared.commands.Command.{Command}
-use Rattle.pdh_words.specs.declared.commands.Command.TheVariants.{Demux, Mux, ClockCheck, ClockMake, Inspect, InspectE1, Show, E1Pack, E1Unpack, Disturb, Drill}
+use Rattle.pdh_words.specs.declared.commands.Command.TheVariants.{E1Pack}
 use Rattle.pdh_answers.specs.Names.{payload_name, e1_name, payload_out_name}
-use Rattle.pdh_ops.specs.E1.{payload_of, e1_packed, packed_line, frames_filled, framed_of, frames_framed, e1_unpacked, unpacked_payload, counts_of}
+use Rattle.pdh_ops.specs.Commands.E1.{payload_of, e1_packed, packed_line, frames_filled, framed_of, frames_framed, e1_unpacked, unpacked_payload, counts_of, packing, unpacking, pack_says, unpack_says}
 use Rattle.pdh_ops.specs.Reading.{HasLength, IsSizeStop, IsReadStop}
-use Rattle.pdh_ops.specs.Schedules.{bytes_in}
 use Rattle.pdh_ops.specs.Writing.{IsStartStop, IsAppendStop}
-use Rattle.pdh_ops.specs.Commands.{reaches_outputs}
+use Rattle.pdh_ops.specs.Operation.{reaches_outputs, bytes_in}
 use Rattle.pdh_watch.specs.Monitors.{State}
 use Rattle.pdh_answers.specs.Lines.{IsTold}
 use Rattle.pdh_ops.specs.Run.{Performs, Runs}
@@ -22,8 +21,7 @@ use Rattle.pdh_ops.specs.Refusing.{Refuses}
 use Rattle.pdh_answers.specs.Answer.{Answer, and_then}
 use Rattle.pdh_ops.specs.Packs.{Packs}
 use Rattle.pdh_answers.specs.declared.file.File.TheVariants.{Payload, E1Line, PayloadOut}
-use Rattle.pdh_answers.specs.declared.answer.Done.TheVariants.{E1Packed, E1Unpacked}
-use Rattle.pdh_answers.specs.declared.answer.E1Counts.{E1Counts}
+use Rattle.pdh_ops.specs.declared.commands.e1.E1Counts.{E1Counts}
 use Rattle.pdh_answers.specs.declared.answer.Done.{Done}
 use Rattle.pdh_answers.specs.declared.answer.Stop.{Stop}
 use Rattle.pdh_answers.specs.declared.answer.Stop.TheVariants.{ManyFrames, NoAlignment, NotWhole}
@@ -36,7 +34,7 @@ use Rattle.pdh_shape.specs.OwnNumbers.{most_frames}
 
 -- ---- the payload that `e1pack` reads
 
-pack_begins : BeginsWith E1Pack Payload payload_of e1_packed
+pack_begins : BeginsWith packing Payload payload_of e1_packed
 unfolding e1_packed
 pack_begins = record { some = lit< tt; first = refl; missing = refl; comes = λ files. refl; due = λ files on. on; reaches = λ payload. refl }
 
@@ -63,53 +61,53 @@ whole_payload octets few whole content long =
     let test' : length content % 496 == 0 ≡ true = grind (arith, nat_tests) in
     rw test (rw test' refl)
 
-pub payload_missing : (a b : ShelfState) (stop : Stop) → IsSizeStop Payload a b stop → Refuses E1Pack a b stop
-payload_missing a b stop cause = missing_refuses E1Pack Payload payload_of e1_packed a b stop pack_begins cause
+pub payload_missing : (a b : ShelfState) (stop : Stop) → IsSizeStop Payload a b stop → Refuses packing a b stop
+payload_missing a b stop cause = missing_refuses packing Payload payload_of e1_packed a b stop pack_begins cause
 
-pub payload_long : (a b : ShelfState) (octets frames : ℕ) → Looks a b → b.counts ≡ a.counts → HasLength payload_name octets b → frames ≡ octets / 31 → most_frames < frames → Refuses E1Pack a b (ManyFrames frames)
+pub payload_long : (a b : ShelfState) (octets frames : ℕ) → Looks a b → b.counts ≡ a.counts → HasLength payload_name octets b → frames ≡ octets / 31 → most_frames < frames → Refuses packing a b (ManyFrames frames)
 payload_long a b octets frames looks same known is many =
-    refuses_since E1Pack a b b (ManyFrames frames) looks same
-    (subst (λ (n : ℕ). Refuses E1Pack b b (ManyFrames n)) (sym is)
-    (length_refuses E1Pack Payload payload_of e1_packed b octets (ManyFrames (octets / 31)) pack_begins known (long_payload octets (omega arith))))
+    refuses_since packing a b b (ManyFrames frames) looks same
+    (subst (λ (n : ℕ). Refuses packing b b (ManyFrames n)) (sym is)
+    (length_refuses packing Payload payload_of e1_packed b octets (ManyFrames (octets / 31)) pack_begins known (long_payload octets (omega arith))))
 
-pub payload_cut : (a b : ShelfState) (octets : ℕ) → Looks a b → b.counts ≡ a.counts → HasLength payload_name octets b → octets / 31 ≤ most_frames → (octets % 496 ≡ 0 → ⊥) → Refuses E1Pack a b (NotWhole octets)
+pub payload_cut : (a b : ShelfState) (octets : ℕ) → Looks a b → b.counts ≡ a.counts → HasLength payload_name octets b → octets / 31 ≤ most_frames → (octets % 496 ≡ 0 → ⊥) → Refuses packing a b (NotWhole octets)
 payload_cut a b octets looks same known few cut =
-    refuses_since E1Pack a b b (NotWhole octets) looks same
-    (length_refuses E1Pack Payload payload_of e1_packed b octets (NotWhole octets) pack_begins known (cut_payload octets few cut))
+    refuses_since packing a b b (NotWhole octets) looks same
+    (length_refuses packing Payload payload_of e1_packed b octets (NotWhole octets) pack_begins known (cut_payload octets few cut))
 
-pub payload_unread : (a b c : ShelfState) (octets : ℕ) (stop : Stop) → Looks a b → b.counts ≡ a.counts → HasLength payload_name octets b → octets / 31 ≤ most_frames → octets % 496 ≡ 0 → IsReadStop Payload b c stop → Refuses E1Pack a c stop
+pub payload_unread : (a b c : ShelfState) (octets : ℕ) (stop : Stop) → Looks a b → b.counts ≡ a.counts → HasLength payload_name octets b → octets / 31 ≤ most_frames → octets % 496 ≡ 0 → IsReadStop Payload b c stop → Refuses packing a c stop
 payload_unread a b c octets stop looks same known few whole cause =
-    refuses_since E1Pack a b c stop looks same
-    (reading_refuses E1Pack Payload payload_of e1_packed b c octets stop pack_begins refl known (whole_payload octets few whole) cause)
+    refuses_since packing a b c stop looks same
+    (reading_refuses packing Payload payload_of e1_packed b c octets stop pack_begins refl known (whole_payload octets few whole) cause)
 
 -- ---- what `e1pack` leaves
 
-pack_output : HasOutput E1Pack E1Line
+pack_output : HasOutput packing E1Line
 pack_output = record { count = refl; name = refl }
 
-pack_writes : (a b : ShelfState) (payload line : List ℕ) → Looks a b → b.counts ≡ a.counts → Holds (a.told payload_name) payload → payload_of (Some payload) ≡ Ok payload → line ≡ packed_line payload → Writes E1Pack a b line
+pack_writes : (a b : ShelfState) (payload line : List ℕ) → Looks a b → b.counts ≡ a.counts → Holds (a.told payload_name) payload → payload_of (Some payload) ≡ Ok payload → line ≡ packed_line payload → Writes packing a b line
 pack_writes a b payload line looks same holds served is = record {
   looks = looks;
   same = same;
-  goes_on = goes_on_by_bytes E1Pack Payload payload_of e1_packed a payload pack_begins holds served;
-  content = λ files told. is ∙ ap (λ (h : Option (List ℕ)). packed_line (unwrap_or h [])) (sym (bytes_are E1Pack Payload payload_of e1_packed a payload pack_begins holds files told));
+  goes_on = goes_on_by_bytes packing Payload payload_of e1_packed a payload pack_begins holds served;
+  content = λ files told. is ∙ ap (λ (h : Option (List ℕ)). packed_line (unwrap_or h [])) (sym (bytes_are packing Payload payload_of e1_packed a payload pack_begins holds files told));
 }
 
-pub pack_start_refused : (a b c : ShelfState) (payload : List ℕ) (stop : Stop) → Looks a b → b.counts ≡ a.counts → Holds (a.told payload_name) payload → payload_of (Some payload) ≡ Ok payload → Touches e1_name b c → IsStartStop E1Line b c stop → Performs E1Pack a c (Err stop)
+pub pack_start_refused : (a b c : ShelfState) (payload : List ℕ) (stop : Stop) → Looks a b → b.counts ≡ a.counts → Holds (a.told payload_name) payload → payload_of (Some payload) ≡ Ok payload → Touches e1_name b c → IsStartStop E1Line b c stop → Performs packing a c (Err stop)
 pack_start_refused a b c payload stop looks same holds served touches cause =
-    start_refused E1Pack E1Line a b c stop pack_output looks same (goes_on_by_bytes E1Pack Payload payload_of e1_packed a payload pack_begins holds served) touches cause
+    start_refused packing E1Line a b c stop pack_output looks same (goes_on_by_bytes packing Payload payload_of e1_packed a payload pack_begins holds served) touches cause
 
 pub pack_append_refused : (a b c d : ShelfState) (payload line : List ℕ) (stop : Stop) → Looks a b → b.counts ≡ a.counts → Holds (a.told payload_name) payload → payload_of (Some payload) ≡ Ok payload → line ≡ packed_line payload → Touches e1_name b c → Starts e1_name b c →
-    Touches e1_name c d → IsAppendStop E1Line line c d stop → Performs E1Pack a d (Err stop)
+    Touches e1_name c d → IsAppendStop E1Line line c d stop → Performs packing a d (Err stop)
 pack_append_refused a b c d payload line stop looks same holds served is starts started touches cause =
-    append_refused E1Pack E1Line a b c d line stop pack_output (pack_writes a b payload line looks same holds served is) starts started touches cause
+    append_refused packing E1Line a b c d line stop pack_output (pack_writes a b payload line looks same holds served is) starts started touches cause
 
 pub pack_done : (a b c d : ShelfState) (payload line : List ℕ) (multiframes : ℕ) → Looks a b → b.counts ≡ a.counts → Holds (a.told payload_name) payload → payload_of (Some payload) ≡ Ok payload → line ≡ packed_line payload → multiframes ≡ length payload / 496 →
-    Touches e1_name b c → Starts e1_name b c → Touches e1_name c d → Appends e1_name line c d → Performs E1Pack a d (Ok (E1Packed multiframes))
+    Touches e1_name b c → Starts e1_name b c → Touches e1_name c d → Appends e1_name line c d → Performs packing a d (Ok (pack_says multiframes))
 unfolding e1_packed
 pack_done a b c d payload line multiframes looks same holds served is count starts started touches appends =
-    writing_done E1Pack E1Line a b c d line (E1Packed multiframes) pack_output (pack_writes a b payload line looks same holds served is) starts started touches appends
-    (λ files told. ap (λ (n : ℕ). Ok (E1Packed n)) count ∙ sym (comes_of_bytes E1Pack Payload payload_of e1_packed a payload pack_begins holds served files told))
+    writing_done packing E1Line a b c d line (pack_says multiframes) pack_output (pack_writes a b payload line looks same holds served is) starts started touches appends
+    (λ files told. ap (λ (n : ℕ). Ok (pack_says n)) count ∙ sym (comes_of_bytes packing Payload payload_of e1_packed a payload pack_begins holds served files told))
 
 -- ---- the line of a run
 
@@ -128,7 +126,7 @@ payload_whole (Some payload) done e = elim (cases_eq (length payload % 496) 0) [
   ]
 ]
 
-answer_packs : (a b : ShelfState) (k l : SinkState) (v : List State) (status : ℕ) (answer : Answer) → Performs E1Pack a b answer → IsTold v answer k l status → Packs (Some E1Pack) a b status
+answer_packs : (a b : ShelfState) (k l : SinkState) (v : List State) (status : ℕ) (answer : Answer) → Performs packing a b answer → IsTold v answer k l status → Packs (Some E1Pack) a b status
 answer_packs a b k l v status (Err stop) performs tells files line told now status_is = absurd (omega (arith, tells.0, stop_status stop))
 answer_packs a b k l v status (Ok done) performs tells files line told now status_is =
     let same : Some line ≡ Some (packed_line (bytes_in files payload_name)) = performs.outputs 0 (lit< tt) files told (Some line) now in
@@ -136,18 +134,8 @@ answer_packs a b k l v status (Ok done) performs tells files line told now statu
     subst (IsPacked (bytes_in files payload_name)) (sym is) (line_is_packed (bytes_in files payload_name) (payload_whole (files payload_name) done (performs.cause files told)))
 
 pub packs : (command : Option Command) (a b : ShelfState) (k l : SinkState) (v w : List State) (status : ℕ) → Runs command a b k l v w status → Packs command a b status
-packs None a b k l v w status runs = tt
-packs (Some (Demux chain bits)) a b k l v w status runs = tt
-packs (Some (Mux chain feac)) a b k l v w status runs = tt
-packs (Some (ClockCheck chain)) a b k l v w status runs = tt
-packs (Some (ClockMake chain frames bias)) a b k l v w status runs = tt
-packs (Some E1Unpack) a b k l v w status runs = tt
-packs (Some (Inspect chain bits)) a b k l v w status runs = tt
-packs (Some InspectE1) a b k l v w status runs = tt
-packs (Some (Show chain frame)) a b k l v w status runs = tt
-packs (Some (Disturb chain)) a b k l v w status runs = tt
-packs (Some (Drill chain seed frames)) a b k l v w status runs = tt
 packs (Some E1Pack) a b k l v w status runs = answer_packs a b k l w status runs.answer runs.does runs.told
+packs _ a b k l v w status runs = tt
 
 -- ---- the line that `e1unpack` reads
 
@@ -155,7 +143,7 @@ unpacked_none : (line : List ℕ) → multiframes_in (bits_of line) ≡ 0 → e1
 unfolding e1_unpacked
 unpacked_none line none = let test : multiframes_in (bits_of line) == 0 ≡ true = grind (arith, nat_tests) in rw test refl
 
-unpacked_some : (line : List ℕ) → multiframes_in (bits_of line) ≢ 0 → e1_unpacked line ≡ Ok (E1Unpacked (counts_of line))
+unpacked_some : (line : List ℕ) → multiframes_in (bits_of line) ≢ 0 → e1_unpacked line ≡ Ok (unpack_says (counts_of line))
 unfolding e1_unpacked
 unpacked_some line some = let test : multiframes_in (bits_of line) == 0 ≡ false = grind (arith, nat_tests) in rw test refl
 
@@ -165,7 +153,7 @@ unpacked_reaches line = elim (cases_eq (multiframes_in (bits_of line)) 0) [
   | inr some ↦ ap reaches_outputs (unpacked_some line some)
 ]
 
-unpack_begins : BeginsWith E1Unpack E1Line framed_of e1_unpacked
+unpack_begins : BeginsWith unpacking E1Line framed_of e1_unpacked
 unpack_begins = record { some = lit< tt; first = refl; missing = refl; comes = λ files. refl; due = λ files on. on; reaches = unpacked_reaches }
 
 pub long_framed : (octets : ℕ) → most_frames < octets / 32 → RefusesAll framed_of octets (ManyFrames (octets / 32))
@@ -180,23 +168,23 @@ whole_framed octets few content long =
     let test : nat_lt most_frames (frames_framed content) ≡ false = grind (arith, nat_tests) in
     rw test refl
 
-pub framed_missing : (a b : ShelfState) (stop : Stop) → IsSizeStop E1Line a b stop → Refuses E1Unpack a b stop
-framed_missing a b stop cause = missing_refuses E1Unpack E1Line framed_of e1_unpacked a b stop unpack_begins cause
+pub framed_missing : (a b : ShelfState) (stop : Stop) → IsSizeStop E1Line a b stop → Refuses unpacking a b stop
+framed_missing a b stop cause = missing_refuses unpacking E1Line framed_of e1_unpacked a b stop unpack_begins cause
 
-pub framed_long : (a b : ShelfState) (octets frames : ℕ) → Looks a b → b.counts ≡ a.counts → HasLength e1_name octets b → frames ≡ octets / 32 → most_frames < frames → Refuses E1Unpack a b (ManyFrames frames)
+pub framed_long : (a b : ShelfState) (octets frames : ℕ) → Looks a b → b.counts ≡ a.counts → HasLength e1_name octets b → frames ≡ octets / 32 → most_frames < frames → Refuses unpacking a b (ManyFrames frames)
 framed_long a b octets frames looks same known is many =
-    refuses_since E1Unpack a b b (ManyFrames frames) looks same
-    (subst (λ (n : ℕ). Refuses E1Unpack b b (ManyFrames n)) (sym is)
-    (length_refuses E1Unpack E1Line framed_of e1_unpacked b octets (ManyFrames (octets / 32)) unpack_begins known (long_framed octets (omega arith))))
+    refuses_since unpacking a b b (ManyFrames frames) looks same
+    (subst (λ (n : ℕ). Refuses unpacking b b (ManyFrames n)) (sym is)
+    (length_refuses unpacking E1Line framed_of e1_unpacked b octets (ManyFrames (octets / 32)) unpack_begins known (long_framed octets (omega arith))))
 
-pub framed_unread : (a b c : ShelfState) (octets : ℕ) (stop : Stop) → Looks a b → b.counts ≡ a.counts → HasLength e1_name octets b → octets / 32 ≤ most_frames → IsReadStop E1Line b c stop → Refuses E1Unpack a c stop
+pub framed_unread : (a b c : ShelfState) (octets : ℕ) (stop : Stop) → Looks a b → b.counts ≡ a.counts → HasLength e1_name octets b → octets / 32 ≤ most_frames → IsReadStop E1Line b c stop → Refuses unpacking a c stop
 framed_unread a b c octets stop looks same known few cause =
-    refuses_since E1Unpack a b c stop looks same
-    (reading_refuses E1Unpack E1Line framed_of e1_unpacked b c octets stop unpack_begins refl known (whole_framed octets few) cause)
+    refuses_since unpacking a b c stop looks same
+    (reading_refuses unpacking E1Line framed_of e1_unpacked b c octets stop unpack_begins refl known (whole_framed octets few) cause)
 
 -- ---- what `e1unpack` leaves
 
-unpack_output : HasOutput E1Unpack PayloadOut
+unpack_output : HasOutput unpacking PayloadOut
 unpack_output = record { count = refl; name = refl }
 
 -- the framed line was read, and these octets are to be written
@@ -208,40 +196,40 @@ pub record IsRead (a b : ShelfState) (line payload : List ℕ) (found : E1Counts
   pub payload_is : payload ≡ unpacked_payload line
   pub found_is : found ≡ counts_of line
 
-unpack_writes : (a b : ShelfState) (line payload : List ℕ) (found : E1Counts) → IsRead a b line payload found → Writes E1Unpack a b payload
+unpack_writes : (a b : ShelfState) (line payload : List ℕ) (found : E1Counts) → IsRead a b line payload found → Writes unpacking a b payload
 unpack_writes a b line payload found is = record {
   looks = is.looks;
   same = is.same;
-  goes_on = goes_on_by_bytes E1Unpack E1Line framed_of e1_unpacked a line unpack_begins is.holds is.served;
-  content = λ files told. is.payload_is ∙ ap (λ (h : Option (List ℕ)). unpacked_payload (unwrap_or h [])) (sym (bytes_are E1Unpack E1Line framed_of e1_unpacked a line unpack_begins is.holds files told));
+  goes_on = goes_on_by_bytes unpacking E1Line framed_of e1_unpacked a line unpack_begins is.holds is.served;
+  content = λ files told. is.payload_is ∙ ap (λ (h : Option (List ℕ)). unpacked_payload (unwrap_or h [])) (sym (bytes_are unpacking E1Line framed_of e1_unpacked a line unpack_begins is.holds files told));
 }
 
-pub unpack_start_refused : (a b c : ShelfState) (line payload : List ℕ) (found : E1Counts) (stop : Stop) → IsRead a b line payload found → Touches payload_out_name b c → IsStartStop PayloadOut b c stop → Performs E1Unpack a c (Err stop)
+pub unpack_start_refused : (a b c : ShelfState) (line payload : List ℕ) (found : E1Counts) (stop : Stop) → IsRead a b line payload found → Touches payload_out_name b c → IsStartStop PayloadOut b c stop → Performs unpacking a c (Err stop)
 unpack_start_refused a b c line payload found stop is touches cause =
-    start_refused E1Unpack PayloadOut a b c stop unpack_output is.looks is.same (goes_on_by_bytes E1Unpack E1Line framed_of e1_unpacked a line unpack_begins is.holds is.served) touches cause
+    start_refused unpacking PayloadOut a b c stop unpack_output is.looks is.same (goes_on_by_bytes unpacking E1Line framed_of e1_unpacked a line unpack_begins is.holds is.served) touches cause
 
-pub unpack_append_refused : (a b c d : ShelfState) (line payload : List ℕ) (found : E1Counts) (stop : Stop) → IsRead a b line payload found → Touches payload_out_name b c → Starts payload_out_name b c → Touches payload_out_name c d → IsAppendStop PayloadOut payload c d stop → Performs E1Unpack a d (Err stop)
+pub unpack_append_refused : (a b c d : ShelfState) (line payload : List ℕ) (found : E1Counts) (stop : Stop) → IsRead a b line payload found → Touches payload_out_name b c → Starts payload_out_name b c → Touches payload_out_name c d → IsAppendStop PayloadOut payload c d stop → Performs unpacking a d (Err stop)
 unpack_append_refused a b c d line payload found stop is starts started touches cause =
-    append_refused E1Unpack PayloadOut a b c d payload stop unpack_output (unpack_writes a b line payload found is) starts started touches cause
+    append_refused unpacking PayloadOut a b c d payload stop unpack_output (unpack_writes a b line payload found is) starts started touches cause
 
 found_some : (line : List ℕ) (found : E1Counts) → found ≡ counts_of line → found.multiframes ≡ counted (multiframes_in (bits_of line))
 unfolding counts_of
 found_some line found is = ap (λ (x : E1Counts). x.multiframes) is
 
-pub unpack_done : (a b c d : ShelfState) (line payload : List ℕ) (found : E1Counts) → IsRead a b line payload found → found.multiframes ≢ 0 → Touches payload_out_name b c → Starts payload_out_name b c → Touches payload_out_name c d → Appends payload_out_name payload c d → Performs E1Unpack a d (Ok (E1Unpacked found))
+pub unpack_done : (a b c d : ShelfState) (line payload : List ℕ) (found : E1Counts) → IsRead a b line payload found → found.multiframes ≢ 0 → Touches payload_out_name b c → Starts payload_out_name b c → Touches payload_out_name c d → Appends payload_out_name payload c d → Performs unpacking a d (Ok (unpack_says found))
 unpack_done a b c d line payload found is some starts started touches appends =
     let delivered : multiframes_in (bits_of line) ≢ 0 = λ none. some (found_some line found is.found_is ∙ ap counted none) in
-    writing_done E1Unpack PayloadOut a b c d payload (E1Unpacked found) unpack_output (unpack_writes a b line payload found is) starts started touches appends
-    (λ files told. ap (λ (x : E1Counts). Ok (E1Unpacked x)) is.found_is ∙ sym (comes_of_bytes E1Unpack E1Line framed_of e1_unpacked a line unpack_begins is.holds is.served files told ∙ unpacked_some line delivered))
+    writing_done unpacking PayloadOut a b c d payload (unpack_says found) unpack_output (unpack_writes a b line payload found is) starts started touches appends
+    (λ files told. ap (λ (x : E1Counts). Ok (unpack_says x)) is.found_is ∙ sym (comes_of_bytes unpacking E1Line framed_of e1_unpacked a line unpack_begins is.holds is.served files told ∙ unpacked_some line delivered))
 
 -- no multiframe was delivered
-pub unpack_none : (a b c d : ShelfState) (line payload : List ℕ) (found : E1Counts) (bits : ℕ) → IsRead a b line payload found → found.multiframes ≡ 0 → bits ≡ 8 * length line → Touches payload_out_name b c → Starts payload_out_name b c → Touches payload_out_name c d → Appends payload_out_name payload c d → Performs E1Unpack a d (Err (NoAlignment bits))
+pub unpack_none : (a b c d : ShelfState) (line payload : List ℕ) (found : E1Counts) (bits : ℕ) → IsRead a b line payload found → found.multiframes ≡ 0 → bits ≡ 8 * length line → Touches payload_out_name b c → Starts payload_out_name b c → Touches payload_out_name c d → Appends payload_out_name payload c d → Performs unpacking a d (Err (NoAlignment bits))
 unpack_none a b c d line payload found bits is none long starts started touches appends =
-    let writes : Writes E1Unpack a b payload = unpack_writes a b line payload found is in
+    let writes : Writes unpacking a b payload = unpack_writes a b line payload found is in
     let delivered : multiframes_in (bits_of line) ≡ 0 = omega (arith, found_some line found is.found_is, none) in
     record {
-      cause = λ files told. ap (λ (n : ℕ). Err (NoAlignment n)) long ∙ sym (comes_of_bytes E1Unpack E1Line framed_of e1_unpacked a line unpack_begins is.holds is.served files told ∙ unpacked_none line delivered);
-      outputs = whole E1Unpack PayloadOut a b c d payload unpack_output writes started appends;
-      others = others E1Unpack PayloadOut a b d unpack_output is.looks (touches_again payload_out_name b c d starts touches);
+      cause = λ files told. ap (λ (n : ℕ). Err (NoAlignment n)) long ∙ sym (comes_of_bytes unpacking E1Line framed_of e1_unpacked a line unpack_begins is.holds is.served files told ∙ unpacked_none line delivered);
+      outputs = whole unpacking PayloadOut a b c d payload unpack_output writes started appends;
+      others = others unpacking PayloadOut a b d unpack_output is.looks (touches_again payload_out_name b c d starts touches);
       counted = appends.succeeds.counts ∙ started.succeeds.counts ∙ is.same;
     }

@@ -7,7 +7,7 @@ use Rattle.pdh_e1.specs.Multiframe.{packed_octet, sent_word, FramePacked, frame_
 use Rattle.pdh_e1.specs.Codec.{frames_of, IsPacked, IsPackedUpTo}
 use Rattle.pdh_e1.proofs.WordLaws.{sent_word-append}
 use Rattle.pdh_e1.proofs.PackingLaws.{packed_none, packed_more, packed_all, payload_none, payload_more}
-use Rattle.pdh_ops.specs.E1.{frames_filled, packed_frames, packed_line}
+use Rattle.pdh_ops.specs.Commands.E1.{frames_filled, packed_frames, packed_line}
 
 -- ---- it is packed
 

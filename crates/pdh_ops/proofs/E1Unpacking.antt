@@ -15,8 +15,8 @@ use Rattle.pdh_g706.proofs.PayloadLaws.{payload_fits}
 use Rattle.pdh_g706.proofs.SearchLaws.{short_search}
 use Rattle.pdh_g706.proofs.TrackLaws.{not_over, track_open}
 use Rattle.pdh_g706.proofs.TurnLaws.{one_search_none}
-use Rattle.pdh_ops.specs.declared.e1.Unpacked.{Unpacked}
-use Rattle.pdh_ops.specs.E1.{unpacked_payload, counts_of}
+use Rattle.pdh_ops.specs.declared.commands.e1.Unpacked.{Unpacked}
+use Rattle.pdh_ops.specs.Commands.E1.{unpacked_payload, counts_of}
 use Rattle.pdh_ops.specs.E1Steps.{IsUnpacked}
 
 -- no bits give nothing

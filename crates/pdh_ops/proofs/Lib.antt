@@ -1,7 +1,8 @@
 pub mod OutputNames
 pub mod PortOpen
 pub mod PortRun
-pub mod PortEnds
+pub mod Finished
+pub mod Prepared
 pub mod ShowRun
 pub mod ShowFiles
 pub mod MuxRun
@@ -37,6 +38,6 @@ pub mod InspectFiles
 pub mod DisturbComes
 pub mod DisturbFiles
 pub mod DrillComes
-pub mod InspectRun
+pub mod LineRun
 pub mod InspectWatched
 pub mod NeverFailing

@@ -3,21 +3,19 @@ use Rattle.std.proofs.Common.{◌≡◌, ℕ, List, Result, Err, true, refl, ap,
 use Rattle.pdh_edge.specs.declared.shelf.Call.TheVariants.{Size as SizeCall}
 use Rattle.pdh_edge.specs.Files.{ShelfState, WhereTold, FailsToRead}
 use Rattle.pdh_edge.specs.Files.Told.{Known}
-use Rattle.pdh_words.specs.declared.commands.Command.{Command}
 use Rattle.pdh_answers.specs.Names.{name_of, line_file}
 use Rattle.pdh_answers.specs.Answer.{Answer, and_then}
-use Rattle.pdh_ops.specs.Demux.{line_of}
+use Rattle.pdh_ops.specs.Commands.Demux.{line_of}
 use Rattle.pdh_ops.specs.Reading.{IsSizeStop}
-use Rattle.pdh_ops.specs.Schedules.{Files}
 use Rattle.pdh_words.specs.declared.commands.Bits.{Bits}
 use Rattle.pdh_words.specs.declared.commands.Bits.TheVariants.{Line as Recorded, Bent as Disturbed}
-use Rattle.pdh_ops.specs.Commands.{AreTold, comes_to, reaches_outputs, IsReadDue}
+use Rattle.pdh_ops.specs.Operation.{Operation, AreTold, reaches_outputs, IsReadDue, Files}
 use Rattle.pdh_ops.specs.Run.{FailsInTurn, FailsEarly}
 use Rattle.pdh_ops.specs.Refusing.{Refuses}
 use Rattle.pdh_ops.specs.Steps.{IsLineCause}
 use Rattle.pdh_answers.specs.declared.file.File.{File}
 use Rattle.pdh_answers.specs.declared.answer.Stop.{Stop}
-use Rattle.pdh_answers.specs.declared.answer.Stop.TheVariants.{Memory, Usage, Read, Write, Missing, LongSchedule, BadRow, UnknownNode, CountOver, ShortNode, Short, Overflow, Underflow, ManyFrames, NoAlignment, NotWhole, LongScript, BadScriptRow, PastEnd}
+use Rattle.pdh_answers.specs.declared.answer.Stop.TheVariants.{Read, Missing, ManyFrames}
 use Rattle.pdh_ops.proofs.Refusing.{size_stop}
 use Rattle.pdh_ops.proofs.OneInput.{BeginsWith}
 use Rattle.pdh_chain.specs.declared.chain.Chain.{Chain}
@@ -32,44 +30,24 @@ size_stops file chain a b stop cause = elim (size_stop file a b stop cause) [
 
 -- ---- a command that begins with the line of a file
 
--- the line's bytes are due where nothing refuses before the outputs
-pub line_due : (bits : Bits) (command : Command) (files : Files) → reaches_outputs (comes_to command files) ≡ true → IsReadDue command (line_file bits) files
-line_due Recorded command files on = on
-line_due Disturbed command files on = on
-
-pub line_told : (file : File) (chain : Chain) (command : Command) (next : List ℕ → Answer) (a : ShelfState) (files : Files) → BeginsWith command file (line_of file chain) next → AreTold command a.told files → a.told (name_of file) ≡ Known (files (name_of file))
-line_told file chain command next a files begins told = subst (λ name. a.told name ≡ Known (files name)) (sym begins.first) (told 0 begins.some)
+pub line_told : (file : File) (chain : Chain) (operation : Operation) (next : List ℕ → Answer) (a : ShelfState) (files : Files) → BeginsWith operation file (line_of file chain) next → AreTold operation a.told files → a.told (name_of file) ≡ Known (files (name_of file))
+line_told file chain operation next a files begins told = subst (λ name. a.told name ≡ Known (files name)) (sym begins.first) (told 0 begins.some)
 
 -- it is refused as the line is
-refused : (file : File) (chain : Chain) (command : Command) (next : List ℕ → Answer) (a : ShelfState) (stop : Stop) → BeginsWith command file (line_of file chain) next → WhereTold (a.told (name_of file)) (λ held. line_of file chain held ≡ Err stop) →
-    (files : Files) → AreTold command a.told files → ◌≡◌ {A = Answer} (Err stop) (comes_to command files)
-refused file chain command next a stop begins refuses files told =
-    sym (begins.comes files ∙ ap (λ (r : Result (List ℕ) Stop). and_then r next) (refuses (files (name_of file)) (line_told file chain command next a files begins told)))
+refused : (file : File) (chain : Chain) (operation : Operation) (next : List ℕ → Answer) (a : ShelfState) (stop : Stop) → BeginsWith operation file (line_of file chain) next → WhereTold (a.told (name_of file)) (λ held. line_of file chain held ≡ Err stop) →
+    (files : Files) → AreTold operation a.told files → ◌≡◌ {A = Answer} (Err stop) (operation.comes_to files)
+refused file chain operation next a stop begins refuses files told =
+    sym (begins.comes files ∙ ap (λ (r : Result (List ℕ) Stop). and_then r next) (refuses (files (name_of file)) (line_told file chain operation next a files begins told)))
 
 -- and a call for its size fails in its turn
-fails_in_turn : (file : File) (chain : Chain) (command : Command) (next : List ℕ → Answer) (a b : ShelfState) → BeginsWith command file (line_of file chain) next → FailsToRead SizeCall (name_of file) a b → FailsInTurn command file a b × FailsEarly command file a b
-fails_in_turn file chain command next a b begins size = (
+fails_in_turn : (file : File) (chain : Chain) (operation : Operation) (next : List ℕ → Answer) (a b : ShelfState) → BeginsWith operation file (line_of file chain) next → FailsToRead SizeCall (name_of file) a b → FailsInTurn operation file a b × FailsEarly operation file a b
+fails_in_turn file chain operation next a b begins size = (
   record { at = 0; known = begins.some; named = begins.first; how = inl (size, λ files told i h. absurd (omega arith)) },
   inl size,
 )
 
-pub line_refuses : (file : File) (chain : Chain) (command : Command) (next : List ℕ → Answer) (a b : ShelfState) (stop : Stop) → BeginsWith command file (line_of file chain) next → IsLineCause file chain a b stop → Refuses command a b stop
-line_refuses file chain command next a b Memory begins cause = absurd cause
-line_refuses file chain command next a b (Read failed) begins cause = subst (λ f. FailsInTurn command f a b × FailsEarly command f a b) (sym cause.0) (fails_in_turn file chain command next a b begins cause.1)
-line_refuses file chain command next a b (Missing missed) begins cause = refused file chain command next a (Missing missed) begins cause
-line_refuses file chain command next a b (ManyFrames n) begins cause = refused file chain command next a (ManyFrames n) begins cause
-line_refuses file chain command next a b Usage begins cause = absurd cause
-line_refuses file chain command next a b LongSchedule begins cause = absurd cause
-line_refuses file chain command next a b (BadRow l) begins cause = absurd cause
-line_refuses file chain command next a b (UnknownNode l) begins cause = absurd cause
-line_refuses file chain command next a b (CountOver l n m) begins cause = absurd cause
-line_refuses file chain command next a b (ShortNode p h n) begins cause = absurd cause
-line_refuses file chain command next a b (Short f h n) begins cause = absurd cause
-line_refuses file chain command next a b (Overflow p) begins cause = absurd cause
-line_refuses file chain command next a b (Underflow p) begins cause = absurd cause
-line_refuses file chain command next a b (NoAlignment n) begins cause = absurd cause
-line_refuses file chain command next a b (NotWhole n) begins cause = absurd cause
-line_refuses file chain command next a b LongScript begins cause = absurd cause
-line_refuses file chain command next a b (BadScriptRow l) begins cause = absurd cause
-line_refuses file chain command next a b (PastEnd l) begins cause = absurd cause
-line_refuses file chain command next a b (Write f) begins cause = absurd cause
+pub line_refuses : (file : File) (chain : Chain) (operation : Operation) (next : List ℕ → Answer) (a b : ShelfState) (stop : Stop) → BeginsWith operation file (line_of file chain) next → IsLineCause file chain a b stop → Refuses operation a b stop
+line_refuses file chain operation next a b (Read failed) begins cause = subst (λ f. FailsInTurn operation f a b × FailsEarly operation f a b) (sym cause.0) (fails_in_turn file chain operation next a b begins cause.1)
+line_refuses file chain operation next a b (Missing missed) begins cause = refused file chain operation next a (Missing missed) begins cause
+line_refuses file chain operation next a b (ManyFrames n) begins cause = refused file chain operation next a (ManyFrames n) begins cause
+line_refuses file chain operation next a b stop begins cause = absurd cause

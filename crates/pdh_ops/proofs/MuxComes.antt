@@ -14,37 +14,36 @@ use Rattle.pdh_chain.specs.Chains.{leaves_of}
 use Rattle.pdh_answers.specs.Names.{schedule_name, leaf_name, name_of}
 use Rattle.pdh_answers.specs.Answer.{Answer, and_then}
 use Rattle.pdh_ops.specs.Reading.{HasLength, IsSizeStop}
-use Rattle.pdh_ops.specs.Schedules.{Files, bytes_in, rows_of, frames_in}
-use Rattle.pdh_ops.specs.Mux.{mux_inputs, all_held, leaf_bits, bits_held, bits_needed, short_node, stop_of_shortage, short_leaf, muxed}
-use Rattle.pdh_ops.specs.Commands.{AreTold, OfInputs, AreHeld, comes_to}
+use Rattle.pdh_ops.specs.Schedules.{rows_of, frames_in}
+use Rattle.pdh_ops.specs.Commands.Mux.{mux_inputs, leaf_bits, bits_held, bits_needed, short_node, stop_of_shortage, short_leaf, muxed, muxing}
+use Rattle.pdh_ops.specs.Operation.{AreTold, OfInputs, AreHeld, all_held, Files, bytes_in}
 use Rattle.pdh_ops.specs.Run.{with_stop}
 use Rattle.pdh_ops.specs.Refusing.{Refuses}
 use Rattle.pdh_ops.specs.ScheduleSteps.{RowsAre}
 use Rattle.pdh_ops.proofs.Firsts.{first_of_range, none_of_range, each_fails, find-map}
 use Rattle.pdh_ops.proofs.Refusing.{size_refuses}
-use Rattle.pdh_ops.proofs.ScheduleComes.{Begins, HasSchedule}
+use Rattle.pdh_ops.proofs.ScheduleComes.{Begins, HasSchedule, text_due}
 use Rattle.pdh_ops.specs.MuxSteps.{AreSizes, AllHeld, HasRows, IsLong, IsShortNode, IsShort, IsEnoughStop}
-use Rattle.pdh_words.specs.declared.commands.Command.TheVariants.{Mux}
 use Rattle.pdh_answers.specs.declared.file.File.{File}
-use Rattle.pdh_answers.specs.declared.file.File.TheVariants.{Line, Bent, Schedule, Script, Leaf, Output, Payload, E1Line, PayloadOut}
-use Rattle.pdh_ops.specs.declared.mux.InputSizes.{InputSizes}
+use Rattle.pdh_answers.specs.declared.file.File.TheVariants.{Schedule, Leaf}
+use Rattle.pdh_ops.specs.declared.commands.mux.InputSizes.{InputSizes}
 use Rattle.pdh_answers.specs.declared.answer.Stop.{Stop}
-use Rattle.pdh_answers.specs.declared.answer.Stop.TheVariants.{Memory, Usage, Read, Write, Missing, LongSchedule, BadRow, UnknownNode, CountOver, ShortNode, Short, Overflow, Underflow, ManyFrames, NoAlignment, NotWhole, LongScript, BadScriptRow, PastEnd}
+use Rattle.pdh_answers.specs.declared.answer.Stop.TheVariants.{Read, Write, Missing, ShortNode, Short, ManyFrames}
 use Rattle.pdh_ops.proofs.Touching.{has_length_still}
 use Rattle.pdh_chain.specs.declared.chain.Chain.{Chain}
 use Rattle.pdh_shape.specs.OwnNumbers.{most_frames}
 
 -- ---- the inputs as they are told
 
-schedule_told : (chain : Chain) (feac : Option ℕ) (state : ShelfState) (files : Files) → AreTold (Mux chain feac) state.told files → state.told schedule_name ≡ Known (files schedule_name)
+schedule_told : (chain : Chain) (feac : Option ℕ) (state : ShelfState) (files : Files) → AreTold (muxing chain feac) state.told files → state.told schedule_name ≡ Known (files schedule_name)
 schedule_told chain feac state files told = told 0 (omega arith)
 
-pub leaf_told : (chain : Chain) (feac : Option ℕ) (state : ShelfState) (files : Files) (k : ℕ) → k < leaves_of chain → AreTold (Mux chain feac) state.told files → state.told (leaf_name k) ≡ Known (files (leaf_name k))
+pub leaf_told : (chain : Chain) (feac : Option ℕ) (state : ShelfState) (files : Files) (k : ℕ) → k < leaves_of chain → AreTold (muxing chain feac) state.told files → state.told (leaf_name k) ≡ Known (files (leaf_name k))
 leaf_told chain feac state files k low told = told (suc k) (omega arith)
 
 -- what holds of inputs as they were told holds of them as they are told now
-pub of_inputs_since : (chain : Chain) (feac : Option ℕ) (P : Files → Type 0) (a b : ShelfState) → Looks a b → OfInputs (Mux chain feac) a P → OfInputs (Mux chain feac) b P
-of_inputs_since chain feac P a b looks holds files told = holds files (subst (λ (t : List ℕ → Told). AreTold (Mux chain feac) t files) looks.told told)
+pub of_inputs_since : (chain : Chain) (feac : Option ℕ) (P : Files → Type 0) (a b : ShelfState) → Looks a b → OfInputs (muxing chain feac) a P → OfInputs (muxing chain feac) b P
+of_inputs_since chain feac P a b looks holds files told = holds files (subst (λ (t : List ℕ → Told). AreTold (muxing chain feac) t files) looks.told told)
 
 -- ---- inputs that aren't held
 
@@ -60,7 +59,7 @@ length_is state name bytes files known told = go (files name) (known.told (files
     go None e = absurd (cc)
     go (Some line) e = cc
 
-held_files : (chain : Chain) (feac : Option ℕ) (state : ShelfState) (files : Files) (n k : ℕ) → AreTold (Mux chain feac) state.told files → k < leaves_of chain → HasLength (leaf_name k) n state → is_none (files (leaf_name k)) ≡ false
+held_files : (chain : Chain) (feac : Option ℕ) (state : ShelfState) (files : Files) (n k : ℕ) → AreTold (muxing chain feac) state.told files → k < leaves_of chain → HasLength (leaf_name k) n state → is_none (files (leaf_name k)) ≡ false
 held_files chain feac state files n k told low known = is_held state (leaf_name k) n (files (leaf_name k)) known (leaf_told chain feac state files k low told)
 
 no_schedule : (chain : Chain) (files : Files) → files schedule_name ≡ None → all_held (mux_inputs chain) files ≡ Err (Missing Schedule)
@@ -83,39 +82,39 @@ every_leaf : (chain : Chain) (files : Files) → is_none (files schedule_name) �
 every_leaf chain files first each =
     held_by_leaves chain files None first (none_of_range (λ leaf. is_none (files (leaf_name leaf))) 0 (leaves_of chain) (λ i h h'. each i (omega arith)))
 
-comes_held : (chain : Chain) (feac : Option ℕ) (files : Files) (stop : Stop) → all_held (mux_inputs chain) files ≡ Err stop → ◌≡◌ {A = Answer} (Err stop) (comes_to (Mux chain feac) files)
+comes_held : (chain : Chain) (feac : Option ℕ) (files : Files) (stop : Stop) → all_held (mux_inputs chain) files ≡ Err stop → ◌≡◌ {A = Answer} (Err stop) ((muxing chain feac).comes_to files)
 comes_held chain feac files stop e = sym (ap (λ r. and_then r (λ _. and_then (rows_of chain (bytes_in files schedule_name)) (muxed chain files))) e)
 
-pub schedule_size_refuses : (chain : Chain) (feac : Option ℕ) (a b : ShelfState) (stop : Stop) → IsSizeStop Schedule a b stop → Refuses (Mux chain feac) a b stop
+pub schedule_size_refuses : (chain : Chain) (feac : Option ℕ) (a b : ShelfState) (stop : Stop) → IsSizeStop Schedule a b stop → Refuses (muxing chain feac) a b stop
 schedule_size_refuses chain feac a b stop cause =
-    size_refuses (Mux chain feac) Schedule 0 a b stop (omega arith) refl (λ files told i h. absurd (omega arith))
+    size_refuses (muxing chain feac) Schedule 0 a b stop (omega arith) refl (λ files told i h. absurd (omega arith))
     (λ missing files told. comes_held chain feac files (Missing Schedule) (no_schedule chain files (missing (files schedule_name) (schedule_told chain feac a files told)))) cause
 
 -- the schedule and the leaves before one are held
-held_before : (chain : Chain) (feac : Option ℕ) (a : ShelfState) (schedule k : ℕ) (leaf : ℕ → ℕ) → k ≤ leaves_of chain → HasLength schedule_name schedule a → ((i : ℕ) → i < k → HasLength (leaf_name i) (leaf i) a) → OfInputs (Mux chain feac) a (AreHeld (Mux chain feac) (suc k))
+held_before : (chain : Chain) (feac : Option ℕ) (a : ShelfState) (schedule k : ℕ) (leaf : ℕ → ℕ) → k ≤ leaves_of chain → HasLength schedule_name schedule a → ((i : ℕ) → i < k → HasLength (leaf_name i) (leaf i) a) → OfInputs (muxing chain feac) a (AreHeld (muxing chain feac) (suc k))
 held_before chain feac a schedule k leaf upto first before files told zero h = is_held a schedule_name schedule (files schedule_name) first (schedule_told chain feac a files told)
 held_before chain feac a schedule k leaf upto first before files told (suc i) h = held_files chain feac a files (leaf i) i told (omega arith) (before i (omega arith))
 
 pub leaf_size_refuses : (chain : Chain) (feac : Option ℕ) (a b : ShelfState) (schedule k : ℕ) (leaf : ℕ → ℕ) (stop : Stop) → k < leaves_of chain → HasLength schedule_name schedule a → ((i : ℕ) → i < k → HasLength (leaf_name i) (leaf i) a) →
-    IsSizeStop (Leaf k) a b stop → Refuses (Mux chain feac) a b stop
+    IsSizeStop (Leaf k) a b stop → Refuses (muxing chain feac) a b stop
 leaf_size_refuses chain feac a b schedule k leaf stop low first before cause =
-    size_refuses (Mux chain feac) (Leaf k) (suc k) a b stop (omega arith) refl (held_before chain feac a schedule k leaf (omega arith) first before)
+    size_refuses (muxing chain feac) (Leaf k) (suc k) a b stop (omega arith) refl (held_before chain feac a schedule k leaf (omega arith) first before)
     (λ missing files told.
     comes_held chain feac files (Missing (Leaf k)) (no_leaf chain files k low (is_held a schedule_name schedule (files schedule_name) first (schedule_told chain feac a files told))
     (λ i h. held_files chain feac a files (leaf i) i told (omega arith) (before i h)) (ap is_none (missing (files (leaf_name k)) (leaf_told chain feac a files k low told)))))
     cause
 
-pub has_schedule : (chain : Chain) (feac : Option ℕ) (sizes : InputSizes) (a : ShelfState) → AreSizes chain sizes a → HasSchedule (Mux chain feac) 0 a
-has_schedule chain feac sizes a are = record {
-  known = omega arith;
-  named = refl;
-  held = held_before chain feac a sizes.schedule (leaves_of chain) (slice_index sizes.leaves) (omega arith) are.schedule are.leaf;
-  early = refl;
-}
-
 pub all_are_held : (chain : Chain) (feac : Option ℕ) (sizes : InputSizes) (a : ShelfState) → AreSizes chain sizes a → AllHeld chain a
 all_are_held chain feac sizes a are files told = every_leaf chain files (is_held a schedule_name sizes.schedule (files schedule_name) are.schedule (schedule_told chain feac a files told))
     (λ i h. held_files chain feac a files (slice_index sizes.leaves i) i told h (are.leaf i h))
+
+pub has_schedule : (chain : Chain) (feac : Option ℕ) (sizes : InputSizes) (a : ShelfState) → AreSizes chain sizes a → HasSchedule (muxing chain feac) 0 a
+has_schedule chain feac sizes a are = record {
+  known = omega arith;
+  named = refl;
+  due = λ files told short. text_due (mux_inputs chain) files (all_are_held chain feac sizes a are files told) short;
+  early = refl;
+}
 
 -- ---- the schedule
 
@@ -125,7 +124,7 @@ text_held None bytes e = absurd (cc)
 text_held (Some text) bytes e = (text, refl)
 
 -- what `mux` comes to, by its schedule
-pub mux_begins : (chain : Chain) (feac : Option ℕ) (a : ShelfState) (bytes : ℕ) → AllHeld chain a → HasLength schedule_name bytes a → Begins chain (Mux chain feac) (muxed chain) a
+pub mux_begins : (chain : Chain) (feac : Option ℕ) (a : ShelfState) (bytes : ℕ) → AllHeld chain a → HasLength schedule_name bytes a → Begins chain (muxing chain feac) (muxed chain) a
 mux_begins chain feac a bytes held known files told =
     let t = text_held (files schedule_name) bytes (known.told (files schedule_name) (schedule_told chain feac a files told)) in (
       t.0,
@@ -141,11 +140,11 @@ has_rows chain feac a bytes rows known are files told =
 
 -- ---- too many frames, or a leaf that is too short
 
-pub comes_muxed : (chain : Chain) (feac : Option ℕ) (a : ShelfState) (rows : List Row) (files : Files) → AllHeld chain a → HasRows chain a rows → AreTold (Mux chain feac) a.told files → comes_to (Mux chain feac) files ≡ muxed chain files rows
+pub comes_muxed : (chain : Chain) (feac : Option ℕ) (a : ShelfState) (rows : List Row) (files : Files) → AllHeld chain a → HasRows chain a rows → AreTold (muxing chain feac) a.told files → (muxing chain feac).comes_to files ≡ muxed chain files rows
 comes_muxed chain feac a rows files held are told =
     ap (λ r. and_then r (λ _. and_then (rows_of chain (bytes_in files schedule_name)) (muxed chain files))) (held files told) ∙ ap (λ r. and_then r (muxed chain files)) (are files told)
 
-held_is : (chain : Chain) (feac : Option ℕ) (sizes : InputSizes) (a : ShelfState) (files : Files) (k : ℕ) → k < leaves_of chain → AreSizes chain sizes a → AreTold (Mux chain feac) a.told files → bits_held files k ≡ 8 * slice_index sizes.leaves k
+held_is : (chain : Chain) (feac : Option ℕ) (sizes : InputSizes) (a : ShelfState) (files : Files) (k : ℕ) → k < leaves_of chain → AreSizes chain sizes a → AreTold (muxing chain feac) a.told files → bits_held files k ≡ 8 * slice_index sizes.leaves k
 held_is chain feac sizes a files k low are told = ap (λ n. 8 * n) (length_is a (leaf_name k) (slice_index sizes.leaves k) files (are.leaf k low) (leaf_told chain feac a files k low told))
 
 -- leaf k is the first that is too short
@@ -166,10 +165,10 @@ unfolding short_leaf
 each_long chain files rows k none low =
     each_fails (λ leaf. nat_lt (bits_held files leaf) (bits_needed chain rows leaf)) 0 (leaves_of chain) k none (omega arith) (omega arith)
 
-pub long_enough : (chain : Chain) (feac : Option ℕ) (sizes : InputSizes) (a : ShelfState) (rows : List Row) (files : Files) (k : ℕ) → k < leaves_of chain → AreSizes chain sizes a → AreTold (Mux chain feac) a.told files → IsLong chain rows sizes k → nat_lt (bits_held files k) (bits_needed chain rows k) ≡ false
+pub long_enough : (chain : Chain) (feac : Option ℕ) (sizes : InputSizes) (a : ShelfState) (rows : List Row) (files : Files) (k : ℕ) → k < leaves_of chain → AreSizes chain sizes a → AreTold (muxing chain feac) a.told files → IsLong chain rows sizes k → nat_lt (bits_held files k) (bits_needed chain rows k) ≡ false
 long_enough chain feac sizes a rows files k low are told long = let e = held_is chain feac sizes a files k low are told in grind (arith, nat_tests)
 
-short_comes : (chain : Chain) (feac : Option ℕ) (sizes : InputSizes) (a : ShelfState) (rows : List Row) (k have need : ℕ) (files : Files) → AreSizes chain sizes a → AreTold (Mux chain feac) a.told files → IsShort chain rows sizes k have need →
+short_comes : (chain : Chain) (feac : Option ℕ) (sizes : InputSizes) (a : ShelfState) (rows : List Row) (k have need : ℕ) (files : Files) → AreSizes chain sizes a → AreTold (muxing chain feac) a.told files → IsShort chain rows sizes k have need →
     muxed chain files rows ≡ Err (Short (Leaf k) have need)
 short_comes chain feac sizes a rows k have need files are told short =
     let few : nat_lt most_frames (frames_in rows) ≡ false = let f = short.few in grind (arith, nat_tests) in
@@ -192,62 +191,24 @@ node_comes chain rows node have need files short =
 many_comes : (chain : Chain) (rows : List Row) (files : Files) → most_frames < frames_in rows → muxed chain files rows ≡ Err (ManyFrames (frames_in rows))
 many_comes chain rows files h = let many : nat_lt most_frames (frames_in rows) ≡ true = grind (arith, nat_tests) in rw many refl
 
-pub enough_refuses : (chain : Chain) (feac : Option ℕ) (sizes : InputSizes) (rows : List Row) (a b : ShelfState) (stop : Stop) → AreSizes chain sizes a → HasRows chain a rows → IsEnoughStop chain rows sizes stop → Refuses (Mux chain feac) a b stop
+pub enough_refuses : (chain : Chain) (feac : Option ℕ) (sizes : InputSizes) (rows : List Row) (a b : ShelfState) (stop : Stop) → AreSizes chain sizes a → HasRows chain a rows → IsEnoughStop chain rows sizes stop → Refuses (muxing chain feac) a b stop
 enough_refuses chain feac sizes rows a b (ManyFrames n) are has cause = λ files told.
     ap (λ m. Err (ManyFrames m)) cause.0 ∙ sym (comes_muxed chain feac a rows files (all_are_held chain feac sizes a are) has told ∙ many_comes chain rows files (subst (λ m. most_frames < m) cause.0 cause.1))
 enough_refuses chain feac sizes rows a b (ShortNode node have need) are has cause = λ files told.
     sym (comes_muxed chain feac a rows files (all_are_held chain feac sizes a are) has told ∙ node_comes chain rows node have need files cause)
 enough_refuses chain feac sizes rows a b (Short (Leaf k) have need) are has cause = λ files told.
     sym (comes_muxed chain feac a rows files (all_are_held chain feac sizes a are) has told ∙ short_comes chain feac sizes a rows k have need files are told cause)
-enough_refuses chain feac sizes rows a b (Short Line have need) are has cause = absurd cause
-enough_refuses chain feac sizes rows a b (Short Schedule have need) are has cause = absurd cause
-enough_refuses chain feac sizes rows a b (Short Bent have need) are has cause = absurd cause
-enough_refuses chain feac sizes rows a b (Short Script have need) are has cause = absurd cause
-enough_refuses chain feac sizes rows a b (Short (Output k) have need) are has cause = absurd cause
-enough_refuses chain feac sizes rows a b (Short Payload have need) are has cause = absurd cause
-enough_refuses chain feac sizes rows a b (Short E1Line have need) are has cause = absurd cause
-enough_refuses chain feac sizes rows a b (Short PayloadOut have need) are has cause = absurd cause
-enough_refuses chain feac sizes rows a b Memory are has cause = absurd cause
-enough_refuses chain feac sizes rows a b Usage are has cause = absurd cause
-enough_refuses chain feac sizes rows a b (Read f) are has cause = absurd cause
-enough_refuses chain feac sizes rows a b (Write f) are has cause = absurd cause
-enough_refuses chain feac sizes rows a b (Missing f) are has cause = absurd cause
-enough_refuses chain feac sizes rows a b LongSchedule are has cause = absurd cause
-enough_refuses chain feac sizes rows a b (BadRow l) are has cause = absurd cause
-enough_refuses chain feac sizes rows a b (UnknownNode l) are has cause = absurd cause
-enough_refuses chain feac sizes rows a b (CountOver l n m) are has cause = absurd cause
-enough_refuses chain feac sizes rows a b (Overflow p) are has cause = absurd cause
-enough_refuses chain feac sizes rows a b (Underflow p) are has cause = absurd cause
-enough_refuses chain feac sizes rows a b (NoAlignment n) are has cause = absurd cause
-enough_refuses chain feac sizes rows a b (NotWhole n) are has cause = absurd cause
-enough_refuses chain feac sizes rows a b LongScript are has cause = absurd cause
-enough_refuses chain feac sizes rows a b (BadScriptRow l) are has cause = absurd cause
-enough_refuses chain feac sizes rows a b (PastEnd l) are has cause = absurd cause
+enough_refuses chain feac sizes rows a b stop are has cause = absurd cause
 
 -- they count nothing
 pub enough_counts : (chain : Chain) (rows : List Row) (sizes : InputSizes) (x y : Counts) (stop : Stop) → IsEnoughStop chain rows sizes stop → y ≡ x → y ≡ with_stop stop x
-enough_counts chain rows sizes x y (ManyFrames n) cause same = same
-enough_counts chain rows sizes x y (ShortNode node have need) cause same = same
-enough_counts chain rows sizes x y (Short file have need) cause same = same
-enough_counts chain rows sizes x y Memory cause same = same
-enough_counts chain rows sizes x y Usage cause same = same
 enough_counts chain rows sizes x y (Read f) cause same = absurd cause
 enough_counts chain rows sizes x y (Write f) cause same = absurd cause
 enough_counts chain rows sizes x y (Missing f) cause same = absurd cause
-enough_counts chain rows sizes x y LongSchedule cause same = same
-enough_counts chain rows sizes x y (BadRow l) cause same = same
-enough_counts chain rows sizes x y (UnknownNode l) cause same = same
-enough_counts chain rows sizes x y (CountOver l n m) cause same = same
-enough_counts chain rows sizes x y (Overflow p) cause same = same
-enough_counts chain rows sizes x y (Underflow p) cause same = same
-enough_counts chain rows sizes x y (NoAlignment n) cause same = same
-enough_counts chain rows sizes x y (NotWhole n) cause same = same
-enough_counts chain rows sizes x y LongScript cause same = same
-enough_counts chain rows sizes x y (BadScriptRow l) cause same = same
-enough_counts chain rows sizes x y (PastEnd l) cause same = same
+enough_counts chain rows sizes x y stop cause same = same
 
 -- the bytes of a leaf's file that were read give its bits
-pub bits_are : (chain : Chain) (feac : Option ℕ) (a : ShelfState) (k : ℕ) (bytes : List ℕ) (files : Files) → k < leaves_of chain → Holds (a.told (leaf_name k)) bytes → AreTold (Mux chain feac) a.told files → leaf_bits files k ≡ bits_of bytes
+pub bits_are : (chain : Chain) (feac : Option ℕ) (a : ShelfState) (k : ℕ) (bytes : List ℕ) (files : Files) → k < leaves_of chain → Holds (a.told (leaf_name k)) bytes → AreTold (muxing chain feac) a.told files → leaf_bits files k ≡ bits_of bytes
 bits_are chain feac a k bytes files low holds told = ap (λ (h : Option (List ℕ)). bits_of (unwrap_or h [])) (holds (files (leaf_name k)) (leaf_told chain feac a files k low told))
 
 -- sizes that were answered are known after the files were looked at again

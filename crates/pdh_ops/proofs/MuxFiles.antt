@@ -1,6 +1,6 @@
 -- What `mux` comes to where no step refuses its inputs, and the port that it opens then.
-use Rattle.std.proofs.Common.{◌≡◌, ℕ, zero, suc, ◌+◌, ◌*◌, ◌/◌, ◌<◌, ◌≤◌, nat_lt, List, [], ◌∷◌, ◌++◌, true, false, Option, None, Some, Ok, Err, length, map, take, slice_get, refl, ap, sym, subst, ◌∙◌, arith}
-use Rattle.std.specs.Prelude.{All, slice_index, unwrap_or}
+use Rattle.std.proofs.Common.{◌≡◌, ℕ, zero, suc, ◌+◌, ◌*◌, ◌/◌, ◌<◌, ◌≤◌, nat_lt, List, [], ◌∷◌, ◌++◌, true, false, Option, None, Some, Ok, Err, length, map, take, slice_get, refl, ap, sym, subst, ◌∙◌, arith, lit<}
+use Rattle.std.specs.Prelude.{All, IfSome, slice_index, unwrap_or}
 use Rattle.std.specs.List.{range_with_len}
 use Rattle.std.specs.Option.{option_map_or}
 use Rattle.std.proofs.lemmas.Bool.Decides.{nat_tests}
@@ -21,27 +21,26 @@ use Rattle.pdh_clock.specs.Contents.{IsRowOf}
 use Rattle.pdh_blocks.specs.Lists.{inputs_of}
 use Rattle.pdh_blocks.specs.Held.{AllDiffer}
 use Rattle.pdh_blocks.specs.Opened.{HasBytesFor}
-use Rattle.pdh_words.specs.declared.commands.Command.TheVariants.{Mux}
 use Rattle.pdh_answers.specs.Names.{leaf_name, line_name, schedule_name, name_of}
-use Rattle.pdh_ops.specs.Schedules.{Files, bytes_in, rows_of, frames_in}
-use Rattle.pdh_ops.specs.Mux.{short_node, bits_held, bits_needed, stop_of_kind, stop_of_event, event_of, muxed}
-use Rattle.pdh_ops.specs.Commands.{AreTold, OfInputs, comes_to, reaches_outputs, IsReadDue}
-use Rattle.pdh_ops.specs.Run.{GoesOn, is_read_in_run}
+use Rattle.pdh_ops.specs.Schedules.{rows_of, frames_in}
+use Rattle.pdh_ops.specs.Commands.Mux.{short_node, bits_held, bits_needed, stop_of_kind, stop_of_event, event_of, muxed, muxing, mux_says}
+use Rattle.pdh_ops.specs.Operation.{AreTold, OfInputs, reaches_outputs, IsReadDue, Files, bytes_in}
+use Rattle.pdh_ops.specs.Run.{GoesOn}
 use Rattle.pdh_ops.specs.PortFiles.{HasBits, AreFiles, AreRead, opened_for, input_name}
-use Rattle.pdh_ops.specs.MuxSteps.{AreSizes, AllHeld, HasRows, AreEnough, IsPlanned, AreLeafInputs, CanSend, IsMuxPort, run_answer, entering}
+use Rattle.pdh_ops.specs.Running.{ArePrepared}
+use Rattle.pdh_ops.specs.MuxSteps.{AreSizes, AllHeld, HasRows, AreEnough, IsPlanned, AreLeafInputs, CanSend, CanMake, IsMuxPort, run_answer, entering}
 use Rattle.pdh_answers.specs.declared.file.File.{File}
 use Rattle.pdh_answers.specs.declared.file.File.TheVariants.{Line, Leaf as LeafFile}
-use Rattle.pdh_ops.specs.declared.mux.InputSizes.{InputSizes}
-use Rattle.pdh_ops.specs.declared.mux.Plan.{Plan}
+use Rattle.pdh_ops.specs.declared.commands.mux.InputSizes.{InputSizes}
+use Rattle.pdh_ops.specs.declared.commands.mux.Plan.{Plan}
 use Rattle.pdh_ops.specs.declared.port.Input.{Input}
-use Rattle.pdh_answers.specs.declared.answer.Done.TheVariants.{Muxed}
 use Rattle.pdh_ops.proofs.MuxComes.{comes_muxed, no_short_leaf, leaf_told}
 use Rattle.pdh_ops.proofs.OutputNames.{numbered, numbered_at, numbered_differ, last_differs, same_leaf, leaf_is_not_line}
-use Rattle.pdh_ops.proofs.PortOpen.{open_for, long_has, told_read, left_read, holds_read}
+use Rattle.pdh_ops.proofs.PortOpen.{open_for, long_has, told_read, left_read, holds_read, holds_written}
 use Rattle.pdh_shape.specs.OwnNumbers.{most_frames}
 
-told_now : (chain : Chain) (feac : Option ℕ) (a b : ShelfState) (files : Files) → Looks a b → AreTold (Mux chain feac) a.told files → AreTold (Mux chain feac) b.told files
-told_now chain feac a b files looks told = subst (λ (t : List ℕ → Told). AreTold (Mux chain feac) t files) (sym looks.told) told
+told_now : (chain : Chain) (feac : Option ℕ) (a b : ShelfState) (files : Files) → Looks a b → AreTold (muxing chain feac) a.told files → AreTold (muxing chain feac) b.told files
+told_now chain feac a b files looks told = subst (λ (t : List ℕ → Told). AreTold (muxing chain feac) t files) (sym looks.told) told
 
 -- ---- the answer
 
@@ -55,17 +54,17 @@ has_long : (bits : ℕ) (held : Option (List ℕ)) → HasBytesFor bits held →
 has_long bits None has = absurd has
 has_long bits (Some bytes) has = let few : (bits + 7) / 8 ≤ length bytes = has in grind (arith, nat_tests)
 
-pub planned_comes : (chain : Chain) (feac : Option ℕ) (plan : Plan) (b : ShelfState) (files : Files) → IsPlanned chain plan b → AreTold (Mux chain feac) b.told files → comes_to (Mux chain feac) files ≡ run_answer chain plan.clock.rows
+pub planned_comes : (chain : Chain) (feac : Option ℕ) (plan : Plan) (b : ShelfState) (files : Files) → IsPlanned chain plan b → AreTold (muxing chain feac) b.told files → (muxing chain feac).comes_to files ≡ run_answer chain plan.clock.rows
 planned_comes chain feac plan b files is told =
     comes_muxed chain feac b plan.clock.rows files is.held is.rows_are told
     ∙ runs_to chain files plan.clock.rows (let e = is.scheduled.frames_are in omega (arith, is.scheduled.few)) is.scheduled.enough
     (λ i low. has_long (bits_needed chain plan.clock.rows i) (files (leaf_name i)) ((is.leaves_have i low).told (files (leaf_name i)) (leaf_told chain feac b files i low told)))
 
-kind_reaches : (kind : Kind) (place : Place) → reaches_outputs (Err (stop_of_kind kind place)) ≡ true
+pub kind_reaches : (kind : Kind) (place : Place) → reaches_outputs (Err (stop_of_kind kind place)) ≡ true
 kind_reaches StoreOverflow place = refl
 kind_reaches StoreUnderflow place = refl
 
-reaches : (chain : Chain) (event : Option Event) (n : ℕ) → reaches_outputs (option_map_or (λ event. Err (stop_of_event event)) event (Ok (Muxed chain n))) ≡ true
+reaches : (chain : Chain) (event : Option Event) (n : ℕ) → reaches_outputs (option_map_or (λ event. Err (stop_of_event event)) event (Ok (mux_says chain n))) ≡ true
 reaches chain None n = refl
 reaches chain (Some event) n = kind_reaches event.kind (place_of event)
 
@@ -115,26 +114,26 @@ module _ (chain : Chain) (rows : List Row) (reads : List Input) (are : AreLeafIn
   }
 
   -- they are read in the run, and due there
-  pub mux_reads : (feac : Option ℕ) (a : ShelfState) → GoesOn (Mux chain feac) a → AreRead (Mux chain feac) a reads
+  pub mux_reads : (feac : Option ℕ) (a : ShelfState) → GoesOn (muxing chain feac) a → AreRead (muxing chain feac) a reads
   mux_reads feac a goes_on = record {
     input = λ k input here. let at = leaf_of k input here in (suc k, omega (arith, at.0), ap input_name at.1);
-    in_run = λ k input here. subst (λ (input : Input). is_read_in_run (Mux chain feac) input.file ≡ true) (sym (leaf_of k input here).1) refl;
-    due = λ k input here. subst (λ (input : Input). OfInputs (Mux chain feac) a (IsReadDue (Mux chain feac) input.file)) (sym (leaf_of k input here).1) goes_on;
+    in_run = λ k input here. subst (λ (input : Input). (muxing chain feac).reads_in_run input.file ≡ true) (sym (leaf_of k input here).1) refl;
+    due = λ k input here. subst (λ (input : Input). OfInputs (muxing chain feac) a (IsReadDue (muxing chain feac) input.file)) (sym (leaf_of k input here).1) goes_on;
   }
 
   -- the port is open for `mux`
   pub mux_port : (feac : Option ℕ) (plan : Plan) (a b : ShelfState) (writes : List File) → plan.clock.rows ≡ rows → writes ≡ Line ∷ [] → Looks a b → b.counts ≡ a.counts → IsPlanned chain plan b → IsMuxPort chain feac rows a (opened_for b reads writes)
   mux_port feac plan a b writes rows_are writes_are looks same is = record {
-    open_for = open_for (Mux chain feac) a b reads writes looks same goes_on (ap length writes_are) named;
+    open_for = open_for (muxing chain feac) a b reads writes looks same goes_on (ap length writes_are) named;
     rows_are = λ files told. subst (λ rows. rows_of chain (bytes_in files schedule_name) ≡ Ok rows) rows_are (is.rows_are files (told_now chain feac a b files looks told));
     comes = comes;
     gives = λ files told k low. told_leaf files k low (leaf_told chain feac b files k low (told_now chain feac a b files looks told));
   }
     where
-      comes : OfInputs (Mux chain feac) a (λ files. comes_to (Mux chain feac) files ≡ run_answer chain rows)
+      comes : OfInputs (muxing chain feac) a (λ files. (muxing chain feac).comes_to files ≡ run_answer chain rows)
       comes files told = planned_comes chain feac plan b files is (told_now chain feac a b files looks told) ∙ ap (run_answer chain) rows_are
 
-      goes_on : GoesOn (Mux chain feac) a
+      goes_on : GoesOn (muxing chain feac) a
       goes_on files told = ap reaches_outputs (comes files told) ∙ reaches chain (event_of chain rows) (frames_in rows)
 
       named : (k : ℕ) → k < 1 → slice_get (map name_of writes) k ≡ Some line_name
@@ -158,3 +157,21 @@ module _ (chain : Chain) (rows : List Row) (reads : List Input) (are : AreLeafIn
     holds = λ k low. holds_read b reads writes k (leaves_of chain) count low;
     long = λ k low. omega (arith, left_read b reads writes k (leaf_input chain rows k) (leaf_at k low));
   }
+
+-- the port that a plan asks for
+pub mux_prepared : (chain : Chain) (feac : Option ℕ) (plan : Plan) (reads : List Input) → AreLeafInputs chain plan.clock.rows reads → (writes : List File) → writes ≡ Line ∷ [] → (b : ShelfState) → IsPlanned chain plan b → IfSome feac (λ code. code < 64)
+    → ArePrepared (muxing chain feac) (CanMake chain feac plan) (IsMuxPort chain feac plan.clock.rows) b reads writes
+mux_prepared chain feac plan reads are writes out b is code = record {
+  files = mux_files chain plan.clock.rows reads are plan b writes refl out is;
+  port = record {
+    fresh = refl;
+    levels = is.scheduled.levels_are;
+    code = code;
+    sends = mux_can_send chain plan.clock.rows reads are plan b writes refl is;
+    line = holds_written b reads writes 0 1 (ap length out) (lit< tt);
+  };
+  given = λ begun looks same.
+      let port = mux_port chain plan.clock.rows reads are feac plan begun b writes refl out looks same is in
+      record { open_for = port.open_for; due = mux_reads chain plan.clock.rows reads are feac begun port.open_for.goes_on; alone = tt };
+  lists = λ begun looks same. mux_port chain plan.clock.rows reads are feac plan begun b writes refl out looks same is;
+}

@@ -28,18 +28,16 @@ use Rattle.pdh_chain.specs.Chains.{shapes_of, levels_of, leaves_of, frame_bytes_
 use Rattle.pdh_chain.proofs.ChainLaws.{are_frames, some_bits, whole_bytes}
 use Rattle.pdh_answers.specs.Names.{schedule_name, leaf_name}
 use Rattle.pdh_answers.specs.Answer.{Answer, and_then, status_of}
-use Rattle.pdh_ops.specs.Schedules.{Files, bytes_in, rows_of, rows_or_stop, rows_in, frames_in}
-use Rattle.pdh_ops.specs.Mux.{mux_inputs, all_held, line_len, short_node, leaf_bits, bits_held, bits_needed, short_leaf, event_of, stop_of_event, stop_of_shortage, muxed, frames_made, mux_line, line_bytes}
-use Rattle.pdh_ops.specs.Commands.{comes_to}
+use Rattle.pdh_ops.specs.Schedules.{rows_of, rows_or_stop, rows_in, frames_in}
+use Rattle.pdh_ops.specs.Commands.Mux.{mux_inputs, line_len, short_node, leaf_bits, bits_held, bits_needed, short_leaf, event_of, stop_of_event, stop_of_shortage, muxed, frames_made, mux_line, line_bytes, muxing, mux_says}
 use Rattle.pdh_watch.specs.Monitors.{State}
 use Rattle.pdh_answers.specs.Lines.{IsTold}
 use Rattle.pdh_ops.specs.Run.{Performs, Runs}
 use Rattle.pdh_edge.specs.Ports.{IsPrefix}
 use Rattle.pdh_ops.specs.GivesBack.{GivesBack}
 use Rattle.pdh_words.specs.declared.commands.Command.{Command}
-use Rattle.pdh_words.specs.declared.commands.Command.TheVariants.{Demux, Mux, ClockCheck, ClockMake, Inspect, InspectE1, Show, E1Pack, E1Unpack, Disturb, Drill}
+use Rattle.pdh_words.specs.declared.commands.Command.TheVariants.{Mux}
 use Rattle.pdh_answers.specs.declared.answer.Done.{Done}
-use Rattle.pdh_answers.specs.declared.answer.Done.TheVariants.{Muxed}
 use Rattle.pdh_answers.specs.declared.answer.Stop.{Stop}
 use Rattle.pdh_answers.specs.declared.answer.Stop.TheVariants.{Memory, Usage, Read, Write, Missing, LongSchedule, BadRow, UnknownNode, CountOver, ShortNode, Short, Overflow, Underflow, ManyFrames, NoAlignment, NotWhole, LongScript, BadScriptRow, PastEnd}
 use Rattle.pdh_answers.specs.declared.file.File.TheVariants.{Leaf}
@@ -47,6 +45,7 @@ use Rattle.pdh_chain.proofs.Scheduled.{arrive_singly}
 use Rattle.pdh_ops.proofs.MuxComes.{each_long}
 use Rattle.pdh_ops.proofs.MuxMade.{all_made}
 use Rattle.pdh_shape.specs.OwnNumbers.{most_frames}
+use Rattle.pdh_ops.specs.Operation.{all_held, Files, bytes_in}
 
 -- ---- what holds where the command did its work
 
@@ -84,7 +83,7 @@ muxed_done chain files rows done h = go (nat_lt most_frames (frames_in rows)) (s
     go : (many : Bool) (node : Option Shortage) (short : Option ℕ) (event : Option Event) → short_node chain rows ≡ node → short_leaf chain files rows ≡ short → event_of chain rows ≡ event →
         ◌≡◌ {A = Answer} (Ok done) (cond many (Err (ManyFrames (frames_in rows)))
         (option_map_or (λ short. Err (stop_of_shortage short)) node
-        (option_map_or (λ leaf. Err (Short (Leaf leaf) (bits_held files leaf) (bits_needed chain rows leaf))) short (option_map_or (λ event. Err (stop_of_event event)) event (Ok (Muxed chain (frames_in rows))))))) → IsDone chain files rows
+        (option_map_or (λ leaf. Err (Short (Leaf leaf) (bits_held files leaf) (bits_needed chain rows leaf))) short (option_map_or (λ event. Err (stop_of_event event)) event (Ok (mux_says chain (frames_in rows))))))) → IsDone chain files rows
     go true lacking short event n s e h = absurd (cc)
     go false (Some node) short event n s e h = absurd (cc)
     go false None (Some leaf) event n s e h = absurd (cc)
@@ -96,7 +95,7 @@ pub record DidMux (chain : Chain) (files : Files) : Type 0 where
   pub rows : rows_of chain (bytes_in files schedule_name) ≡ Ok (rows_in chain files)
   pub done : IsDone chain files (rows_in chain files)
 
-pub mux_done : (chain : Chain) (feac : Option ℕ) (files : Files) (done : Done) → ◌≡◌ {A = Answer} (Ok done) (comes_to (Mux chain feac) files) → DidMux chain files
+pub mux_done : (chain : Chain) (feac : Option ℕ) (files : Files) (done : Done) → ◌≡◌ {A = Answer} (Ok done) ((muxing chain feac).comes_to files) → DidMux chain files
 mux_done chain feac files done h = by_rows (rows_of chain (bytes_in files schedule_name)) refl (by_held (all_held (mux_inputs chain) files) h)
   where
     by_held : (r : Result (Unit {0}) Stop) → ◌≡◌ {A = Answer} (Ok done) (and_then r (λ _. and_then (rows_of chain (bytes_in files schedule_name)) (muxed chain files))) → ◌≡◌ {A = Answer} (Ok done) (and_then (rows_of chain (bytes_in files schedule_name)) (muxed chain files))
@@ -168,7 +167,7 @@ gives chain feac files line leaf n did is low few =
 
 -- ---- the run
 
-answer_gives_back : (chain : Chain) (feac : Option ℕ) (a b : ShelfState) (k l : SinkState) (v : List State) (status : ℕ) (answer : Answer) → Performs (Mux chain feac) a b answer → IsTold v answer k l status → GivesBack (Some (Mux chain feac)) a b status
+answer_gives_back : (chain : Chain) (feac : Option ℕ) (a b : ShelfState) (k l : SinkState) (v : List State) (status : ℕ) (answer : Answer) → Performs (muxing chain feac) a b answer → IsTold v answer k l status → GivesBack (Some (Mux chain feac)) a b status
 answer_gives_back chain feac a b k l v status (Err stop) performs tells files line leaf n told now status_is low few = absurd (omega (arith, tells.0, stop_status stop))
 answer_gives_back chain feac a b k l v status (Ok done) performs tells files line leaf n told now status_is low few =
     let same : Some line ≡ Some (line_bytes chain feac files (rows_in chain files)) = performs.outputs 0 (lit< tt) files told (Some line) now in
@@ -176,15 +175,5 @@ answer_gives_back chain feac a b k l v status (Ok done) performs tells files lin
     gives chain feac files line leaf n (mux_done chain feac files done (performs.cause files told)) is low few
 
 pub gives_back : (command : Option Command) (a b : ShelfState) (k l : SinkState) (v w : List State) (status : ℕ) → Runs command a b k l v w status → GivesBack command a b status
-gives_back None a b k l v w status runs = tt
-gives_back (Some (Demux chain bits)) a b k l v w status runs = tt
-gives_back (Some (ClockCheck chain)) a b k l v w status runs = tt
-gives_back (Some (ClockMake chain frames bias)) a b k l v w status runs = tt
-gives_back (Some (Inspect chain bits)) a b k l v w status runs = tt
-gives_back (Some InspectE1) a b k l v w status runs = tt
-gives_back (Some (Show chain frame)) a b k l v w status runs = tt
-gives_back (Some (Disturb chain)) a b k l v w status runs = tt
-gives_back (Some (Drill chain seed frames)) a b k l v w status runs = tt
-gives_back (Some E1Pack) a b k l v w status runs = tt
-gives_back (Some E1Unpack) a b k l v w status runs = tt
 gives_back (Some (Mux chain feac)) a b k l v w status runs = answer_gives_back chain feac a b k l w status runs.answer runs.does runs.told
+gives_back _ a b k l v w status runs = tt

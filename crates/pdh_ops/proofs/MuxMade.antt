@@ -25,7 +25,7 @@ use Rattle.pdh_chain.proofs.Tolerated.{at_top}
 use Rattle.pdh_chain.proofs.Stops.{Tells}
 use Rattle.pdh_chain.proofs.SenderStops.{Other, chain_tells}
 use Rattle.pdh_ops.specs.Schedules.{frames_in}
-use Rattle.pdh_ops.specs.Mux.{line_len, has_event, frames_made, stop_of_kind}
+use Rattle.pdh_ops.specs.Commands.Mux.{line_len, has_event, frames_made, stop_of_kind}
 use Rattle.pdh_answers.specs.declared.answer.Stop.TheVariants.{Overflow, Underflow}
 
 -- a list that gave bits began with them

@@ -25,18 +25,17 @@ use Rattle.pdh_chain.specs.Chains.{shapes_of, levels_of, leaves_of, delay_of}
 use Rattle.pdh_chain.proofs.ChainLaws.{are_frames, read_evenly}
 use Rattle.pdh_answers.specs.Names.{name_of, schedule_name}
 use Rattle.pdh_answers.specs.Answer.{Answer, and_then, status_of, stop_of_fault}
-use Rattle.pdh_ops.specs.Schedules.{Files, bytes_in, rows_of, rows_or_stop, rows_in, frames_in}
-use Rattle.pdh_ops.specs.Mux.{mux_inputs, line_len, short_node, stop_of_shortage, leaf_bits, bits_held, bits_needed, short_leaf, event_of, stop_of_event, muxed, line_bytes}
-use Rattle.pdh_ops.specs.Commands.{AreTold, comes_to}
+use Rattle.pdh_ops.specs.Schedules.{rows_of, rows_or_stop, rows_in, frames_in}
+use Rattle.pdh_ops.specs.Commands.Mux.{mux_inputs, line_len, short_node, stop_of_shortage, leaf_bits, bits_held, bits_needed, short_leaf, event_of, stop_of_event, muxed, line_bytes, muxing, mux_says}
+use Rattle.pdh_ops.specs.Operation.{AreTold, Files, bytes_in}
 use Rattle.pdh_watch.specs.Monitors.{State}
 use Rattle.pdh_answers.specs.Lines.{IsTold}
 use Rattle.pdh_ops.specs.Run.{IsCause, Performs, Runs}
 use Rattle.pdh_ops.specs.Tolerated.{AreWithin, HasNoEvent, IsDelayed}
 use Rattle.pdh_words.specs.declared.commands.Command.{Command}
-use Rattle.pdh_words.specs.declared.commands.Command.TheVariants.{Demux, Mux, ClockCheck, ClockMake, Inspect, InspectE1, Show, E1Pack, E1Unpack, Disturb, Drill}
+use Rattle.pdh_words.specs.declared.commands.Command.TheVariants.{Mux}
 use Rattle.pdh_answers.specs.declared.file.File.{File}
 use Rattle.pdh_answers.specs.declared.file.File.TheVariants.{Leaf}
-use Rattle.pdh_answers.specs.declared.answer.Done.TheVariants.{Muxed}
 use Rattle.pdh_answers.specs.declared.answer.Stop.{Stop}
 use Rattle.pdh_answers.specs.declared.answer.Stop.TheVariants.{Memory, Usage, Read, Write, Missing, LongSchedule, BadRow, UnknownNode, CountOver, ShortNode, Short, Overflow, Underflow, ManyFrames, NoAlignment, NotWhole, LongScript, BadScriptRow, PastEnd}
 use Rattle.pdh_chain.proofs.Scheduled.{scheduled-fewer}
@@ -69,14 +68,14 @@ muxed_none chain files rows none = go (nat_lt most_frames (frames_in rows)) (sho
     go : (many : Bool) (node : Option Shortage) (short : Option ℕ) (event : Option Event) → (node ≡ None → event ≡ None) →
         names_event (cond many (Err (ManyFrames (frames_in rows)))
         (option_map_or (λ short. Err (stop_of_shortage short)) node
-        (option_map_or (λ leaf. Err (Short (Leaf leaf) (bits_held files leaf) (bits_needed chain rows leaf))) short (option_map_or (λ event. Err (stop_of_event event)) event (Ok (Muxed chain (frames_in rows))))))) ≡ false
+        (option_map_or (λ leaf. Err (Short (Leaf leaf) (bits_held files leaf) (bits_needed chain rows leaf))) short (option_map_or (λ event. Err (stop_of_event event)) event (Ok (mux_says chain (frames_in rows))))))) ≡ false
     go true lacking short event none = refl
     go false (Some node) short event none = refl
     go false None (Some leaf) event none = refl
     go false None None (Some event) none = absurd (let wrong : Some event ≡ None = none refl in cc)
     go false None None None none = refl
 
-comes_none : (chain : Chain) (feac : Option ℕ) (files : Files) → (short_node chain (rows_in chain files) ≡ None → event_of chain (rows_in chain files) ≡ None) → names_event (comes_to (Mux chain feac) files) ≡ false
+comes_none : (chain : Chain) (feac : Option ℕ) (files : Files) → (short_node chain (rows_in chain files) ≡ None → event_of chain (rows_in chain files) ≡ None) → names_event ((muxing chain feac).comes_to files) ≡ false
 unfolding rows_of
 comes_none chain feac files none = by_held (find (λ file. is_none (files (name_of file))) (mux_inputs chain))
   where
@@ -97,7 +96,7 @@ comes_none chain feac files none = by_held (find (λ file. is_none (files (name_
     by_held None = by_rows (schedule_of (levels_of chain) (bytes_in files schedule_name)) none
 
 -- status 8 comes of an event alone
-no_eight : (chain : Chain) (feac : Option ℕ) (a b : ShelfState) (stop : Stop) (files : Files) → status_of stop ≡ 8 → IsCause (Mux chain feac) a b stop → AreTold (Mux chain feac) a.told files → names_event (comes_to (Mux chain feac) files) ≡ false → ⊥
+no_eight : (chain : Chain) (feac : Option ℕ) (a b : ShelfState) (stop : Stop) (files : Files) → status_of stop ≡ 8 → IsCause (muxing chain feac) a b stop → AreTold (muxing chain feac) a.told files → names_event ((muxing chain feac).comes_to files) ≡ false → ⊥
 no_eight chain feac a b (Overflow place) files eight cause told none = let wrong : names_event (Err (Overflow place)) ≡ false = ap names_event (cause files told) ∙ none in cc
 no_eight chain feac a b (Underflow place) files eight cause told none = let wrong : names_event (Err (Underflow place)) ≡ false = ap names_event (cause files told) ∙ none in cc
 no_eight chain feac a b Memory files eight cause told none = absurd (omega arith)
@@ -118,24 +117,14 @@ no_eight chain feac a b LongScript files eight cause told none = absurd (omega a
 no_eight chain feac a b (BadScriptRow l) files eight cause told none = absurd (omega arith)
 no_eight chain feac a b (PastEnd l) files eight cause told none = absurd (omega arith)
 
-answer_no_event : (chain : Chain) (feac : Option ℕ) (a b : ShelfState) (k l : SinkState) (v : List State) (status : ℕ) (answer : Answer) → Performs (Mux chain feac) a b answer → IsTold v answer k l status → HasNoEvent (Some (Mux chain feac)) a status
+answer_no_event : (chain : Chain) (feac : Option ℕ) (a b : ShelfState) (k l : SinkState) (v : List State) (status : ℕ) (answer : Answer) → Performs (muxing chain feac) a b answer → IsTold v answer k l status → HasNoEvent (Some (Mux chain feac)) a status
 answer_no_event chain feac a b k l v status (Ok done) performs tells files told within eight = elim tells [ inl sent ↦ absurd (omega (arith, sent.0, eight)) | inr failed ↦ absurd (omega (arith, failed.0, eight)) ]
 answer_no_event chain feac a b k l v status (Err stop) performs tells files told within eight =
     no_eight chain feac a b stop files (sym tells.0 ∙ eight) performs.cause told (comes_none chain feac files (λ none. within_none chain files none within))
 
 pub has_no_event : (command : Option Command) (a b : ShelfState) (k l : SinkState) (v w : List State) (status : ℕ) → Runs command a b k l v w status → HasNoEvent command a status
-has_no_event None a b k l v w status runs = tt
-has_no_event (Some (Demux chain bits)) a b k l v w status runs = tt
-has_no_event (Some (ClockCheck chain)) a b k l v w status runs = tt
-has_no_event (Some (ClockMake chain frames bias)) a b k l v w status runs = tt
-has_no_event (Some (Inspect chain bits)) a b k l v w status runs = tt
-has_no_event (Some InspectE1) a b k l v w status runs = tt
-has_no_event (Some (Show chain frame)) a b k l v w status runs = tt
-has_no_event (Some (Disturb chain)) a b k l v w status runs = tt
-has_no_event (Some (Drill chain seed frames)) a b k l v w status runs = tt
-has_no_event (Some E1Pack) a b k l v w status runs = tt
-has_no_event (Some E1Unpack) a b k l v w status runs = tt
 has_no_event (Some (Mux chain feac)) a b k l v w status runs = answer_no_event chain feac a b k l w status runs.answer runs.does runs.told
+has_no_event _ a b k l v w status runs = tt
 
 -- ---- the delay
 
@@ -155,7 +144,7 @@ behind chain feac files line leaf n did is low few within =
     let short = delayed (shapes_of chain) (counts rows) n leaf (are_frames chain) (scheduled-within (shapes_of chain) (counts rows) (frame_count rows) [] x scheduled within) known in
     subst (λ k. entered_below (shapes_of chain) (counts rows) [] x leaf ≤ k + delay_of chain) (sym got) short
 
-answer_delayed : (chain : Chain) (feac : Option ℕ) (a b : ShelfState) (k l : SinkState) (v : List State) (status : ℕ) (answer : Answer) → Performs (Mux chain feac) a b answer → IsTold v answer k l status → IsDelayed (Some (Mux chain feac)) a b status
+answer_delayed : (chain : Chain) (feac : Option ℕ) (a b : ShelfState) (k l : SinkState) (v : List State) (status : ℕ) (answer : Answer) → Performs (muxing chain feac) a b answer → IsTold v answer k l status → IsDelayed (Some (Mux chain feac)) a b status
 answer_delayed chain feac a b k l v status (Err stop) performs tells files line leaf n told within now status_is low few = absurd (omega (arith, tells.0, stop_status stop))
 answer_delayed chain feac a b k l v status (Ok done) performs tells files line leaf n told within now status_is low few =
     let same : Some line ≡ Some (line_bytes chain feac files (rows_in chain files)) = performs.outputs 0 (lit< tt) files told (Some line) now in
@@ -163,15 +152,5 @@ answer_delayed chain feac a b k l v status (Ok done) performs tells files line l
     behind chain feac files line leaf n (mux_done chain feac files done (performs.cause files told)) is low few within
 
 pub is_delayed : (command : Option Command) (a b : ShelfState) (k l : SinkState) (v w : List State) (status : ℕ) → Runs command a b k l v w status → IsDelayed command a b status
-is_delayed None a b k l v w status runs = tt
-is_delayed (Some (Demux chain bits)) a b k l v w status runs = tt
-is_delayed (Some (ClockCheck chain)) a b k l v w status runs = tt
-is_delayed (Some (ClockMake chain frames bias)) a b k l v w status runs = tt
-is_delayed (Some (Inspect chain bits)) a b k l v w status runs = tt
-is_delayed (Some InspectE1) a b k l v w status runs = tt
-is_delayed (Some (Show chain frame)) a b k l v w status runs = tt
-is_delayed (Some (Disturb chain)) a b k l v w status runs = tt
-is_delayed (Some (Drill chain seed frames)) a b k l v w status runs = tt
-is_delayed (Some E1Pack) a b k l v w status runs = tt
-is_delayed (Some E1Unpack) a b k l v w status runs = tt
 is_delayed (Some (Mux chain feac)) a b k l v w status runs = answer_delayed chain feac a b k l w status runs.answer runs.does runs.told
+is_delayed _ a b k l v w status runs = tt

@@ -7,8 +7,8 @@ use Rattle.pdh_answers.specs.Answer.{Answer, status_of}
 use Rattle.pdh_answers.specs.Lines.{IsTold}
 use Rattle.pdh_answers.specs.declared.answer.Stop.TheVariants.{Memory}
 use Rattle.pdh_words.specs.declared.commands.Command.{Command}
-use Rattle.pdh_ops.specs.Schedules.{Files}
-use Rattle.pdh_ops.specs.Commands.{comes_to}
+use Rattle.pdh_ops.specs.Operation.{Files}
+use Rattle.pdh_ops.specs.Commands.{operation_of}
 use Rattle.pdh_ops.specs.Run.{Runs, Completes, CompletesAlways, status_with}
 
 -- an answer that is told to a sink whose count of faults stays 0 has its status
@@ -27,5 +27,5 @@ completes_always (Some command) a b old new before after status m n counts_a cou
     let writes : ¬ Rose a.counts.write_faults b.counts.write_faults = λ rose. omega (arith, rose, ap (λ (counts : Counts). counts.write_faults) counts_a, ap (λ (counts : Counts). counts.write_faults) counts_b) in
     elim (completes files told reads writes) [
       | inl memory ↦ inl (told_status after (Err Memory) old new status old_is new_is memory)
-      | inr comes ↦ inr (told_status after (comes_to command files) old new status old_is new_is comes)
+      | inr comes ↦ inr (told_status after ((operation_of command).comes_to files) old new status old_is new_is comes)
     ]

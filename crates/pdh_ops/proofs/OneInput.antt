@@ -4,13 +4,11 @@ use Rattle.std.specs.Prelude.{IfErr}
 use Rattle.std.specs.Option.{option_map}
 use Rattle.pdh_edge.specs.Files.{ShelfState, Holds}
 use Rattle.pdh_edge.specs.Files.Told.{Known}
-use Rattle.pdh_words.specs.declared.commands.Command.{Command}
 use Rattle.pdh_answers.specs.Names.{name_of}
 use Rattle.pdh_answers.specs.Answer.{Answer, and_then}
 use Rattle.pdh_ops.specs.Reading.{HasLength, IsSizeStop, IsReadStop}
-use Rattle.pdh_ops.specs.Schedules.{Files}
-use Rattle.pdh_ops.specs.Commands.{AreTold, OfInputs, inputs, comes_to, reaches_outputs, IsReadDue}
-use Rattle.pdh_ops.specs.Run.{Comes, GoesOn, is_read_in_run}
+use Rattle.pdh_ops.specs.Operation.{Operation, AreTold, OfInputs, reaches_outputs, IsReadDue, Files}
+use Rattle.pdh_ops.specs.Run.{Comes, GoesOn}
 use Rattle.pdh_ops.specs.Refusing.{Refuses}
 use Rattle.pdh_answers.specs.declared.file.File.{File}
 use Rattle.pdh_answers.specs.declared.answer.Stop.{Stop}
@@ -22,12 +20,12 @@ abbrev pub Judge : Type 0
 Judge = Option (List ℕ) → Result (List ℕ) Stop
 
 -- the file is its first input, and it comes to what that is judged to be, which nothing refuses before the outputs
-pub record BeginsWith (command : Command) (file : File) (judge : Judge) (next : List ℕ → Answer) : Type 0 where
-  pub some : 0 < (inputs command).count
-  pub first : name_of file ≡ (inputs command).name 0
+pub record BeginsWith (operation : Operation) (file : File) (judge : Judge) (next : List ℕ → Answer) : Type 0 where
+  pub some : 0 < operation.inputs.count
+  pub first : name_of file ≡ operation.inputs.name 0
   pub missing : judge None ≡ Err (Missing file)
-  pub comes : (files : Files) → comes_to command files ≡ and_then (judge (files (name_of file))) next
-  pub due : (files : Files) → reaches_outputs (comes_to command files) ≡ true → IsReadDue command file files
+  pub comes : (files : Files) → operation.comes_to files ≡ and_then (judge (files (name_of file))) next
+  pub due : (files : Files) → reaches_outputs (operation.comes_to files) ≡ true → IsReadDue operation file files
   pub reaches : (bytes : List ℕ) → reaches_outputs (next bytes) ≡ true
 
 -- all contents of so many bytes are refused, or none of them is
@@ -37,15 +35,15 @@ RefusesAll judge bytes stop = (content : List ℕ) → length content ≡ bytes 
 abbrev pub ServesAll : Judge → ℕ → Type 0
 ServesAll judge bytes = (content : List ℕ) → length content ≡ bytes → judge (Some content) ≡ Ok content
 
-pub file_told : (command : Command) (file : File) (judge : Judge) (next : List ℕ → Answer) (a : ShelfState) (files : Files) → BeginsWith command file judge next → AreTold command a.told files → a.told (name_of file) ≡ Known (files (name_of file))
-file_told command file judge next a files begins told = subst (λ name. a.told name ≡ Known (files name)) (sym begins.first) (told 0 begins.some)
+pub file_told : (operation : Operation) (file : File) (judge : Judge) (next : List ℕ → Answer) (a : ShelfState) (files : Files) → BeginsWith operation file judge next → AreTold operation a.told files → a.told (name_of file) ≡ Known (files (name_of file))
+file_told operation file judge next a files begins told = subst (λ name. a.told name ≡ Known (files name)) (sym begins.first) (told 0 begins.some)
 
 -- the file wasn't there, or its size wasn't told
-pub missing_refuses : (command : Command) (file : File) (judge : Judge) (next : List ℕ → Answer) (a b : ShelfState) (stop : Stop) → BeginsWith command file judge next → IsSizeStop file a b stop → Refuses command a b stop
-missing_refuses command file judge next a b stop begins cause =
-    size_refuses command file 0 a b stop begins.some begins.first (λ files told i h. absurd (omega arith))
+pub missing_refuses : (operation : Operation) (file : File) (judge : Judge) (next : List ℕ → Answer) (a b : ShelfState) (stop : Stop) → BeginsWith operation file judge next → IsSizeStop file a b stop → Refuses operation a b stop
+missing_refuses operation file judge next a b stop begins cause =
+    size_refuses operation file 0 a b stop begins.some begins.first (λ files told i h. absurd (omega arith))
     (λ missing files told.
-    let none : files (name_of file) ≡ None = missing (files (name_of file)) (file_told command file judge next a files begins told) in
+    let none : files (name_of file) ≡ None = missing (files (name_of file)) (file_told operation file judge next a files begins told) in
     sym (begins.comes files ∙ ap (λ h. and_then (judge h) next) none ∙ ap (λ r. and_then r next) begins.missing)) cause
 
 -- a file of so many bytes that is held
@@ -54,23 +52,23 @@ held_of bytes None e = absurd (cc)
 held_of bytes (Some content) e = (content, refl, let same : bytes ≡ length content = cc in sym same)
 
 -- contents of that length are refused
-pub length_refuses : (command : Command) (file : File) (judge : Judge) (next : List ℕ → Answer) (a : ShelfState) (bytes : ℕ) (stop : Stop) → BeginsWith command file judge next → HasLength (name_of file) bytes a → RefusesAll judge bytes stop → Comes command a (Err stop)
-length_refuses command file judge next a bytes stop begins known all files told =
-    let held = held_of bytes (files (name_of file)) (known.told (files (name_of file)) (file_told command file judge next a files begins told)) in
+pub length_refuses : (operation : Operation) (file : File) (judge : Judge) (next : List ℕ → Answer) (a : ShelfState) (bytes : ℕ) (stop : Stop) → BeginsWith operation file judge next → HasLength (name_of file) bytes a → RefusesAll judge bytes stop → Comes operation a (Err stop)
+length_refuses operation file judge next a bytes stop begins known all files told =
+    let held = held_of bytes (files (name_of file)) (known.told (files (name_of file)) (file_told operation file judge next a files begins told)) in
     sym (begins.comes files ∙ ap (λ h. and_then (judge h) next) held.1 ∙ ap (λ r. and_then r next) (all held.0 held.2))
 
 -- or they aren't, and the command goes on
-pub comes_on : (command : Command) (file : File) (judge : Judge) (next : List ℕ → Answer) (files : Files) (content : List ℕ) → BeginsWith command file judge next → files (name_of file) ≡ Some content → judge (Some content) ≡ Ok content → comes_to command files ≡ next content
-comes_on command file judge next files content begins held served =
+pub comes_on : (operation : Operation) (file : File) (judge : Judge) (next : List ℕ → Answer) (files : Files) (content : List ℕ) → BeginsWith operation file judge next → files (name_of file) ≡ Some content → judge (Some content) ≡ Ok content → operation.comes_to files ≡ next content
+comes_on operation file judge next files content begins held served =
     begins.comes files ∙ ap (λ h. and_then (judge h) next) held ∙ ap (λ r. and_then r next) served
 
 -- then its bytes, where they are read before the run, are read in their turn
-pub reading_refuses : (command : Command) (file : File) (judge : Judge) (next : List ℕ → Answer) (a b : ShelfState) (bytes : ℕ) (stop : Stop) → BeginsWith command file judge next → is_read_in_run command file ≡ false → HasLength (name_of file) bytes a → ServesAll judge bytes → IsReadStop file a b stop → Refuses command a b stop
-reading_refuses command file judge next a b bytes stop begins early known all cause =
-    read_refuses command file 0 a b stop begins.some begins.first early
+pub reading_refuses : (operation : Operation) (file : File) (judge : Judge) (next : List ℕ → Answer) (a b : ShelfState) (bytes : ℕ) (stop : Stop) → BeginsWith operation file judge next → operation.reads_in_run file ≡ false → HasLength (name_of file) bytes a → ServesAll judge bytes → IsReadStop file a b stop → Refuses operation a b stop
+reading_refuses operation file judge next a b bytes stop begins early known all cause =
+    read_refuses operation file 0 a b stop begins.some begins.first early
     (λ files told.
-    let held = held_of bytes (files (name_of file)) (known.told (files (name_of file)) (file_told command file judge next a files begins told)) in
-    begins.due files (ap reaches_outputs (comes_on command file judge next files held.0 begins held.1 (all held.0 held.2)) ∙ begins.reaches held.0)) cause
+    let held = held_of bytes (files (name_of file)) (known.told (files (name_of file)) (file_told operation file judge next a files begins told)) in
+    begins.due files (ap reaches_outputs (comes_on operation file judge next files held.0 begins held.1 (all held.0 held.2)) ∙ begins.reaches held.0)) cause
 
 -- what follows from a stop's cause
 pub err_map : {T : Type 0} (P Q : Stop → Type 0) (r : Result T Stop) → ((stop : Stop) → P stop → Q stop) → IfErr r P → IfErr r Q
@@ -79,13 +77,13 @@ err_map P Q (Err stop) each cause = each stop cause
 
 -- ---- what it comes to by its bytes
 
-pub comes_of_bytes : (command : Command) (file : File) (judge : Judge) (next : List ℕ → Answer) (a : ShelfState) (content : List ℕ) → BeginsWith command file judge next → Holds (a.told (name_of file)) content → judge (Some content) ≡ Ok content → OfInputs command a (λ files. comes_to command files ≡ next content)
-comes_of_bytes command file judge next a content begins holds served files told =
-    comes_on command file judge next files content begins (holds (files (name_of file)) (file_told command file judge next a files begins told)) served
+pub comes_of_bytes : (operation : Operation) (file : File) (judge : Judge) (next : List ℕ → Answer) (a : ShelfState) (content : List ℕ) → BeginsWith operation file judge next → Holds (a.told (name_of file)) content → judge (Some content) ≡ Ok content → OfInputs operation a (λ files. operation.comes_to files ≡ next content)
+comes_of_bytes operation file judge next a content begins holds served files told =
+    comes_on operation file judge next files content begins (holds (files (name_of file)) (file_told operation file judge next a files begins told)) served
 
-pub goes_on_by_bytes : (command : Command) (file : File) (judge : Judge) (next : List ℕ → Answer) (a : ShelfState) (content : List ℕ) → BeginsWith command file judge next → Holds (a.told (name_of file)) content → judge (Some content) ≡ Ok content → GoesOn command a
-goes_on_by_bytes command file judge next a content begins holds served files told =
-    ap reaches_outputs (comes_of_bytes command file judge next a content begins holds served files told) ∙ begins.reaches content
+pub goes_on_by_bytes : (operation : Operation) (file : File) (judge : Judge) (next : List ℕ → Answer) (a : ShelfState) (content : List ℕ) → BeginsWith operation file judge next → Holds (a.told (name_of file)) content → judge (Some content) ≡ Ok content → GoesOn operation a
+goes_on_by_bytes operation file judge next a content begins holds served files told =
+    ap reaches_outputs (comes_of_bytes operation file judge next a content begins holds served files told) ∙ begins.reaches content
 
-pub bytes_are : (command : Command) (file : File) (judge : Judge) (next : List ℕ → Answer) (a : ShelfState) (content : List ℕ) → BeginsWith command file judge next → Holds (a.told (name_of file)) content → OfInputs command a (λ files. files (name_of file) ≡ Some content)
-bytes_are command file judge next a content begins holds files told = holds (files (name_of file)) (file_told command file judge next a files begins told)
+pub bytes_are : (operation : Operation) (file : File) (judge : Judge) (next : List ℕ → Answer) (a : ShelfState) (content : List ℕ) → BeginsWith operation file judge next → Holds (a.told (name_of file)) content → OfInputs operation a (λ files. files (name_of file) ≡ Some content)
+bytes_are operation file judge next a content begins holds files told = holds (files (name_of file)) (file_told operation file judge next a files begins told)

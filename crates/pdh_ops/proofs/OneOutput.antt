@@ -3,11 +3,9 @@ use Rattle.std.proofs.Common.{◌≡◌, ◌⊎◌, ℕ, zero, suc, ◌<◌, Boo
 use Rattle.pdh_edge.specs.declared.shelf.Call.TheVariants.{Start as StartCall, Append as AppendCall}
 use Rattle.pdh_edge.specs.Files.{ShelfState, Told, Looks, Touches, Holds, HoldsPrefix, Starts, Appends, FailsToWrite, Grows, GrowsInPart, with_write_fault, told_empty}
 use Rattle.pdh_edge.specs.Files.Told.{Untold, Known}
-use Rattle.pdh_words.specs.declared.commands.Command.{Command}
 use Rattle.pdh_answers.specs.Names.{name_of}
 use Rattle.pdh_ops.specs.Writing.{IsStartStop, IsAppendStop}
-use Rattle.pdh_ops.specs.Schedules.{Files}
-use Rattle.pdh_ops.specs.Commands.{IsOutput, AreTold, outputs, output_bytes}
+use Rattle.pdh_ops.specs.Operation.{Operation, IsOutput, AreTold, Files}
 use Rattle.pdh_ops.specs.Run.{Comes, AreWhole, ChangesOnly, Performs, GoesOn}
 use Rattle.pdh_answers.specs.declared.file.File.{File}
 use Rattle.pdh_answers.specs.declared.answer.Done.{Done}
@@ -43,16 +41,16 @@ grows_part_holds (Known (Some was)) new bytes grows holds =
 -- ---- one output
 
 -- the file is the one output
-pub record HasOutput (command : Command) (file : File) : Type 0 where
-  pub count : (outputs command).count ≡ 1
-  pub name : (outputs command).name 0 ≡ name_of file
+pub record HasOutput (operation : Operation) (file : File) : Type 0 where
+  pub count : operation.outputs.count ≡ 1
+  pub name : operation.outputs.name 0 ≡ name_of file
 
 -- the steps before the output have looked at the files, none refuses, and these are the bytes to write
-pub record Writes (command : Command) (a b : ShelfState) (bytes : List ℕ) : Type 0 where
+pub record Writes (operation : Operation) (a b : ShelfState) (bytes : List ℕ) : Type 0 where
   pub looks : Looks a b
   pub same : b.counts ≡ a.counts
-  pub goes_on : GoesOn command a
-  pub content : (files : Files) → AreTold command a.told files → bytes ≡ output_bytes command files 0
+  pub goes_on : GoesOn operation a
+  pub content : (files : Files) → AreTold operation a.told files → bytes ≡ operation.bytes files 0
 
 first_output : (i : ℕ) → i < 1 → i ≡ 0
 first_output zero h = refl
@@ -61,12 +59,12 @@ first_output (suc i) h = absurd (omega arith)
 pub touches_again : (name : List ℕ) (b c d : ShelfState) → Touches name b c → Touches name c d → Touches name b d
 touches_again name b c d first then_ = touches_then (λ other. other ≡ name) name b c d refl first then_
 
-pub others : (command : Command) (file : File) (a b d : ShelfState) → HasOutput command file → Looks a b → Touches (name_of file) b d → ChangesOnly (IsOutput command) a d
-others command file a b d output looks touches name out =
+pub others : (operation : Operation) (file : File) (a b d : ShelfState) → HasOutput operation file → Looks a b → Touches (name_of file) b d → ChangesOnly (IsOutput operation) a d
+others operation file a b d output looks touches name out =
     touches.told name (λ e. out (0, subst (λ n. 0 < n) (sym output.count) (lit< tt), e ∙ sym output.name)) ∙ ap (λ (t : List ℕ → Told). t name) looks.told
 
-pub start_refused : (command : Command) (file : File) (a b c : ShelfState) (stop : Stop) → HasOutput command file → Looks a b → b.counts ≡ a.counts → GoesOn command a → Touches (name_of file) b c → IsStartStop file b c stop → Performs command a c (Err stop)
-start_refused command file a b c stop output looks same goes_on touches cause = subst (λ stop. Performs command a c (Err stop)) (sym cause.0) (record {
+pub start_refused : (operation : Operation) (file : File) (a b c : ShelfState) (stop : Stop) → HasOutput operation file → Looks a b → b.counts ≡ a.counts → GoesOn operation a → Touches (name_of file) b c → IsStartStop file b c stop → Performs operation a c (Err stop)
+start_refused operation file a b c stop output looks same goes_on touches cause = subst (λ stop. Performs operation a c (Err stop)) (sym cause.0) (record {
   cause = goes_on;
   outputs = record {
     at = 0;
@@ -80,15 +78,15 @@ start_refused command file a b c stop output looks same goes_on touches cause = 
       later = λ i lt low. absurd (let one = output.count in omega arith);
     });
   };
-  others = others command file a b c output looks touches;
+  others = others operation file a b c output looks touches;
   counted = cause.1.fails.counts ∙ ap with_write_fault same;
 })
 
-pub append_refused : (command : Command) (file : File) (a b c d : ShelfState) (bytes : List ℕ) (stop : Stop) → HasOutput command file → Writes command a b bytes → Touches (name_of file) b c → Starts (name_of file) b c →
-    Touches (name_of file) c d → IsAppendStop file bytes c d stop → Performs command a d (Err stop)
-append_refused command file a b c d bytes stop output writes starts started appends cause =
+pub append_refused : (operation : Operation) (file : File) (a b c d : ShelfState) (bytes : List ℕ) (stop : Stop) → HasOutput operation file → Writes operation a b bytes → Touches (name_of file) b c → Starts (name_of file) b c →
+    Touches (name_of file) c d → IsAppendStop file bytes c d stop → Performs operation a d (Err stop)
+append_refused operation file a b c d bytes stop output writes starts started appends cause =
     let same : c.counts ≡ a.counts = started.succeeds.counts ∙ writes.same in
-    subst (λ stop. Performs command a d (Err stop)) (sym cause.0) (record {
+    subst (λ stop. Performs operation a d (Err stop)) (sym cause.0) (record {
       cause = writes.goes_on;
       outputs = record {
         at = 0;
@@ -98,26 +96,26 @@ append_refused command file a b c d bytes stop output writes starts started appe
           fails = subst (λ name. FailsToWrite AppendCall name a d) (sym output.name) (write_fails_since AppendCall (name_of file) a c d same cause.1.fails);
           begun = λ i low files told.
               let first : i ≡ 0 = first_output i (subst (λ n. i < n) output.count low) in
-              subst (λ i. HoldsPrefix (d.told ((outputs command).name i)) (output_bytes command files i)) (sym first)
-              (subst (λ name. HoldsPrefix (d.told name) (output_bytes command files 0)) (sym output.name) (subst (HoldsPrefix (d.told (name_of file))) (writes.content files told) (grows_part_holds _ _ bytes cause.1.told (started_holds (name_of file) b c started))));
+              subst (λ i. HoldsPrefix (d.told (operation.outputs.name i)) (operation.bytes files i)) (sym first)
+              (subst (λ name. HoldsPrefix (d.told name) (operation.bytes files 0)) (sym output.name) (subst (HoldsPrefix (d.told (name_of file))) (writes.content files told) (grows_part_holds _ _ bytes cause.1.told (started_holds (name_of file) b c started))));
         });
       };
-      others = others command file a b d output writes.looks (touches_again (name_of file) b c d starts appends);
+      others = others operation file a b d output writes.looks (touches_again (name_of file) b c d starts appends);
       counted = cause.1.fails.counts ∙ ap with_write_fault same;
     })
 
 -- the whole output stands
-pub whole : (command : Command) (file : File) (a b c d : ShelfState) (bytes : List ℕ) → HasOutput command file → Writes command a b bytes → Starts (name_of file) b c → Appends (name_of file) bytes c d → AreWhole command a d
-whole command file a b c d bytes output writes started appends i low files told =
+pub whole : (operation : Operation) (file : File) (a b c d : ShelfState) (bytes : List ℕ) → HasOutput operation file → Writes operation a b bytes → Starts (name_of file) b c → Appends (name_of file) bytes c d → AreWhole operation a d
+whole operation file a b c d bytes output writes started appends i low files told =
     let first : i ≡ 0 = first_output i (subst (λ n. i < n) output.count low) in
-    subst (λ i. Holds (d.told ((outputs command).name i)) (output_bytes command files i)) (sym first)
-    (subst (λ name. Holds (d.told name) (output_bytes command files 0)) (sym output.name) (subst (Holds (d.told (name_of file))) (writes.content files told) (grows_holds (d.tells_started (name_of file)) _ _ bytes [] appends.told (started_holds (name_of file) b c started))))
+    subst (λ i. Holds (d.told (operation.outputs.name i)) (operation.bytes files i)) (sym first)
+    (subst (λ name. Holds (d.told name) (operation.bytes files 0)) (sym output.name) (subst (Holds (d.told (name_of file))) (writes.content files told) (grows_holds (d.tells_started (name_of file)) _ _ bytes [] appends.told (started_holds (name_of file) b c started))))
 
-pub writing_done : (command : Command) (file : File) (a b c d : ShelfState) (bytes : List ℕ) (done : Done) → HasOutput command file → Writes command a b bytes → Touches (name_of file) b c → Starts (name_of file) b c →
-    Touches (name_of file) c d → Appends (name_of file) bytes c d → Comes command a (Ok done) → Performs command a d (Ok done)
-writing_done command file a b c d bytes done output writes starts started touches appends comes = record {
+pub writing_done : (operation : Operation) (file : File) (a b c d : ShelfState) (bytes : List ℕ) (done : Done) → HasOutput operation file → Writes operation a b bytes → Touches (name_of file) b c → Starts (name_of file) b c →
+    Touches (name_of file) c d → Appends (name_of file) bytes c d → Comes operation a (Ok done) → Performs operation a d (Ok done)
+writing_done operation file a b c d bytes done output writes starts started touches appends comes = record {
   cause = comes;
-  outputs = whole command file a b c d bytes output writes started appends;
-  others = others command file a b d output writes.looks (touches_again (name_of file) b c d starts touches);
+  outputs = whole operation file a b c d bytes output writes started appends;
+  others = others operation file a b d output writes.looks (touches_again (name_of file) b c d starts touches);
   counted = appends.succeeds.counts ∙ started.succeeds.counts ∙ writes.same;
 }

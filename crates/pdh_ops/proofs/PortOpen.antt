@@ -18,14 +18,13 @@ use Rattle.pdh_blocks.specs.State.{leaf_name, output_name}
 use Rattle.pdh_blocks.specs.Lists.{inputs_of, outputs_of, rest_in, rest_of, left_of, put_in, appended}
 use Rattle.pdh_blocks.specs.Held.{AllDiffer}
 use Rattle.pdh_blocks.specs.Opened.{CanOpen, IsSource, HasBytesFor, opened, source_name, unread_leaf, unwritten}
-use Rattle.pdh_words.specs.declared.commands.Command.{Command}
 use Rattle.pdh_answers.specs.Names.{name_of}
 use Rattle.pdh_ops.specs.Reading.{HasLength}
-use Rattle.pdh_ops.specs.Commands.{outputs}
 use Rattle.pdh_ops.specs.Run.{GoesOn}
 use Rattle.pdh_ops.specs.PortFiles.{HasBits, AreFiles, AreSources, HasFiles, IsOpenFor, opened_for, unread_file, unwritten_file, input_name}
 use Rattle.pdh_answers.specs.declared.file.File.{File}
 use Rattle.pdh_ops.specs.declared.port.Input.{Input}
+use Rattle.pdh_ops.specs.Operation.{Operation}
 
 -- ---- mapped lists
 
@@ -144,9 +143,9 @@ module _ (state : ShelfState) (reads : List Input) (writes : List File) where
       go (Some file) e = put (state.tells_started (name_of file)) (appended (opened_for state reads writes) k (unwritten_file file) ++ []) (none_waits file) (sym (ap (option_and_then (put_in (opened_for state reads writes) k)) (at (Some file) e)) ∙ here)
 
 -- it is open for a command of which these are the outputs
-pub open_for : (command : Command) (a b : ShelfState) (reads : List Input) (writes : List File) → Looks a b → b.counts ≡ a.counts → GoesOn command a → length writes ≡ (outputs command).count
-    → ((k : ℕ) → k < (outputs command).count → slice_get (map name_of writes) k ≡ Some ((outputs command).name k)) → IsOpenFor command a (opened_for b reads writes)
-open_for command a b reads writes looks same goes_on count named = record {
+pub open_for : (operation : Operation) (a b : ShelfState) (reads : List Input) (writes : List File) → Looks a b → b.counts ≡ a.counts → GoesOn operation a → length writes ≡ operation.outputs.count
+    → ((k : ℕ) → k < operation.outputs.count → slice_get (map name_of writes) k ≡ Some (operation.outputs.name k)) → IsOpenFor operation a (opened_for b reads writes)
+open_for operation a b reads writes looks same goes_on count named = record {
   looks = looks;
   same = same;
   goes_on = goes_on;

@@ -21,15 +21,14 @@ use Rattle.pdh_blocks.specs.laws.PortLaws.{same_outputs, read_faults_none, read_
 use Rattle.pdh_blocks.proofs.FileLaws.{whole_file, front_of_file, fresh_files}
 use Rattle.pdh_blocks.proofs.Names.{output_at}
 use Rattle.pdh_blocks.proofs.Places.{get_left}
-use Rattle.pdh_words.specs.declared.commands.Command.{Command}
 use Rattle.pdh_answers.specs.Names.{name_of}
-use Rattle.pdh_ops.specs.Commands.{outputs, output_bytes, IsOutput}
+use Rattle.pdh_ops.specs.Operation.{Operation, IsOutput}
 use Rattle.pdh_ops.specs.Run.{AreWhole, AreBegun, StopsAtStart, StopsAtAppend, ChangesOnly, Performs}
 use Rattle.pdh_ops.specs.PortFiles.{HasFiles, IsStopAt, IsStopOf, AreRead, IsOpenFor, PutsAll, PutsFront, IsFrontOf, input_name}
 use Rattle.pdh_answers.specs.declared.file.File.{File}
 use Rattle.pdh_ops.specs.declared.port.Input.{Input}
 use Rattle.pdh_answers.specs.declared.answer.Stop.{Stop}
-use Rattle.pdh_answers.specs.declared.answer.Stop.TheVariants.{Memory, Read}
+use Rattle.pdh_answers.specs.declared.answer.Stop.TheVariants.{Memory, Read, Write}
 
 -- ---- equal parts
 
@@ -112,21 +111,21 @@ empty_holds port is k name some begun here = go (port.shelf.tells_started name) 
     go true e held known = let same : Known held ≡ Known (Some []) = sym known ∙ is.blocks.empty some k name here begun e in cc
     go false e held known = absurd (let wrong : Known held ≡ Untold = sym known ∙ is.blocks.untold k name here begun e in cc)
 
-module _ (command : Command) (a : ShelfState) (p q : PortState) (open_for : IsOpenFor command a p) (port : IsPort q) (kept : Keeps p q) where
-  named : (k : ℕ) → k < (outputs command).count → slice_get (output_names q) k ≡ Some ((outputs command).name k)
+module _ (operation : Operation) (a : ShelfState) (p q : PortState) (open_for : IsOpenFor operation a p) (port : IsPort q) (kept : Keeps p q) where
+  named : (k : ℕ) → k < operation.outputs.count → slice_get (output_names q) k ≡ Some (operation.outputs.name k)
   named k low = ap (λ names. slice_get names k) kept.outputs ∙ open_for.writes.named k low
 
-  is_output : (name : List ℕ) → IsPortOutput p name → IsOutput command name
+  is_output : (name : List ℕ) → IsPortOutput p name → IsOutput operation name
   is_output name here =
-      let found = named_of (output_names p) (outputs command).name (outputs command).count here.0 name (length-map p.outputs output_name ∙ open_for.writes.count) open_for.writes.named here.1 in
+      let found = named_of (output_names p) operation.outputs.name operation.outputs.count here.0 name (length-map p.outputs output_name ∙ open_for.writes.count) open_for.writes.named here.1 in
       (here.0, found.0, found.1)
 
   -- as many names as outputs
-  all : length (output_names q) ≡ (outputs command).count
+  all : length (output_names q) ≡ operation.outputs.count
   all = length-map q.outputs output_name ∙ same_outputs kept ∙ open_for.writes.count
 
   -- all other files are as before
-  pub others : ChangesOnly (IsOutput command) a q.shelf
+  pub others : ChangesOnly (IsOutput operation) a q.shelf
   others name not = kept.others.told name (λ here. not (is_output name here)) ∙ ap (λ (told : List ℕ → Told). told name) open_for.looks.told
 
   -- ---- counts
@@ -158,21 +157,21 @@ module _ (command : Command) (a : ShelfState) (p q : PortState) (open_for : IsOp
 
   -- ---- files
 
-  started : IsReady q → (k : ℕ) → k < (outputs command).count → k < q.started
+  started : IsReady q → (k : ℕ) → k < operation.outputs.count → k < q.started
   started ready k low = omega (arith, ready.all, sym open_for.writes.count, same_outputs kept, low)
 
   -- each output has all its bytes
-  pub whole : IsReady q → IsWritten q → PutsAll command a (outputs_of q) → AreWhole command a q.shelf
-  whole ready written put k low files told = holds_all q port k ((outputs command).name k) (output_bytes command files k) (started ready k low) (named k low) written (λ list here. put k list low here files told)
+  pub whole : IsReady q → IsWritten q → PutsAll operation a (outputs_of q) → AreWhole operation a q.shelf
+  whole ready written put k low files told = holds_all q port k (operation.outputs.name k) (operation.bytes files k) (started ready k low) (named k low) written (λ list here. put k list low here files told)
 
   -- each output has a prefix of them
-  pub begun : IsReady q → PutsFront command a (outputs_of q) → AreBegun command a q.shelf
-  begun ready put k low files told = holds_front q port k ((outputs command).name k) (output_bytes command files k) (started ready k low) (named k low) (λ list here. put k list low here files told)
+  pub begun : IsReady q → PutsFront operation a (outputs_of q) → AreBegun operation a q.shelf
+  begun ready put k low files told = holds_front q port k (operation.outputs.name k) (operation.bytes files k) (started ready k low) (named k low) (λ list here. put k list low here files told)
 
   -- ---- how a command ends
 
   -- memory was wanting before the port was started
-  pub out_of_memory : q.fresh ≡ true → q.feed_faults ≡ 0 → Performs command a q.shelf (Err Memory)
+  pub out_of_memory : q.fresh ≡ true → q.feed_faults ≡ 0 → Performs operation a q.shelf (Err Memory)
   out_of_memory fresh unread = record {
     cause = tt;
     outputs = fresh_files p q kept fresh port ∙ open_for.looks.told;
@@ -205,97 +204,108 @@ module _ (command : Command) (a : ShelfState) (p q : PortState) (open_for : IsOp
       go (Some i) e = stopped i e (is i e)
 
   -- it ends the command in its run
-  pub reading_stops : (reads : List Input) (writes : List File) (stop : Stop) → HasFiles reads writes q → IsStopOf reads writes q stop → AreRead command a reads → q.feed_faults ≡ 1 → q.drain_faults ≡ 0 → AreBegun command a q.shelf
-      → Performs command a q.shelf (Err stop)
+  pub reading_stops : (reads : List Input) (writes : List File) (stop : Stop) → HasFiles reads writes q → IsStopOf reads writes q stop → AreRead operation a reads → q.feed_faults ≡ 1 → q.drain_faults ≡ 0 → AreBegun operation a q.shelf
+      → Performs operation a q.shelf (Err stop)
   reading_stops reads writes stop files is due one unwritten begins =
       let failed = read_failed reads writes stop files is one unwritten in
       let at = due.input failed.0 failed.1 failed.2 in
-      subst (λ stop. Performs command a q.shelf (Err stop)) (sym failed.3) (record {
+      subst (λ stop. Performs operation a q.shelf (Err stop)) (sym failed.3) (record {
         cause = record { at = at.0; known = at.1; named = at.2; how = inr (failed.4, due.due failed.0 failed.1 failed.2) };
         outputs = inr (record { in_run = due.in_run failed.0 failed.1 failed.2; fails = failed.4 }, begins);
         others = others;
         counted = read_counted one unwritten;
       })
 
-  -- a call that writes failed: the start of an output, or an append behind the start of all
-  pub writing_stops : (reads : List Input) (writes : List File) (stop : Stop) → HasFiles reads writes q → IsStopOf reads writes q stop → q.feed_faults ≡ 0 → q.drain_faults ≡ 1 → (IsReady q × PutsFront command a (outputs_of q)) ⊎ IsRefused q
-      → Performs command a q.shelf (Err stop)
-  writing_stops reads writes stop files is unread one how = go q.failed refl
+  -- the call that failed is one that writes, to output k
+  pub write_failed : (reads : List Input) (writes : List File) (stop : Stop) → HasFiles reads writes q → IsStopOf reads writes q stop → q.feed_faults ≡ 0 → q.drain_faults ≡ 1
+      → (i : ℕ) × (k : ℕ) × (file : File) × (q.failed ≡ Some i) × (i ≡ length q.leaves + k) × (k < operation.outputs.count) × (name_of file ≡ operation.outputs.name k) × (stop ≡ Write file)
+  write_failed reads writes stop files is unread one = go q.failed refl
     where
       count : length q.leaves ≡ length reads
       count = sym (length-map q.leaves leaf_name) ∙ ap length files.reads_are ∙ length-map reads input_name
 
-      -- the name of number i, where it is of output k
-      write_name : (i k : ℕ) → i ≡ length q.leaves + k → k < (outputs command).count → slice_get (names q) i ≡ Some ((outputs command).name k)
-      write_name i k far low = ap (slice_get (names q)) far ∙ output_at q k ∙ named k low
-
-      -- an append to output k failed
-      at_append : (i k : ℕ) → q.failed ≡ Some i → i ≡ length q.leaves + k → k < (outputs command).count → IsReady q → PutsFront command a (outputs_of q) → StopsAtAppend command k a q.shelf
-      at_append i k e far low ready put =
-          let last = port.blocks.failed.named i e in record {
-            fails = record { counts = write_counted unread one; last = last.ready (omega (arith, far)) ready.said ((outputs command).name k) (write_name i k far low) };
-            begun = begun ready put;
-          }
-
-      -- the start of output k failed
-      at_start : (k : ℕ) → k ≡ q.started → k < (outputs command).count → IsRefused q → StopsAtStart command k a q.shelf
-      at_start k is_k low refused = record {
-        fails = record { counts = write_counted unread one; last = refused.last ((outputs command).name k) (ap (slice_get (output_names q)) (sym is_k) ∙ named k low) };
-        before = λ i less. empty_holds q port i ((outputs command).name i) refused.among (omega (arith, is_k)) (named i (omega (arith, low)));
-        here = elim (kept.unstarted k ((outputs command).name k) (named k low) (omega (arith, is_k))) [
-          | inl same ↦ inl (same ∙ ap (λ (told : List ℕ → Told). told ((outputs command).name k)) open_for.looks.told)
-          | inr empty ↦ inr empty
-        ];
-        later = λ i above inside. kept.uncalled i ((outputs command).name i) (named i inside) (omega (arith, refused.called, is_k)) ∙ ap (λ (told : List ℕ → Told). told ((outputs command).name i)) open_for.looks.told;
-      }
-
-      cut : (i k : ℕ) → q.failed ≡ Some i → i ≡ length q.leaves + k → k < (outputs command).count → (IsReady q × PutsFront command a (outputs_of q)) ⊎ IsRefused q → StopsAtStart command k a q.shelf ⊎ StopsAtAppend command k a q.shelf
-      cut i k e far low (inl begins) = inr (at_append i k e far low begins.0 begins.1)
-      cut i k e far low (inr refused) =
-          let both : Some i ≡ Some (length q.leaves + q.started) = sym e ∙ refused.failed in
-          let same : i ≡ length q.leaves + q.started = same_Some _ _ both in
-          inl (at_start k (omega (arith, same, far)) low refused)
-
-      stopped : (i : ℕ) → q.failed ≡ Some i → IsStopAt reads writes i stop → Performs command a q.shelf (Err stop)
+      stopped : (i : ℕ) → q.failed ≡ Some i → IsStopAt reads writes i stop
+          → (i : ℕ) × (k : ℕ) × (file : File) × (q.failed ≡ Some i) × (i ≡ length q.leaves + k) × (k < operation.outputs.count) × (name_of file ≡ operation.outputs.name k) × (stop ≡ Write file)
       stopped i e (inl at) =
           let high : length q.leaves ≤ i = (port.blocks.failed.named i e).drained unread in
           absurd (omega (arith, high, count, slice_get_within reads i at.0 at.1))
       stopped i e (inr at) =
           let name : slice_get (output_names q) at.0 ≡ Some (name_of at.1) = ap (λ (all : List (List ℕ)). slice_get all at.0) files.writes_are ∙ slice_get-map name_of writes at.0 ∙ ap (option_map name_of) at.3 in
-          let found = named_of (output_names q) (outputs command).name (outputs command).count at.0 (name_of at.1) all named name in
-          subst (λ stop. Performs command a q.shelf (Err stop)) (sym at.4) (record {
-            cause = open_for.goes_on;
-            outputs = record { at = at.0; known = found.0; named = found.1; how = cut i at.0 e (omega (arith, at.2, count)) found.0 how };
-            others = others;
-            counted = write_counted unread one;
-          })
+          let found = named_of (output_names q) operation.outputs.name operation.outputs.count at.0 (name_of at.1) all named name in
+          (i, at.0, at.1, e, omega (arith, at.2, count), found.0, found.1, at.4)
 
-      go : (failed : Option ℕ) → q.failed ≡ failed → Performs command a q.shelf (Err stop)
+      go : (failed : Option ℕ) → q.failed ≡ failed
+          → (i : ℕ) × (k : ℕ) × (file : File) × (q.failed ≡ Some i) × (i ≡ length q.leaves + k) × (k < operation.outputs.count) × (name_of file ≡ operation.outputs.name k) × (stop ≡ Write file)
       go None e = absurd (none_failed q.failed (q.feed_faults + q.drain_faults) e port.blocks.failed.none (omega (arith, one)))
       go (Some i) e = stopped i e (is i e)
+
+  -- it was the start of an output, or an append behind the start of all
+  pub writing_stops : (reads : List Input) (writes : List File) (stop : Stop) → HasFiles reads writes q → IsStopOf reads writes q stop → q.feed_faults ≡ 0 → q.drain_faults ≡ 1
+      → ((IsReady q × PutsFront operation a (outputs_of q)) ⊎ IsRefused q) ⊎ (operation.outputs.count ≡ 0) → Performs operation a q.shelf (Err stop)
+  writing_stops reads writes stop files is unread one how =
+      let found = write_failed reads writes stop files is unread one in
+      subst (λ stop. Performs operation a q.shelf (Err stop)) (sym found.7) (record {
+        cause = open_for.goes_on;
+        outputs = record { at = found.1; known = found.5; named = found.6; how = cut found.0 found.1 found.3 found.4 found.5 how };
+        others = others;
+        counted = write_counted unread one;
+      })
+    where
+      -- the name of number i, where it is of output k
+      write_name : (i k : ℕ) → i ≡ length q.leaves + k → k < operation.outputs.count → slice_get (names q) i ≡ Some (operation.outputs.name k)
+      write_name i k far low = ap (slice_get (names q)) far ∙ output_at q k ∙ named k low
+
+      -- an append to output k failed
+      at_append : (i k : ℕ) → q.failed ≡ Some i → i ≡ length q.leaves + k → k < operation.outputs.count → IsReady q → PutsFront operation a (outputs_of q) → StopsAtAppend operation k a q.shelf
+      at_append i k e far low ready put =
+          let last = port.blocks.failed.named i e in record {
+            fails = record { counts = write_counted unread one; last = last.ready (omega (arith, far)) ready.said (operation.outputs.name k) (write_name i k far low) };
+            begun = begun ready put;
+          }
+
+      -- the start of output k failed
+      at_start : (k : ℕ) → k ≡ q.started → k < operation.outputs.count → IsRefused q → StopsAtStart operation k a q.shelf
+      at_start k is_k low refused = record {
+        fails = record { counts = write_counted unread one; last = refused.last (operation.outputs.name k) (ap (slice_get (output_names q)) (sym is_k) ∙ named k low) };
+        before = λ i less. empty_holds q port i (operation.outputs.name i) refused.among (omega (arith, is_k)) (named i (omega (arith, low)));
+        here = elim (kept.unstarted k (operation.outputs.name k) (named k low) (omega (arith, is_k))) [
+          | inl same ↦ inl (same ∙ ap (λ (told : List ℕ → Told). told (operation.outputs.name k)) open_for.looks.told)
+          | inr empty ↦ inr empty
+        ];
+        later = λ i above inside. kept.uncalled i (operation.outputs.name i) (named i inside) (omega (arith, refused.called, is_k)) ∙ ap (λ (told : List ℕ → Told). told (operation.outputs.name i)) open_for.looks.told;
+      }
+
+      cut : (i k : ℕ) → q.failed ≡ Some i → i ≡ length q.leaves + k → k < operation.outputs.count → ((IsReady q × PutsFront operation a (outputs_of q)) ⊎ IsRefused q) ⊎ (operation.outputs.count ≡ 0)
+          → StopsAtStart operation k a q.shelf ⊎ StopsAtAppend operation k a q.shelf
+      cut i k e far low (inl (inl begins)) = inr (at_append i k e far low begins.0 begins.1)
+      cut i k e far low (inl (inr refused)) =
+          let both : Some i ≡ Some (length q.leaves + q.started) = sym e ∙ refused.failed in
+          let same : i ≡ length q.leaves + q.started = same_Some _ _ both in
+          inl (at_start k (omega (arith, same, far)) low refused)
+      cut i k e far low (inr none) = absurd (omega (arith, low, none))
 
 -- ---- what was put
 
 -- all of it is a prefix of it
-pub front_of_all : (command : Command) (a : ShelfState) (lists : Outputs) → PutsAll command a lists → PutsFront command a lists
-front_of_all command a lists all k list low here files told = (list, ([], sym (append-nil list)), all k list low here files told)
+pub front_of_all : (operation : Operation) (a : ShelfState) (lists : Outputs) → PutsAll operation a lists → PutsFront operation a lists
+front_of_all operation a lists all k list low here files told = (list, ([], sym (append-nil list)), all k list low here files told)
 
 -- the same lists
-pub all_still : (command : Command) (a : ShelfState) (lists now : Outputs) → now ≡ lists → PutsAll command a lists → PutsAll command a now
-all_still command a lists now same all = subst (PutsAll command a) (sym same) all
+pub all_still : (operation : Operation) (a : ShelfState) (lists now : Outputs) → now ≡ lists → PutsAll operation a lists → PutsAll operation a now
+all_still operation a lists now same all = subst (PutsAll operation a) (sym same) all
 
 -- a prefix of a prefix
-pub front_still : (command : Command) (a : ShelfState) (lists now : Outputs) → PutsPart nothing lists now → PutsFront command a lists → PutsFront command a now
-front_still command a lists now part front k list low here files told = go (lists.told k) refl (subst (PrefixOf [] (lists.told k)) here (part k))
+pub front_still : (operation : Operation) (a : ShelfState) (lists now : Outputs) → PutsPart nothing lists now → PutsFront operation a lists → PutsFront operation a now
+front_still operation a lists now part front k list low here files told = go (lists.told k) refl (subst (PrefixOf [] (lists.told k)) here (part k))
   where
-    go : (was : Option (List Bool)) → lists.told k ≡ was → PrefixOf [] (lists.told k) (Some list) → IsFrontOf list (output_bytes command files k)
+    go : (was : Option (List Bool)) → lists.told k ≡ was → PrefixOf [] (lists.told k) (Some list) → IsFrontOf list (operation.bytes files k)
     go None e part = absurd (subst (λ was. PrefixOf [] was (Some list)) e part)
     go (Some before) e part =
         let cut : IsPrefix list (before ++ []) = subst (λ was. PrefixOf [] was (Some list)) e part in
         let was = front k before low e files told in
         (was.0, prefix_join list before was.0 (subst (IsPrefix list) (append-nil before) cut) was.1, was.2)
 
-module _ (command : Command) (a : ShelfState) (p : PortState) (open_for : IsOpenFor command a p) (now : Outputs) (k : ℕ) (bits list : List Bool) (here : now.told k ≡ Some list) where
+module _ (operation : Operation) (a : ShelfState) (p : PortState) (open_for : IsOpenFor operation a p) (now : Outputs) (k : ℕ) (bits list : List Bool) (here : now.told k ≡ Some list) where
   -- what was put to a list that was empty
   pub put_is : now.told k ≡ after bits ((outputs_of p).told k) → list ≡ bits
   put_is put = go ((outputs_of p).told k) refl

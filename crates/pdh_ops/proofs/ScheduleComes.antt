@@ -1,7 +1,7 @@
 -- What the step that reads a schedule finds, and the commands that begin with it.
 use Rattle.std.proofs.Common.{◌≡◌, ℕ, ◌<◌, ◌≤◌, nat_lt, List, [], Option, None, Some, Ok, Err, true, false, length, refl, ap, sym, ◌∙◌, subst, inl, inr, arith}
 use Rattle.std.specs.Option.{option_map}
-use Rattle.std.specs.Prelude.{unwrap_or, Result}
+use Rattle.std.specs.Prelude.{unwrap_or, nat_le, Result}
 use Rattle.std.proofs.lemmas.Bool.Decides.{nat_tests}
 use Rattle.pdh_edge.specs.declared.shelf.Call.TheVariants.{Read as ReadCall}
 use Rattle.pdh_edge.specs.Files.{ShelfState, WhereTold, Holds, FailsToRead}
@@ -10,19 +10,19 @@ use Rattle.pdh_clock.specs.Row.{Row}
 use Rattle.pdh_clock.specs.Judged.{schedule_of, Fails}
 use Rattle.pdh_clock.specs.declared.fault.ScheduleFault.{ScheduleFault}
 use Rattle.pdh_clock.specs.declared.fault.ScheduleFault.TheVariants.{TooLong, BadRow as RowIsBad, UnknownNode as NodeIsUnknown, CountOver as CountIsOver, Memory as NoMemory}
-use Rattle.pdh_words.specs.declared.commands.Command.{Command}
 use Rattle.pdh_answers.specs.Names.{schedule_name}
 use Rattle.pdh_answers.specs.Answer.{Answer, and_then, stop_of_fault}
 use Rattle.pdh_ops.specs.Reading.{HasLength, IsReadStop}
-use Rattle.pdh_ops.specs.Schedules.{Files, rows_of, rows_or_stop}
-use Rattle.pdh_ops.specs.Commands.{AreTold, OfInputs, inputs, comes_to, AreHeld}
-use Rattle.pdh_ops.specs.Run.{Comes, FailsInTurn, FailsEarly, is_read_in_run}
+use Rattle.pdh_ops.specs.Schedules.{rows_of, rows_or_stop, is_text_due}
+use Rattle.pdh_ops.specs.Operation.{Operation, Files, bytes_in, AreTold, OfInputs, IsReadDue, all_held}
+use Rattle.pdh_ops.specs.Run.{Comes, FailsInTurn, FailsEarly}
 use Rattle.pdh_ops.proofs.Refusing.{read_stop}
 use Rattle.pdh_ops.specs.Refusing.{Refuses}
 use Rattle.pdh_ops.specs.ScheduleSteps.{RowsAre, IsScheduleStop}
+use Rattle.pdh_answers.specs.declared.file.File.{File}
 use Rattle.pdh_answers.specs.declared.file.File.TheVariants.{Schedule}
 use Rattle.pdh_answers.specs.declared.answer.Stop.{Stop}
-use Rattle.pdh_answers.specs.declared.answer.Stop.TheVariants.{Memory, Usage, Read, Write, Missing, LongSchedule, BadRow, UnknownNode, CountOver, ShortNode, Short, Overflow, Underflow, ManyFrames, NoAlignment, NotWhole, LongScript, BadScriptRow, PastEnd}
+use Rattle.pdh_answers.specs.declared.answer.Stop.TheVariants.{Memory, Read, LongSchedule, BadRow, UnknownNode, CountOver}
 use Rattle.pdh_chain.specs.declared.chain.Chain.{Chain}
 use Rattle.pdh_chain.specs.Chains.{levels_of}
 use Rattle.pdh_shape.specs.OwnNumbers.{most_bytes}
@@ -76,58 +76,50 @@ fault_stops chain a b read (CountIsOver line count most) holds said = fault_read
 
 -- ---- a command that begins with the schedule
 
--- input k is the schedule, and all inputs are held
-pub record HasSchedule (command : Command) (k : ℕ) (a : ShelfState) : Type 0 where
-  pub known : k < (inputs command).count
-  pub named : (inputs command).name k ≡ schedule_name
-  pub held : OfInputs command a (AreHeld command (inputs command).count)
-  pub early : is_read_in_run command Schedule ≡ false
+-- its text is due where all inputs are held and it isn't too long
+pub text_due : (inputs : List File) (files : Files) → all_held inputs files ≡ Ok tt → length (bytes_in files schedule_name) ≤ most_bytes → is_text_due inputs files ≡ true
+text_due inputs files held short = let test : nat_le (length (bytes_in files schedule_name)) most_bytes ≡ true = grind (arith, nat_tests) in rw (held, test) refl
+
+-- input k is the schedule, whose text is due before the run where it isn't too long
+pub record HasSchedule (operation : Operation) (k : ℕ) (a : ShelfState) : Type 0 where
+  pub known : k < operation.inputs.count
+  pub named : operation.inputs.name k ≡ schedule_name
+  pub due : OfInputs operation a (λ files. length (bytes_in files schedule_name) ≤ most_bytes → IsReadDue operation Schedule files)
+  pub early : operation.reads_in_run Schedule ≡ false
 
 -- a call for its text failed in its turn
-text_fails : (command : Command) (k : ℕ) (a b : ShelfState) → HasSchedule command k a → FailsToRead ReadCall schedule_name a b → WhereTold (a.told schedule_name) (λ held. length (unwrap_or held []) ≤ most_bytes) → FailsInTurn command Schedule a b
-text_fails command k a b has fails short = record {
+text_fails : (operation : Operation) (k : ℕ) (a b : ShelfState) → HasSchedule operation k a → FailsToRead ReadCall schedule_name a b → WhereTold (a.told schedule_name) (λ held. length (unwrap_or held []) ≤ most_bytes) → FailsInTurn operation Schedule a b
+text_fails operation k a b has fails short = record {
   at = k;
   known = has.known;
   named = sym has.named;
-  how = inr (fails, λ files told. (has.held files told, short (files schedule_name) (subst (λ name. a.told name ≡ Known (files name)) has.named (told k has.known))));
+  how = inr (fails, λ files told. has.due files told (short (files schedule_name) (subst (λ name. a.told name ≡ Known (files name)) has.named (told k has.known))));
 }
 
 -- the text of the schedule is told, and the command comes to what its rows come to, or stops as they do
-abbrev pub Begins : (chain : Chain) → Command → (Files → List Row → Answer) → ShelfState → Type 0
-Begins chain command next a =
-    (files : Files) → AreTold command a.told files
-    → (text : List ℕ) × (a.told schedule_name ≡ Known (Some text)) × (comes_to command files ≡ and_then (rows_of chain text) (next files))
+abbrev pub Begins : (chain : Chain) → Operation → (Files → List Row → Answer) → ShelfState → Type 0
+Begins chain operation next a =
+    (files : Files) → AreTold operation a.told files
+    → (text : List ℕ) × (a.told schedule_name ≡ Known (Some text)) × (operation.comes_to files ≡ and_then (rows_of chain text) (next files))
 
-comes : (chain : Chain) (command : Command) (next : Files → List Row → Answer) (a : ShelfState) (stop : Stop) → Begins chain command next a → RowsAre chain a (Err stop) → Comes command a (Err stop)
-comes chain command next a stop begins are files told =
+comes : (chain : Chain) (operation : Operation) (next : Files → List Row → Answer) (a : ShelfState) (stop : Stop) → Begins chain operation next a → RowsAre chain a (Err stop) → Comes operation a (Err stop)
+comes chain operation next a stop begins are files told =
     let t = begins files told in
     sym (t.2 ∙ ap (λ (r : Result (List Row) Stop). and_then r (next files)) (are t.0 t.1))
 
-pub schedule_refuses : (chain : Chain) (command : Command) (next : Files → List Row → Answer) (k : ℕ) (a b : ShelfState) (stop : Stop) → Begins chain command next a → HasSchedule command k a → IsScheduleStop chain a b stop → Refuses command a b stop
-schedule_refuses chain command next k a b Memory begins has cause = tt
-schedule_refuses chain command next k a b (Read file) begins has cause =
-    subst (λ f. FailsInTurn command f a b × FailsEarly command f a b) (sym cause.0) (text_fails command k a b has cause.1 cause.2, inr has.early)
-schedule_refuses chain command next k a b LongSchedule begins has cause = comes chain command next a LongSchedule begins cause
-schedule_refuses chain command next k a b (BadRow l) begins has cause = comes chain command next a (BadRow l) begins cause
-schedule_refuses chain command next k a b (UnknownNode l) begins has cause = comes chain command next a (UnknownNode l) begins cause
-schedule_refuses chain command next k a b (CountOver l n m) begins has cause = comes chain command next a (CountOver l n m) begins cause
-schedule_refuses chain command next k a b (Missing f) begins has cause = absurd cause
-schedule_refuses chain command next k a b Usage begins has cause = absurd cause
-schedule_refuses chain command next k a b (Write f) begins has cause = absurd cause
-schedule_refuses chain command next k a b (ShortNode p h n) begins has cause = absurd cause
-schedule_refuses chain command next k a b (Short f h n) begins has cause = absurd cause
-schedule_refuses chain command next k a b (Overflow p) begins has cause = absurd cause
-schedule_refuses chain command next k a b (Underflow p) begins has cause = absurd cause
-schedule_refuses chain command next k a b (ManyFrames n) begins has cause = absurd cause
-schedule_refuses chain command next k a b (NoAlignment n) begins has cause = absurd cause
-schedule_refuses chain command next k a b (NotWhole n) begins has cause = absurd cause
-schedule_refuses chain command next k a b LongScript begins has cause = absurd cause
-schedule_refuses chain command next k a b (BadScriptRow l) begins has cause = absurd cause
-schedule_refuses chain command next k a b (PastEnd l) begins has cause = absurd cause
+pub schedule_refuses : (chain : Chain) (operation : Operation) (next : Files → List Row → Answer) (k : ℕ) (a b : ShelfState) (stop : Stop) → Begins chain operation next a → HasSchedule operation k a → IsScheduleStop chain a b stop → Refuses operation a b stop
+schedule_refuses chain operation next k a b Memory begins has cause = tt
+schedule_refuses chain operation next k a b (Read file) begins has cause =
+    subst (λ f. FailsInTurn operation f a b × FailsEarly operation f a b) (sym cause.0) (text_fails operation k a b has cause.1 cause.2, inr has.early)
+schedule_refuses chain operation next k a b LongSchedule begins has cause = comes chain operation next a LongSchedule begins cause
+schedule_refuses chain operation next k a b (BadRow l) begins has cause = comes chain operation next a (BadRow l) begins cause
+schedule_refuses chain operation next k a b (UnknownNode l) begins has cause = comes chain operation next a (UnknownNode l) begins cause
+schedule_refuses chain operation next k a b (CountOver l n m) begins has cause = comes chain operation next a (CountOver l n m) begins cause
+schedule_refuses chain operation next k a b stop begins has cause = absurd cause
 
 -- and with rows it comes to what they come to
-pub comes_on : (chain : Chain) (command : Command) (next : Files → List Row → Answer) (a : ShelfState) (rows : List Row) (files : Files) → Begins chain command next a → RowsAre chain a (Ok rows) → AreTold command a.told files →
-    comes_to command files ≡ next files rows
-comes_on chain command next a rows files begins are told =
+pub comes_on : (chain : Chain) (operation : Operation) (next : Files → List Row → Answer) (a : ShelfState) (rows : List Row) (files : Files) → Begins chain operation next a → RowsAre chain a (Ok rows) → AreTold operation a.told files →
+    operation.comes_to files ≡ next files rows
+comes_on chain operation next a rows files begins are told =
     let t = begins files told in
     t.2 ∙ ap (λ (r : Result (List Row) Stop). and_then r (next files)) (are t.0 t.1)

@@ -12,7 +12,7 @@ use Rattle.pdh_chain.proofs.Clear.{all_scheduled as all_scheduled_of}
 use Rattle.pdh_chain.proofs.ChainLaws.{are_levels_of}
 use Rattle.pdh_chain.proofs.Scheduled.{entered_small, entered_is}
 use Rattle.pdh_ops.specs.Schedules.{contents_of, frames_in}
-use Rattle.pdh_ops.specs.Mux.{line_len, short_node, bits_needed}
+use Rattle.pdh_ops.specs.Commands.Mux.{line_len, short_node, bits_needed}
 
 -- ---- no node is short
 

@@ -11,16 +11,14 @@ use Rattle.pdh_blocks.specs.Held.{IsPort}
 use Rattle.pdh_blocks.specs.laws.PortLaws.{left_is}
 use Rattle.pdh_show.specs.Shown.{shown}
 use Rattle.pdh_show.specs.Showing.{Shows}
-use Rattle.pdh_words.specs.declared.commands.Command.TheVariants.{Show}
 use Rattle.pdh_answers.specs.Names.{line_name}
-use Rattle.pdh_ops.specs.Inspect.{bytes_upto, frame_shown}
-use Rattle.pdh_ops.specs.Schedules.{Files, bytes_in}
-use Rattle.pdh_ops.specs.Commands.{AreTold}
+use Rattle.pdh_ops.specs.Commands.Inspect.{bytes_upto, frame_shown, showing}
+use Rattle.pdh_ops.specs.Operation.{AreTold, Files, bytes_in}
 use Rattle.pdh_ops.specs.Run.{Comes}
 use Rattle.pdh_ops.specs.Steps.{HasLine}
 use Rattle.pdh_ops.specs.ShowSteps.{IsShowPort}
-use Rattle.pdh_answers.specs.declared.answer.Done.TheVariants.{Shown}
 use Rattle.pdh_ops.proofs.PortRun.{all_given}
+use Rattle.pdh_answers.specs.declared.answer.Done.TheVariants.{Frame}
 
 -- a frame's bits, counted either way
 pub upto_is : (chain : Chain) (n : ℕ) → suc n * (8 * frame_bytes_of chain) ≡ 8 * bytes_upto chain n
@@ -32,12 +30,12 @@ module _ (chain : Chain) (n : ℕ) (a : ShelfState) (p q : PortState) (is : IsSh
   front files = take (8 * bytes_upto chain n) (bits_of (bytes_in files line_name))
 
   -- all of them were given
-  front_given : (files : Files) (text : List ℕ) → AreTold (Show chain n) a.told files → (shows : Shows chain n text (inputs_of p) (inputs_of q)) → shows.given ≡ front files
+  front_given : (files : Files) (text : List ℕ) → AreTold (showing chain n) a.told files → (shows : Shows chain n text (inputs_of p) (inputs_of q)) → shows.given ≡ front files
   front_given files text told shows =
       all_given ((inputs_of q).told 0) shows.given (front files) (sym (is.gives files told) ∙ shows.takes.bits 0)
       (shows.count ∙ upto_is chain n ∙ sym has.left ∙ left_is p 0 (front files) port (is.gives files told))
 
-  pub shown_comes : (text : List ℕ) → Shows chain n text (inputs_of p) (inputs_of q) → Comes (Show chain n) a (Ok (Shown text))
+  pub shown_comes : (text : List ℕ) → Shows chain n text (inputs_of p) (inputs_of q) → Comes (showing chain n) a (Ok (Frame text))
   unfolding frame_shown
   shown_comes text shows files told =
-      ap (λ (text : List ℕ). Ok (Shown text)) (shows.text_is ∙ ap (λ (bits : List Bool). shown chain n (bytes_of (drop (n * (8 * frame_bytes_of chain)) bits))) (front_given files text told shows)) ∙ sym (is.comes files told)
+      ap (λ (text : List ℕ). Ok (Frame text)) (shows.text_is ∙ ap (λ (bits : List Bool). shown chain n (bytes_of (drop (n * (8 * frame_bytes_of chain)) bits))) (front_given files text told shows)) ∙ sym (is.comes files told)

@@ -4,11 +4,10 @@ use Rattle.pdh_edge.specs.declared.shelf.Call.{Call}
 use Rattle.pdh_edge.specs.declared.shelf.Call.TheVariants.{Start as StartCall}
 use Rattle.pdh_edge.specs.Files.{ShelfState, Counts, Told, Holds, Starts, Looks, HasSize, TouchesOnly, Touches, FailsToRead, FailsToWrite, with_read_fault, with_write_fault}
 use Rattle.pdh_edge.specs.Files.Told.{Untold, Known}
-use Rattle.pdh_words.specs.declared.commands.Command.{Command}
-use Rattle.pdh_ops.specs.Commands.{outputs}
 use Rattle.pdh_ops.specs.Run.{with_stop, StopsAtStart}
 use Rattle.pdh_answers.specs.declared.answer.Stop.{Stop}
 use Rattle.pdh_ops.specs.Reading.{HasLength}
+use Rattle.pdh_ops.specs.Operation.{Operation}
 
 pub touches_none : (P : List ℕ → Type 0) (a : ShelfState) → TouchesOnly P a a
 touches_none P a = record {
@@ -39,12 +38,12 @@ pub counted_since : (x y z : Counts) (stop : Stop) → y ≡ x → z ≡ with_st
 counted_since x y z stop same counted = counted ∙ ap (with_stop stop) same
 
 -- an output of which the start failed, since an earlier state with the same files and counts
-pub starts_since : (command : Command) (k : ℕ) (a b c : ShelfState) → Looks a b → b.counts ≡ a.counts → StopsAtStart command k b c → StopsAtStart command k a c
-starts_since command k a b c looks same cut = record {
-  fails = write_fails_since StartCall ((outputs command).name k) a b c same cut.fails;
+pub starts_since : (operation : Operation) (k : ℕ) (a b c : ShelfState) → Looks a b → b.counts ≡ a.counts → StopsAtStart operation k b c → StopsAtStart operation k a c
+starts_since operation k a b c looks same cut = record {
+  fails = write_fails_since StartCall (operation.outputs.name k) a b c same cut.fails;
   before = cut.before;
-  here = elim cut.here [ inl still ↦ inl (still ∙ ap (λ (t : List ℕ → Told). t ((outputs command).name k)) looks.told) | inr none ↦ inr none ];
-  later = λ i lt low. cut.later i lt low ∙ ap (λ (t : List ℕ → Told). t ((outputs command).name i)) looks.told;
+  here = elim cut.here [ inl still ↦ inl (still ∙ ap (λ (t : List ℕ → Told). t (operation.outputs.name k)) looks.told) | inr none ↦ inr none ];
+  later = λ i lt low. cut.later i lt low ∙ ap (λ (t : List ℕ → Told). t (operation.outputs.name i)) looks.told;
 }
 
 pub looks_same : (a b : ShelfState) (name : List ℕ) → Looks a b → b.told name ≡ a.told name

@@ -1,22 +1,21 @@
 -- The steps of `disturb`: what each finds or makes.
-use Rattle.std.specs.Prelude.{◌≡◌, ℕ, ◌*◌, ◌/◌, ◌≤◌, List, Some, Result, Ok}
+use Rattle.std.specs.Prelude.{◌≡◌, ℕ, ◌*◌, ◌/◌, ◌^◌, ◌<◌, ◌≤◌, true, IsTrue, List, Some, Result, Ok}
 use Rattle.pdh_bits.specs.Bits.{bits_of}
 use Rattle.pdh_edge.specs.Files.{ShelfState}
 use Rattle.pdh_edge.specs.Files.Told.{Known}
 use Rattle.pdh_blocks.specs.State.{PortState}
-use Rattle.pdh_blocks.specs.Lists.{inputs_of}
+use Rattle.pdh_blocks.specs.Lists.{inputs_of, outputs_of}
 use Rattle.pdh_chain.specs.declared.chain.Chain.{Chain}
 use Rattle.pdh_chain.specs.Chains.{frame_bytes_of}
 use Rattle.pdh_script.specs.Scripts.{Row, FitIn}
-use Rattle.pdh_words.specs.declared.commands.Command.TheVariants.{Disturb}
 use Rattle.pdh_answers.specs.Names.{line_name, script_name}
 use Rattle.pdh_ops.specs.Reading.{HasLength}
-use Rattle.pdh_ops.specs.Schedules.{bytes_in}
-use Rattle.pdh_ops.specs.Disturb.{script_rows, script_in, bent}
-use Rattle.pdh_ops.specs.Commands.{OfInputs, comes_to}
+use Rattle.pdh_ops.specs.Commands.Disturb.{script_rows, script_in, bent, disturbing}
+use Rattle.pdh_ops.specs.Operation.{OfInputs, bytes_in}
 use Rattle.pdh_ops.specs.PortFiles.{IsOpenFor}
-use Rattle.pdh_ops.specs.declared.disturb.Sizes.{Sizes}
-use Rattle.pdh_ops.specs.declared.disturb.Plan.{Plan}
+use Rattle.pdh_ops.specs.Steps.{HasLine}
+use Rattle.pdh_ops.specs.declared.commands.disturb.Sizes.{Sizes}
+use Rattle.pdh_ops.specs.declared.commands.disturb.Plan.{Plan}
 use Rattle.pdh_answers.specs.declared.answer.Stop.{Stop}
 use Rattle.pdh_shape.specs.OwnNumbers.{most_frames}
 
@@ -40,7 +39,15 @@ pub record IsBendPlan (chain : Chain) (plan : Plan) (state : ShelfState) : Type 
 
 -- a port is open for `disturb` with these rows: its list 0 gives all bits of the line, of which this becomes
 pub record IsBendPort (chain : Chain) (rows : List Row) (old : ShelfState) (port : PortState) : Type 0 where
-  pub open_for : IsOpenFor (Disturb chain) old port
-  pub comes : OfInputs (Disturb chain) old (λ files. comes_to (Disturb chain) files ≡ bent chain (bytes_in files line_name) rows)
-  pub rows_are : OfInputs (Disturb chain) old (λ files. script_in files ≡ rows)
-  pub gives : OfInputs (Disturb chain) old (λ files. (inputs_of port).told 0 ≡ Some (bits_of (bytes_in files line_name)))
+  pub open_for : IsOpenFor (disturbing chain) old port
+  pub comes : OfInputs (disturbing chain) old (λ files. (disturbing chain).comes_to files ≡ bent chain (bytes_in files line_name) rows)
+  pub rows_are : OfInputs (disturbing chain) old (λ files. script_in files ≡ rows)
+  pub gives : OfInputs (disturbing chain) old (λ files. (inputs_of port).told 0 ≡ Some (bits_of (bytes_in files line_name)))
+
+-- a fresh port has all bits of a plan's line in list 0, and a list for what becomes of them
+pub record CanBend (plan : Plan) (port : PortState) : Type 0 where
+  pub fresh : port.fresh ≡ true
+  pub few : plan.bits < 2 ^ 63
+  pub fit : FitIn plan.bits plan.script
+  pub line : HasLine plan.bits (inputs_of port)
+  pub out : IsTrue ((outputs_of port).holds 0)

@@ -6,8 +6,8 @@ use Rattle.pdh_ops.specs.Reading.{HasLength}
 use Rattle.pdh_answers.specs.declared.file.File.TheVariants.{E1Line}
 use Rattle.pdh_ops.specs.declared.port.Input.{Input}
 use Rattle.pdh_shape.specs.OwnNumbers.{most_frames}
-use Rattle.pdh_ops.specs.E1.{unpacked_payload, counts_of}
-use Rattle.pdh_ops.specs.declared.e1.Unpacked.{Unpacked}
+use Rattle.pdh_ops.specs.Commands.E1.{unpacked_payload, counts_of}
+use Rattle.pdh_ops.specs.declared.commands.e1.Unpacked.{Unpacked}
 
 -- these are all bits of the framed line, which has no more frames than a line may have
 pub record IsFramedLine (line : Input) (state : ShelfState) : Type 0 where

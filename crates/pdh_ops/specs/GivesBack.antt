@@ -8,9 +8,8 @@ use Rattle.pdh_nesting.specs.Chains.{top_len}
 use Rattle.pdh_nesting.specs.Receiving.{far}
 use Rattle.pdh_chain.specs.Chains.{shapes_of, leaves_of}
 use Rattle.pdh_answers.specs.Names.{line_name}
-use Rattle.pdh_ops.specs.Schedules.{Files}
-use Rattle.pdh_ops.specs.Mux.{leaf_bits}
-use Rattle.pdh_ops.specs.Commands.{AreTold}
+use Rattle.pdh_ops.specs.Commands.Mux.{leaf_bits, muxing}
+use Rattle.pdh_ops.specs.Operation.{AreTold, Files}
 use Rattle.pdh_words.specs.declared.commands.Command.{Command}
 use Rattle.pdh_words.specs.declared.commands.Command.TheVariants.{Mux}
 
@@ -18,7 +17,7 @@ use Rattle.pdh_words.specs.declared.commands.Command.TheVariants.{Mux}
 -- the bits of that leaf's file.
 abbrev pub GivesBack : Option Command → ShelfState → ShelfState → ℕ → Type 0
 GivesBack (Some (Mux chain feac)) old new status =
-    (files : Files) (line : List ℕ) (leaf n : ℕ) → AreTold (Mux chain feac) old.told files → new.told line_name ≡ Known (Some line) → status ≡ 0
+    (files : Files) (line : List ℕ) (leaf n : ℕ) → AreTold (muxing chain feac) old.told files → new.told line_name ≡ Known (Some line) → status ≡ 0
     → leaf < leaves_of chain → top_len (shapes_of chain) * n ≤ length (bits_of line)
     → IsPrefix (far (shapes_of chain) (take (n * top_len (shapes_of chain)) (bits_of line)) leaf) (leaf_bits files leaf)
 GivesBack _ old new status = ⊤

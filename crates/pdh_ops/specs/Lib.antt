@@ -1,11 +1,5 @@
-pub mod Demux
+pub mod Operation
 pub mod Schedules
-pub mod Mux
-pub mod Clock
-pub mod E1
-pub mod Inspect
-pub mod Disturb
-pub mod Drill
 pub mod Commands
 pub mod Run
 pub mod Reading
@@ -22,4 +16,6 @@ pub mod Packs
 pub mod Tolerated
 pub mod InTime
 pub mod PortFiles
+pub mod Running
+pub mod LineSteps
 pub mod ShowSteps

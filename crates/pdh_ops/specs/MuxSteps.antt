@@ -1,11 +1,11 @@
 -- The steps of `mux`: what each finds, and why it stops.
-use Rattle.std.specs.Prelude.{◌≡◌, ℕ, ◌*◌, ◌<◌, ◌≤◌, List, Bool, Option, Some, None, Ok, Err, IsTrue, All, map, take, slice_index}
+use Rattle.std.specs.Prelude.{◌≡◌, ℕ, ◌*◌, ◌<◌, ◌≤◌, List, Bool, Option, Some, None, Ok, Err, true, IsTrue, IfSome, All, map, take, slice_index}
 use Rattle.std.specs.List.{range_with_len}
 use Rattle.std.specs.Option.{option_map, option_map_or}
 use Rattle.pdh_edge.specs.Files.{ShelfState}
 use Rattle.pdh_edge.specs.Ports.{Inputs}
 use Rattle.pdh_blocks.specs.State.{PortState}
-use Rattle.pdh_blocks.specs.Lists.{inputs_of}
+use Rattle.pdh_blocks.specs.Lists.{inputs_of, outputs_of}
 use Rattle.pdh_shape.specs.declared.place.Path.{Path}
 use Rattle.pdh_chain.specs.Chains.{leaves_of, levels_of}
 use Rattle.pdh_chain.specs.declared.chain.Chain.{Chain}
@@ -14,16 +14,14 @@ use Rattle.pdh_clock.specs.Contents.{IsRowOf}
 use Rattle.pdh_answers.specs.Names.{schedule_name, leaf_name}
 use Rattle.pdh_answers.specs.Answer.{Answer}
 use Rattle.pdh_ops.specs.Reading.{HasLength}
-use Rattle.pdh_ops.specs.Schedules.{Files, bytes_in, rows_of, frames_in}
-use Rattle.pdh_ops.specs.Mux.{mux_inputs, all_held, leaf_bits, short_node, stop_of_shortage, bits_needed, event_of, stop_of_event}
-use Rattle.pdh_ops.specs.Commands.{OfInputs, comes_to}
+use Rattle.pdh_ops.specs.Schedules.{rows_of, frames_in}
+use Rattle.pdh_ops.specs.Commands.Mux.{mux_inputs, leaf_bits, short_node, stop_of_shortage, bits_needed, event_of, stop_of_event, muxing, mux_says}
+use Rattle.pdh_ops.specs.Operation.{OfInputs, all_held, Files, bytes_in}
 use Rattle.pdh_ops.specs.PortFiles.{HasBits, IsOpenFor}
-use Rattle.pdh_words.specs.declared.commands.Command.TheVariants.{Mux}
 use Rattle.pdh_answers.specs.declared.file.File.TheVariants.{Leaf}
-use Rattle.pdh_ops.specs.declared.mux.InputSizes.{InputSizes}
-use Rattle.pdh_ops.specs.declared.mux.Plan.{Plan}
+use Rattle.pdh_ops.specs.declared.commands.mux.InputSizes.{InputSizes}
+use Rattle.pdh_ops.specs.declared.commands.mux.Plan.{Plan}
 use Rattle.pdh_ops.specs.declared.port.Input.{Input}
-use Rattle.pdh_answers.specs.declared.answer.Done.TheVariants.{Muxed}
 use Rattle.pdh_answers.specs.declared.answer.Stop.{Stop}
 use Rattle.pdh_answers.specs.declared.answer.Stop.TheVariants.{ShortNode, Short, ManyFrames}
 use Rattle.pdh_shape.specs.OwnNumbers.{most_frames}
@@ -35,11 +33,11 @@ pub record AreSizes (chain : Chain) (sizes : InputSizes) (state : ShelfState) : 
 
 -- all inputs are held; they are the same whatever code is sent
 abbrev pub AllHeld : Chain → ShelfState → Type 0
-AllHeld chain state = OfInputs (Mux chain None) state (λ files. all_held (mux_inputs chain) files ≡ Ok tt)
+AllHeld chain state = OfInputs (muxing chain None) state (λ files. all_held (mux_inputs chain) files ≡ Ok tt)
 
 -- the schedule has these rows
 abbrev pub HasRows : Chain → ShelfState → List Row → Type 0
-HasRows chain state rows = OfInputs (Mux chain None) state (λ files. rows_of chain (bytes_in files schedule_name) ≡ Ok rows)
+HasRows chain state rows = OfInputs (muxing chain None) state (λ files. rows_of chain (bytes_in files schedule_name) ≡ Ok rows)
 
 -- leaf k has as many bits as must enter, at least
 abbrev pub IsLong : Chain → List Row → InputSizes → ℕ → Type 0
@@ -107,7 +105,7 @@ pub record IsPlanned (chain : Chain) (plan : Plan) (state : ShelfState) : Type 0
 
 -- what a line that nothing refuses before its run comes to: its first event, or all its frames
 abbrev pub run_answer : Chain → List Row → Answer
-run_answer chain rows = option_map_or (λ event. Err (stop_of_event event)) (event_of chain rows) (Ok (Muxed chain (frames_in rows)))
+run_answer chain rows = option_map_or (λ event. Err (stop_of_event event)) (event_of chain rows) (Ok (mux_says chain (frames_in rows)))
 
 -- the bits of leaf k's file that enter
 abbrev pub entering : Chain → List Row → Files → ℕ → List Bool
@@ -115,7 +113,15 @@ entering chain rows files k = take (bits_needed chain rows k) (leaf_bits files k
 
 -- a port is open for `mux` with these rows: its lists give the bits that enter
 pub record IsMuxPort (chain : Chain) (feac : Option ℕ) (rows : List Row) (old : ShelfState) (port : PortState) : Type 0 where
-  pub open_for : IsOpenFor (Mux chain feac) old port
+  pub open_for : IsOpenFor (muxing chain feac) old port
   pub rows_are : HasRows chain old rows
-  pub comes : OfInputs (Mux chain feac) old (λ files. comes_to (Mux chain feac) files ≡ run_answer chain rows)
-  pub gives : OfInputs (Mux chain feac) old (λ files. (k : ℕ) → k < leaves_of chain → (inputs_of port).told k ≡ Some (entering chain rows files k))
+  pub comes : OfInputs (muxing chain feac) old (λ files. (muxing chain feac).comes_to files ≡ run_answer chain rows)
+  pub gives : OfInputs (muxing chain feac) old (λ files. (k : ℕ) → k < leaves_of chain → (inputs_of port).told k ≡ Some (entering chain rows files k))
+
+-- a fresh port can send the line of a plan with this code, and has a list for it
+pub record CanMake (chain : Chain) (feac : Option ℕ) (plan : Plan) (port : PortState) : Type 0 where
+  pub fresh : port.fresh ≡ true
+  pub levels : plan.clock.levels ≡ levels_of chain
+  pub code : IfSome feac (λ code. code < 64)
+  pub sends : CanSend chain plan.clock.rows plan.frames (inputs_of port)
+  pub line : IsTrue ((outputs_of port).holds 0)

@@ -9,10 +9,9 @@ use Rattle.pdh_blocks.specs.Lists.{outputs_of}
 use Rattle.pdh_blocks.specs.Held.{AllDiffer}
 use Rattle.pdh_blocks.specs.declared.source.Source.{Source}
 use Rattle.pdh_blocks.specs.Opened.{HasBytesFor, unread_leaf}
-use Rattle.pdh_words.specs.declared.commands.Command.{Command}
 use Rattle.pdh_answers.specs.Names.{name_of}
-use Rattle.pdh_ops.specs.Commands.{inputs, outputs, output_bytes, OfInputs, IsReadDue}
-use Rattle.pdh_ops.specs.Run.{GoesOn, is_read_in_run}
+use Rattle.pdh_ops.specs.Operation.{Operation, OfInputs, IsReadDue}
+use Rattle.pdh_ops.specs.Run.{GoesOn}
 use Rattle.pdh_answers.specs.declared.file.File.{File}
 use Rattle.pdh_ops.specs.declared.port.Input.{Input}
 use Rattle.pdh_answers.specs.declared.answer.Stop.{Stop}
@@ -81,35 +80,35 @@ IsStopOf reads writes port stop = (i : ℕ) → port.failed ≡ Some i → IsSto
 -- ---- a port of a command
 
 -- The files that a port reads are inputs of a command, read in its run, and due there.
-pub record AreRead (command : Command) (old : ShelfState) (reads : List Input) : Type 0 where
-  pub input : (k : ℕ) (input : Input) → slice_get reads k ≡ Some input → (at : ℕ) × (at < (inputs command).count) × (input_name input ≡ (inputs command).name at)
-  pub in_run : (k : ℕ) (input : Input) → slice_get reads k ≡ Some input → is_read_in_run command input.file ≡ true
-  pub due : (k : ℕ) (input : Input) → slice_get reads k ≡ Some input → OfInputs command old (IsReadDue command input.file)
+pub record AreRead (operation : Operation) (old : ShelfState) (reads : List Input) : Type 0 where
+  pub input : (k : ℕ) (input : Input) → slice_get reads k ≡ Some input → (at : ℕ) × (at < operation.inputs.count) × (input_name input ≡ operation.inputs.name at)
+  pub in_run : (k : ℕ) (input : Input) → slice_get reads k ≡ Some input → operation.reads_in_run input.file ≡ true
+  pub due : (k : ℕ) (input : Input) → slice_get reads k ≡ Some input → OfInputs operation old (IsReadDue operation input.file)
 
 -- a port writes the outputs of a command
-pub record WritesOutputs (command : Command) (port : PortState) : Type 0 where
-  pub count : length port.outputs ≡ (outputs command).count
-  pub named : (k : ℕ) → k < (outputs command).count → slice_get (output_names port) k ≡ Some ((outputs command).name k)
+pub record WritesOutputs (operation : Operation) (port : PortState) : Type 0 where
+  pub count : length port.outputs ≡ operation.outputs.count
+  pub named : (k : ℕ) → k < operation.outputs.count → slice_get (output_names port) k ≡ Some (operation.outputs.name k)
 
 -- A fresh port is open for a command, whose steps before it have looked at the files: none of them refuses.
-pub record IsOpenFor (command : Command) (old : ShelfState) (port : PortState) : Type 0 where
+pub record IsOpenFor (operation : Operation) (old : ShelfState) (port : PortState) : Type 0 where
   pub looks : Looks old port.shelf
   pub same : port.shelf.counts ≡ old.counts
-  pub goes_on : GoesOn command old
-  pub writes : WritesOutputs command port
+  pub goes_on : GoesOn operation old
+  pub writes : WritesOutputs operation port
   pub fresh : port.fresh ≡ true
   pub unread : port.feed_faults ≡ 0
   pub unwritten : port.drain_faults ≡ 0
   pub empty : (k : ℕ) (list : List Bool) → (outputs_of port).told k ≡ Some list → list ≡ []
 
 -- what the lists of a command's outputs took makes all their bytes, where the inputs are told
-abbrev pub PutsAll : Command → ShelfState → Outputs → Type 0
-PutsAll command old lists = (k : ℕ) (list : List Bool) → k < (outputs command).count → lists.told k ≡ Some list → OfInputs command old (λ files. bytes_of list ≡ output_bytes command files k)
+abbrev pub PutsAll : Operation → ShelfState → Outputs → Type 0
+PutsAll operation old lists = (k : ℕ) (list : List Bool) → k < operation.outputs.count → lists.told k ≡ Some list → OfInputs operation old (λ files. bytes_of list ≡ operation.bytes files k)
 
 -- a list is a prefix of bits that make these bytes
 abbrev pub IsFrontOf : List Bool → List ℕ → Type 0
 IsFrontOf list bytes = (whole : List Bool) × IsPrefix list whole × (bytes_of whole ≡ bytes)
 
 -- what they took is a prefix of what makes all their bytes
-abbrev pub PutsFront : Command → ShelfState → Outputs → Type 0
-PutsFront command old lists = (k : ℕ) (list : List Bool) → k < (outputs command).count → lists.told k ≡ Some list → OfInputs command old (λ files. IsFrontOf list (output_bytes command files k))
+abbrev pub PutsFront : Operation → ShelfState → Outputs → Type 0
+PutsFront operation old lists = (k : ℕ) (list : List Bool) → k < operation.outputs.count → lists.told k ≡ Some list → OfInputs operation old (λ files. IsFrontOf list (operation.bytes files k))

@@ -1,23 +1,24 @@
 -- Why a step of a command stops before its outputs.
 use Rattle.std.specs.Prelude.{⊤, Err}
 use Rattle.pdh_edge.specs.Files.{ShelfState}
-use Rattle.pdh_words.specs.declared.commands.Command.{Command}
-use Rattle.pdh_words.specs.declared.commands.Command.TheVariants.{InspectE1, E1Unpack}
 use Rattle.pdh_ops.specs.Run.{Comes, FailsInTurn, FailsEarly}
 use Rattle.pdh_answers.specs.declared.answer.Stop.{Stop}
 use Rattle.pdh_answers.specs.declared.answer.Stop.TheVariants.{Memory, Usage, Read, Write, Overflow, Underflow, NoAlignment}
+use Rattle.pdh_ops.specs.Commands.Inspect.{inspecting_e1}
+use Rattle.pdh_ops.specs.Commands.E1.{unpacking}
+use Rattle.pdh_ops.specs.Operation.{Operation}
 
 -- memory is wanting, a call failed to read in its turn and before the run, or the inputs come to this stop
-abbrev pub Refuses : Command → ShelfState → ShelfState → Stop → Type 0
-Refuses command old new Memory = ⊤
-Refuses command old new Usage = ⊥
-Refuses command old new (Read file) = FailsInTurn command file old new × FailsEarly command file old new
-Refuses command old new (Write file) = ⊥
-Refuses command old new (Overflow place) = ⊥
-Refuses command old new (Underflow place) = ⊥
-Refuses command old new (NoAlignment bits) = ⊥
-Refuses command old new stop = Comes command old (Err stop)
+abbrev pub Refuses : Operation → ShelfState → ShelfState → Stop → Type 0
+Refuses operation old new Memory = ⊤
+Refuses operation old new Usage = ⊥
+Refuses operation old new (Read file) = FailsInTurn operation file old new × FailsEarly operation file old new
+Refuses operation old new (Write file) = ⊥
+Refuses operation old new (Overflow place) = ⊥
+Refuses operation old new (Underflow place) = ⊥
+Refuses operation old new (NoAlignment bits) = ⊥
+Refuses operation old new stop = Comes operation old (Err stop)
 
 -- the framed line is refused, whichever command reads it
 abbrev pub RefusesFramed : ShelfState → ShelfState → Stop → Type 0
-RefusesFramed old new stop = Refuses E1Unpack old new stop × Refuses InspectE1 old new stop
+RefusesFramed old new stop = Refuses unpacking old new stop × Refuses inspecting_e1 old new stop

@@ -15,12 +15,13 @@ use Rattle.pdh_chain.specs.Saying.{says_of}
 use Rattle.pdh_script.specs.Scripts.{Change, Row, end_of}
 use Rattle.pdh_script.specs.Scripts.Change.{Flip, Ones, Zeros, Drop, Add}
 use Rattle.pdh_answers.specs.Names.{name_of, line_file, line_name, bent_name, output_name}
-use Rattle.pdh_ops.specs.Schedules.{Files, bytes_in, rows_in}
-use Rattle.pdh_ops.specs.Mux.{leaf_bits, line_len}
-use Rattle.pdh_ops.specs.Disturb.{script_in}
-use Rattle.pdh_ops.specs.Commands.{AreTold}
+use Rattle.pdh_ops.specs.Schedules.{rows_in}
+use Rattle.pdh_ops.specs.Commands.Mux.{leaf_bits, line_len, muxing}
+use Rattle.pdh_ops.specs.Commands.Disturb.{script_in, disturbing}
+use Rattle.pdh_ops.specs.Operation.{AreTold, Files, bytes_in}
 use Rattle.pdh_words.specs.declared.commands.Command.{Command}
 use Rattle.pdh_words.specs.declared.commands.Command.TheVariants.{Mux, Disturb, Demux}
+use Rattle.pdh_ops.specs.Commands.Demux.{demuxing}
 
 -- ---- the line that was sent
 
@@ -58,13 +59,13 @@ end_from place (row ∷ rows) = end_from (end_of row) rows
 -- the way to a leaf is quiet, that leaf's output rejoins what the leaf sent.
 abbrev pub AreRejoined : Option Command → ShelfState → ShelfState → ℕ → Type 0
 AreRejoined (Some (Mux chain feac)) old new status =
-    (files : Files) (line : List ℕ) → AreTold (Mux chain feac) old.told files → new.told line_name ≡ Known (Some line) → status ≡ 0
+    (files : Files) (line : List ℕ) → AreTold (muxing chain feac) old.told files → new.told line_name ≡ Known (Some line) → status ≡ 0
     → IsSentLine chain feac files line
 AreRejoined (Some (Disturb chain)) old new status =
-    (files : Files) (line : List ℕ) → AreTold (Disturb chain) old.told files → new.told bent_name ≡ Known (Some line) → status ≡ 0
+    (files : Files) (line : List ℕ) → AreTold (disturbing chain) old.told files → new.told bent_name ≡ Known (Some line) → status ≡ 0
     → RejoinsList (bits_of line) (bits_of (bytes_in files line_name)) (made_from 0 (script_in files)) (end_from 0 (script_in files))
 AreRejoined (Some (Demux chain bits)) old new status =
-    (files : Files) (output : List ℕ) (leaf : ℕ) → AreTold (Demux chain bits) old.told files → new.told (output_name leaf) ≡ Known (Some output) → status ≡ 0
+    (files : Files) (output : List ℕ) (leaf : ℕ) → AreTold (demuxing chain bits) old.told files → new.told (output_name leaf) ≡ Known (Some output) → status ≡ 0
     → leaf < leaves_of chain → LeafComesBack (shapes_of chain) (bits_of (bytes_in files (name_of (line_file bits)))) leaf (bits_of output)
 AreRejoined _ old new status = ⊤
 

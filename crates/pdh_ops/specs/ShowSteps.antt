@@ -6,13 +6,12 @@ use Rattle.pdh_blocks.specs.State.{PortState}
 use Rattle.pdh_blocks.specs.Lists.{inputs_of}
 use Rattle.pdh_chain.specs.declared.chain.Chain.{Chain}
 use Rattle.pdh_chain.specs.Chains.{frame_bytes_of}
-use Rattle.pdh_words.specs.declared.commands.Command.TheVariants.{Show}
 use Rattle.pdh_answers.specs.Names.{line_name}
 use Rattle.pdh_ops.specs.Reading.{HasLength}
-use Rattle.pdh_ops.specs.Schedules.{bytes_in}
-use Rattle.pdh_ops.specs.Inspect.{bytes_upto, frame_shown}
-use Rattle.pdh_ops.specs.Commands.{OfInputs, comes_to}
+use Rattle.pdh_ops.specs.Commands.Inspect.{bytes_upto, frame_shown, showing}
+use Rattle.pdh_ops.specs.Operation.{OfInputs, bytes_in}
 use Rattle.pdh_ops.specs.PortFiles.{IsOpenFor}
+use Rattle.pdh_ops.specs.Steps.{HasLine}
 use Rattle.pdh_shape.specs.OwnNumbers.{most_frames}
 
 -- the line has no more frames than a line may have, and frame n whole
@@ -24,6 +23,11 @@ pub record HasFrame (chain : Chain) (n : ℕ) (state : ShelfState) : Type 0 wher
 
 -- a port is open for `show` of frame n: its list 0 gives the bits of the line up to the end of that frame
 pub record IsShowPort (chain : Chain) (n : ℕ) (old : ShelfState) (port : PortState) : Type 0 where
-  pub open_for : IsOpenFor (Show chain n) old port
-  pub comes : OfInputs (Show chain n) old (λ files. comes_to (Show chain n) files ≡ frame_shown chain n (bytes_in files line_name))
-  pub gives : OfInputs (Show chain n) old (λ files. (inputs_of port).told 0 ≡ Some (take (8 * bytes_upto chain n) (bits_of (bytes_in files line_name))))
+  pub open_for : IsOpenFor (showing chain n) old port
+  pub comes : OfInputs (showing chain n) old (λ files. (showing chain n).comes_to files ≡ frame_shown chain n (bytes_in files line_name))
+  pub gives : OfInputs (showing chain n) old (λ files. (inputs_of port).told 0 ≡ Some (take (8 * bytes_upto chain n) (bits_of (bytes_in files line_name))))
+
+-- a port has the line up to the end of a frame, whose number has at most nine digits
+pub record CanShow (chain : Chain) (n : ℕ) (port : PortState) : Type 0 where
+  pub known : n ≤ 999999999
+  pub line : HasLine (8 * bytes_upto chain n) (inputs_of port)

@@ -1,21 +1,19 @@
 -- The steps of `demux`: what each makes, and why it stops.
-use Rattle.std.specs.Prelude.{◌≡◌, ℕ, ◌*◌, ◌/◌, ◌≤◌, List, Some, Err, IsTrue, map}
+use Rattle.std.specs.Prelude.{◌≡◌, ℕ, ◌*◌, ◌/◌, ◌^◌, ◌<◌, ◌≤◌, true, List, Some, Err, IsTrue, map}
 use Rattle.std.specs.List.{range_with_len}
 use Rattle.pdh_bits.specs.Bits.{bits_of}
 use Rattle.pdh_edge.specs.Files.{ShelfState, WhereTold, FailsToRead}
 use Rattle.pdh_edge.specs.declared.shelf.Call.TheVariants.{Size as SizeCall}
 use Rattle.pdh_edge.specs.Ports.{Inputs}
 use Rattle.pdh_blocks.specs.State.{PortState}
-use Rattle.pdh_blocks.specs.Lists.{inputs_of}
+use Rattle.pdh_blocks.specs.Lists.{inputs_of, outputs_of}
 use Rattle.pdh_chain.specs.Chains.{leaves_of, frame_bytes_of}
 use Rattle.pdh_chain.specs.declared.chain.Chain.{Chain}
 use Rattle.pdh_words.specs.declared.commands.Bits.{Bits}
-use Rattle.pdh_words.specs.declared.commands.Command.TheVariants.{Demux}
 use Rattle.pdh_answers.specs.Names.{name_of, line_file}
 use Rattle.pdh_ops.specs.Reading.{HasLength}
-use Rattle.pdh_ops.specs.Schedules.{bytes_in}
-use Rattle.pdh_ops.specs.Demux.{line_of, demuxed}
-use Rattle.pdh_ops.specs.Commands.{OfInputs, comes_to}
+use Rattle.pdh_ops.specs.Commands.Demux.{line_of, demuxed, demuxing}
+use Rattle.pdh_ops.specs.Operation.{OfInputs, bytes_in}
 use Rattle.pdh_ops.specs.PortFiles.{IsOpenFor}
 use Rattle.pdh_answers.specs.declared.file.File.{File}
 use Rattle.pdh_answers.specs.declared.file.File.TheVariants.{Output}
@@ -38,14 +36,17 @@ pub record IsLine (chain : Chain) (line : Input) (state : ShelfState) : Type 0 w
   pub long : HasLength (name_of line.file) bytes state
   pub few : bytes / frame_bytes_of chain ≤ most_frames
 
--- it is the file of a line
-abbrev pub IsLineFile : File → Type 0
-IsLineFile file = (bits : Bits) × (file ≡ line_file bits)
-
 -- list 0 has so many bits
 pub record HasLine (bits : ℕ) (inputs : Inputs) : Type 0 where
   pub holds : IsTrue (inputs.holds 0)
   pub left : inputs.left 0 ≡ bits
+
+-- a fresh port has so many bits of a line in list 0, and a list for each leaf
+pub record CanReceive (chain : Chain) (bits : ℕ) (port : PortState) : Type 0 where
+  pub fresh : port.fresh ≡ true
+  pub few : bits < 2 ^ 63
+  pub line : HasLine bits (inputs_of port)
+  pub leaves : (k : ℕ) → k < leaves_of chain → IsTrue ((outputs_of port).holds k)
 
 -- each leaf has its output
 abbrev pub AreLeafOutputs : Chain → List File → Type 0
@@ -53,7 +54,7 @@ AreLeafOutputs chain writes = writes ≡ map Output (range_with_len 0 (leaves_of
 
 -- A port is open for `demux` of a line: its list 0 gives all bits of the line, which isn't refused.
 pub record IsDemuxPort (chain : Chain) (bits : Bits) (line : Input) (old : ShelfState) (port : PortState) : Type 0 where
-  pub open_for : IsOpenFor (Demux chain bits) old port
+  pub open_for : IsOpenFor (demuxing chain bits) old port
   pub file_is : line.file ≡ line_file bits
-  pub comes : OfInputs (Demux chain bits) old (λ files. comes_to (Demux chain bits) files ≡ demuxed chain (bytes_in files (name_of line.file)))
-  pub gives : OfInputs (Demux chain bits) old (λ files. (inputs_of port).told 0 ≡ Some (bits_of (bytes_in files (name_of line.file))))
+  pub comes : OfInputs (demuxing chain bits) old (λ files. (demuxing chain bits).comes_to files ≡ demuxed chain (bytes_in files (name_of line.file)))
+  pub gives : OfInputs (demuxing chain bits) old (λ files. (inputs_of port).told 0 ≡ Some (bits_of (bytes_in files (name_of line.file))))

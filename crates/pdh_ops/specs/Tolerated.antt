@@ -10,10 +10,11 @@ use Rattle.pdh_clock.specs.Contents.{counts, frame_count}
 use Rattle.pdh_chain.specs.Chains.{shapes_of, leaves_of, delay_of}
 use Rattle.pdh_chain.specs.declared.chain.Chain.{Chain}
 use Rattle.pdh_answers.specs.Names.{line_name}
-use Rattle.pdh_ops.specs.Schedules.{Files, rows_in}
-use Rattle.pdh_ops.specs.Commands.{AreTold}
+use Rattle.pdh_ops.specs.Schedules.{rows_in}
+use Rattle.pdh_ops.specs.Operation.{AreTold, Files}
 use Rattle.pdh_words.specs.declared.commands.Command.{Command}
 use Rattle.pdh_words.specs.declared.commands.Command.TheVariants.{Mux}
+use Rattle.pdh_ops.specs.Commands.Mux.{muxing}
 
 -- each tributary of each node is within the tolerance over all frames of its node
 abbrev pub AreWithin : Chain → Files → Type 0
@@ -21,14 +22,14 @@ AreWithin chain files = AllTolerated (shapes_of chain) (counts (rows_in chain fi
 
 -- then no store overflows or underflows
 abbrev pub HasNoEvent : Option Command → ShelfState → ℕ → Type 0
-HasNoEvent (Some (Mux chain feac)) old status = (files : Files) → AreTold (Mux chain feac) old.told files → AreWithin chain files → status ≢ 8
+HasNoEvent (Some (Mux chain feac)) old status = (files : Files) → AreTold (muxing chain feac) old.told files → AreWithin chain files → status ≢ 8
 HasNoEvent _ old status = ⊤
 
 -- and a receiver that has the first n frames of the line has got of each leaf all bits that these frames enter but as many
 -- as the delay of the chain at most
 abbrev pub IsDelayed : Option Command → ShelfState → ShelfState → ℕ → Type 0
 IsDelayed (Some (Mux chain feac)) old new status =
-    (files : Files) (line : List ℕ) (leaf n : ℕ) → AreTold (Mux chain feac) old.told files → AreWithin chain files → new.told line_name ≡ Known (Some line) → status ≡ 0
+    (files : Files) (line : List ℕ) (leaf n : ℕ) → AreTold (muxing chain feac) old.told files → AreWithin chain files → new.told line_name ≡ Known (Some line) → status ≡ 0
     → leaf < leaves_of chain → top_len (shapes_of chain) * n ≤ length (bits_of line)
     → entered_below (shapes_of chain) (counts (rows_in chain files)) [] (n * top_len (shapes_of chain)) leaf
     ≤ length (far (shapes_of chain) (take (n * top_len (shapes_of chain)) (bits_of line)) leaf) + delay_of chain

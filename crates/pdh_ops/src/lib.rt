@@ -3,22 +3,17 @@
 //! text, and the monitors.
 #![tactic(auto)]
 
-mod clock;
-mod demux;
-mod disturb;
-mod drill;
-mod e1;
+mod commands;
 mod files;
-mod inspect;
 pub mod laws;
 mod leaf;
 mod line;
-mod mux;
 mod never_failing;
 mod port;
 mod program;
+mod running;
 mod schedule;
-mod show;
+mod texts;
 
 pub use never_failing::run_never_failing;
 pub use program::{Ran, run};

@@ -1,28 +1,19 @@
 //! `run`: the words to a command, the command to its answer, and the answer to its text and status.
 
-ghost use Rattle.std.specs.Prelude.{◌≡◌, map};
+ghost use Rattle.std.specs.Prelude.{map};
 ghost use Rattle.std.specs.String.{string_bytes};
 ghost use Rattle.pdh_words.specs.Commands.{command_of};
-ghost use Rattle.pdh_ops.specs.Run.{Does, Watches, Runs, Completes};
+ghost use Rattle.pdh_ops.specs.Run.{Runs, Completes};
 ghost use Rattle.pdh_ops.specs.GivesBack.{GivesBack};
 ghost use Rattle.pdh_ops.specs.Rejoined.{AreRejoined};
 ghost use Rattle.pdh_ops.specs.Packs.{Packs};
 ghost use Rattle.pdh_ops.specs.Tolerated.{HasNoEvent, IsDelayed};
 ghost use Rattle.pdh_ops.specs.InTime.{AreInTime};
 
-use crate::clock::{check, make};
-use crate::demux::demux;
-use crate::disturb::disturb;
-use crate::drill::drill;
-use crate::e1::{e1pack, e1unpack};
-use crate::inspect::{inspect, inspect_e1};
-use crate::mux::mux;
-use crate::port::Ended;
-use crate::show::show;
-use pdh_answers::{Done, Stop, report};
+use crate::commands::answer;
+use pdh_answers::report;
 use pdh_edge::{Shelf, Sink};
 use pdh_watch::Monitor;
-use pdh_words::{Command, command};
 use std::alloc::Global;
 
 /// What a run answers: the program's status, and the shelf and the sink that it was handed.
@@ -31,54 +22,6 @@ pub struct Ran<S, K> {
     pub status: u8,
     pub shelf: S,
     pub out: K,
-}
-
-// Does what the words command.
-fn answer<S: Shelf>(
-    alloc: Global,
-    words: &[String],
-    mut shelf: S,
-    monitors: &mut Vec<Box<dyn Monitor>>,
-) -> Ended<S>
-    ensures does { Does (command_of (map string_bytes words.now)) (S.state shelf) (S.state result.shelf) result.answer }
-    ensures watches { Watches (command_of (map string_bytes words.now)) (S.state shelf) (S.state result.shelf) result.answer (map ⟦<Box<dyn Monitor> as Monitor>⟧.state monitors.old.items) (map ⟦<Box<dyn Monitor> as Monitor>⟧.state monitors.new.items) }
-{
-    let Some(command) = command(words) else {
-        return Ended::new(shelf, Err(Stop::Usage));
-    };
-    match command {
-        Command::Demux { chain, bits } => demux(alloc, chain, bits, shelf),
-        Command::Mux { chain, feac } => mux(alloc, chain, feac, shelf),
-        Command::Inspect { chain, bits } => inspect(alloc, chain, bits, shelf, monitors),
-        Command::InspectE1 => inspect_e1(alloc, shelf, monitors),
-        Command::Show { chain, frame } => show(alloc, chain, frame, shelf),
-        Command::Disturb { chain } => disturb(alloc, chain, shelf),
-        Command::ClockCheck { chain } => {
-            let answer = check(alloc, chain, &mut shelf);
-            Ended::new(shelf, answer)
-        }
-        Command::ClockMake {
-            chain,
-            frames,
-            bias,
-        } => {
-            let answer = make(alloc, chain, frames, bias, &mut shelf);
-            Ended::new(shelf, answer)
-        }
-        Command::E1Pack => {
-            let answer = e1pack(alloc, &mut shelf);
-            Ended::new(shelf, answer)
-        }
-        Command::E1Unpack => {
-            let answer = e1unpack(alloc, &mut shelf);
-            Ended::new(shelf, answer)
-        }
-        Command::Drill {
-            chain,
-            seed,
-            frames,
-        } => Ended::new(shelf, drill(alloc, chain, seed, frames)),
-    }
 }
 
 /// Does all that the program does with its words (without its own name), over a shelf of files and

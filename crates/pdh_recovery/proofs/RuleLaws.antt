@@ -9,9 +9,10 @@ use Rattle.pdh_shape.specs.declared.role.Marks.{Marks}
 use Rattle.pdh_shape.specs.declared.role.Role.{Role}
 use Rattle.pdh_shape.specs.declared.role.Duty.{Duty}
 use Rattle.pdh_shape.specs.declared.role.Service.{Service}
-use Rattle.pdh_shape.specs.declared.set_plan.SetPlan.{SetPlan}
+use Rattle.pdh_eframes.specs.declared.set_plan.SetPlan.{SetPlan}
 use Rattle.pdh_shape.specs.Frame.{clean}
-use Rattle.pdh_shape.specs.Sets.{in_sets, signal_wrong, four_wrong, e2, e3, e4, e2_signal, e4_signal, e2_plan, e3_plan, e4_plan}
+use Rattle.pdh_eframes.specs.Sets.{in_sets, signal_wrong, four_wrong}
+use Rattle.pdh_eframes.specs.Plans.{e2, e3, e4, e2_signal, e4_signal, e2_plan, e3_plan, e4_plan}
 use Rattle.pdh_ds.specs.declared.loss.LossRule.{LossRule}
 use Rattle.pdh_ds.specs.declared.block_plan.BlockPlan.{BlockPlan}
 use Rattle.pdh_ds.specs.Loss.{IsLossRule, is_wrong, wrong_of_two, wrong_in, ends_wrong, window_wrong}

@@ -6,8 +6,9 @@ use Rattle.std.specs.List.{range_with_len, list_all}
 use Rattle.std.proofs.lemmas.Bool.{eqb-true}
 use Rattle.std.proofs.lemmas.List.{take-append-drop, drop-drop, append-nil, get_or-take}
 use Rattle.pdh_shape.specs.Frame.{is_right, wrong, breaks, breaks_at}
-use Rattle.pdh_shape.specs.Sets.{e3, set_role, set_mark, four_wrong}
-use Rattle.pdh_shape.specs.laws.E3Laws.{e3_is_frame}
+use Rattle.pdh_eframes.specs.Sets.{set_role, set_mark, four_wrong}
+use Rattle.pdh_eframes.specs.Plans.{e3}
+use Rattle.pdh_eframes.specs.laws.E3Laws.{e3_is_frame}
 use Rattle.pdh_line.specs.Least.{least_below}
 use Rattle.pdh_line.specs.Tracking.{frame_of, is_found, is_lost, delivered, gap_of, completes_loss}
 use Rattle.pdh_line.proofs.Ranges.{and_true, list_all-at, list_all-range}

@@ -4,9 +4,10 @@ use Rattle.std.proofs.Common.{◌≡◌, ℕ, ◌+◌, ◌-◌, ◌*◌, ◌%◌
 use Rattle.std.specs.List.{range_with_len, list_all}
 use Rattle.std.proofs.lemmas.Bool.{eqb-true, cases_lt}
 use Rattle.pdh_shape.specs.Frame.{is_right, wrong}
-use Rattle.pdh_shape.specs.Sets.{e2, set_role, set_mark, four_wrong}
-use Rattle.pdh_shape.specs.laws.E2Laws.{e2_is_frame}
-use Rattle.pdh_shape.proofs.Worked.{zeros_frame}
+use Rattle.pdh_eframes.specs.Sets.{set_role, set_mark, four_wrong}
+use Rattle.pdh_eframes.specs.Plans.{e2}
+use Rattle.pdh_eframes.specs.laws.E2Laws.{e2_is_frame}
+use Rattle.pdh_eframes.proofs.Worked.{zeros_frame}
 use Rattle.pdh_line.specs.Least.{least_below}
 use Rattle.pdh_line.specs.Tracking.{frame_of, track, track_within, one_search, is_lost, after_loss, delivered, gap_of, completes_loss}
 use Rattle.pdh_line.specs.Tracking.Piece.{Delivered}

@@ -3,7 +3,7 @@ ghost use Rattle.std.specs.Prelude.{◌≡◌, ◌<◌, ◌≤◌, ℕ, ◌+◌,
 ghost use Rattle.pdh_shape.specs.declared.role.Service.{Service as Say};
 ghost use Rattle.pdh_shape.specs.Frame.{FrameShape, IsFrame, is_right};
 ghost use Rattle.pdh_shape.specs.Tributary.{HasTributaries};
-ghost use Rattle.pdh_shape.specs.Sets.{e2, e3, e4};
+ghost use Rattle.pdh_eframes.specs.Plans.{e2, e3, e4};
 ghost use Rattle.pdh_ds.specs.Plans.{ds2, ds3, ds3c};
 ghost use Rattle.pdh_line.specs.Tracking.{frame_of, frames_in};
 ghost use Rattle.pdh_line.specs.Receiving.{received};

@@ -10,4 +10,3 @@ pub mod EmptyTurns
 pub mod AssemblyLaws
 pub mod MadeLaws
 pub mod TakingLaws
-pub mod Worked

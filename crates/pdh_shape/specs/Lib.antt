@@ -4,5 +4,4 @@ pub mod Tributary
 pub mod Payload
 pub mod Walk
 pub mod KeptLaws
-pub mod Sets
 pub mod laws

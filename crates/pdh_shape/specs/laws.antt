@@ -2,6 +2,3 @@
 pub mod Ranges
 pub mod Walks
 pub mod LawsOfTest
-pub mod E2Laws
-pub mod E3Laws
-pub mod E4Laws

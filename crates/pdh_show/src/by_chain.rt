@@ -10,7 +10,7 @@ use crate::stop::ShowStop;
 use pdh_chain::Chain;
 use pdh_ds::{Ds2, Ds3, Ds3C};
 use pdh_edge::Feed;
-use pdh_shape::{E2, E3, E4};
+use pdh_eframes::{E2, E3, E4};
 use std::alloc::Global;
 
 /// The text that shows the frame of this number, counted from 0, of the top of a chain's line, which list 0 of a feed gives:

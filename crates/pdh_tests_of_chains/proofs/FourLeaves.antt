@@ -5,7 +5,7 @@ use Rattle.std.proofs.lemmas.Bool.{cases_lt}
 use Rattle.std.proofs.lemmas.Bool.Decides.{nat_tests}
 use Rattle.pdh_shape.specs.declared.place.Level.{Level}
 use Rattle.pdh_shape.specs.declared.place.Path.{Path}
-use Rattle.pdh_shape.specs.Sets.{e2}
+use Rattle.pdh_eframes.specs.Plans.{e2}
 use Rattle.pdh_line.specs.Sending.{shape_numbers}
 use Rattle.pdh_tx.specs.Meaning.{HasNumbers, IsNodeOf}
 use Rattle.pdh_tests_of_chains.specs.FourLeaves.{four_leaves}

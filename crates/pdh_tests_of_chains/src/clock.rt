@@ -2,8 +2,8 @@
 
 ghost use Rattle.std.specs.Prelude.{◌<◌};
 
+use pdh_chain::{DS2_LOCKED_LEVEL, DS3_LOCKED_LEVEL, E2_LEVEL, E3_LEVEL, E4_LEVEL};
 use pdh_clock::{Bias, Outside, Schedule, ScheduleFault, Short};
-use pdh_levels::{DS2_LOCKED_LEVEL, DS3_LOCKED_LEVEL, E2_LEVEL, E3_LEVEL, E4_LEVEL};
 use pdh_shape::{Level, MOST_BYTES, Path, TOP};
 use std::alloc::Global;
 use std::process::Abort;

@@ -1,17 +1,18 @@
 //! A multiplexer of leaves that give zeros.
 
 ghost use Rattle.std.specs.Prelude.{◌≡◌, ◌<◌, ℕ, false, IsTrue, All, map, IfOk};
-ghost use Rattle.pdh_shape.specs.Sets.{e2};
+ghost use Rattle.pdh_eframes.specs.Plans.{e2};
 ghost use Rattle.pdh_tx.specs.Meaning.{plan_of, IsNodeOf, HoldsAll, IsFresh};
 ghost use Rattle.pdh_tests_of_chains.specs.FourLeaves.{four_leaves};
 ghost use Rattle.pdh_tx.specs.Node.{node_meaning};
 
+use pdh_chain::E2_LEVEL;
 use pdh_clock::Schedule;
 use pdh_edge::{Feed, MemPort};
-use pdh_levels::E2_LEVEL;
+use pdh_eframes::E2;
 use pdh_packed::Packed;
 use pdh_runs::Layout;
-use pdh_shape::{E2, TOP};
+use pdh_shape::TOP;
 use pdh_tx::{Leaf, Node, Tx, TxStop};
 use std::alloc::{AllocError, Global};
 use std::rc::Rc;

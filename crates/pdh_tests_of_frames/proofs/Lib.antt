@@ -1,1 +1,2 @@
 mod FourTails
+mod WorkedRuns

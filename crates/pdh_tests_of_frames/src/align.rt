@@ -4,8 +4,9 @@ ghost use Rattle.std.specs.Prelude.{◌≡◌, ◌<◌, length};
 ghost use Rattle.pdh_align.specs.Aligning.{frames_gained};
 
 use pdh_align::{Aligner, Step};
+use pdh_eframes::{E2, E3, E4};
 use pdh_packed::{Packed, Word};
-use pdh_shape::{E2, E3, E4, Role, Shape};
+use pdh_shape::{Role, Shape};
 use std::alloc::{AllocError, Global};
 use std::test::Fail;
 

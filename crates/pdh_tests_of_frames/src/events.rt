@@ -2,10 +2,11 @@
 
 ghost use Rattle.std.specs.Prelude.{◌≡◌, length, IfOk};
 
+use pdh_eframes::E2;
 use pdh_events::{AisRun, FrameTeller, note_change, note_kind};
 use pdh_packed::Packed;
 use pdh_runs::{Layout, Parts};
-use pdh_shape::{E2, TOP};
+use pdh_shape::TOP;
 use pdh_watch::{Event, Kind, Watch};
 use std::alloc::{AllocError, Global};
 use std::rc::Rc;

@@ -1,8 +1,8 @@
 //! Runs of the alignment signal, by bits that come one by one and many at a time.
 
+use pdh_eframes::E2;
 use pdh_packed::Packed;
 use pdh_phases::Phases;
-use pdh_shape::E2;
 use std::alloc::{AllocError, Global};
 use std::test::Fail;
 

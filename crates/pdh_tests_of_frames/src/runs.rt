@@ -3,9 +3,10 @@
 ghost use Rattle.std.specs.Prelude.{◌≡◌, ◌<◌, ◌≤◌, ◌+◌, length, IfOk};
 ghost use Rattle.pdh_runs.specs.Pieces.{overhead_before, rows};
 
+use pdh_eframes::{E2, E4};
 use pdh_packed::Packed;
 use pdh_runs::{Layout, Parts, Run, runs};
-use pdh_shape::{E2, E4, Role, Shape};
+use pdh_shape::{Role, Shape};
 use std::alloc::{AllocError, Global};
 use std::process::Abort;
 use std::rc::Rc;

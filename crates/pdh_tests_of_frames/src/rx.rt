@@ -1,16 +1,17 @@
 //! Worked lines: what the leaves of a demultiplexer get, and its events.
 
 ghost use Rattle.std.specs.Prelude.{◌≡◌, ◌<◌, ℕ, IsTrue, Bool, List, [], map, IfOk};
-ghost use Rattle.pdh_shape.specs.Sets.{e2};
+ghost use Rattle.pdh_eframes.specs.Plans.{e2};
 ghost use Rattle.pdh_rx.specs.Meaning.{HoldsAll};
 ghost use Rattle.pdh_tests_of_frames.specs.FourTails.{four_tails};
 ghost use Rattle.pdh_rx.specs.Node.{node_meaning};
 
 use pdh_edge::{Drain, Failed, MemPort};
+use pdh_eframes::E2;
 use pdh_packed::Packed;
 use pdh_runs::Layout;
 use pdh_rx::{Rx, RxNode, Tail, take_watched};
-use pdh_shape::{E2, TOP};
+use pdh_shape::TOP;
 use pdh_watch::{Event, Kind, Quiet, Watch};
 use std::alloc::{AllocError, Global};
 use std::rc::Rc;

@@ -1,6 +1,6 @@
 //! A store filled and emptied, and the laws of stores for a frame of the standards.
 
-use pdh_shape::E2;
+use pdh_eframes::E2;
 use pdh_store::{Overflow, Store, Underflow, laws};
 use std::test::Fail;
 

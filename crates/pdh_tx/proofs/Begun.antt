@@ -13,10 +13,11 @@ use Rattle.pdh_tx.specs.declared.tx.TxStop.TheVariants.{Failed}
 use Rattle.pdh_tx.specs.declared.pieces.Piece.{Piece}
 use Rattle.pdh_tx.specs.declared.tributaries.Tributaries.{Tributaries}
 use Rattle.pdh_tx.specs.declared.tributary.Tributary.{Tributary}
-use Rattle.pdh_tx.specs.Meaning.{Plan, Meaning, Fits, is_failed}
+use Rattle.pdh_clock.specs.Contents.{Contents}
+use Rattle.pdh_tx.specs.Meaning.{Plan, plan_of, Meaning, Fits, is_failed}
 use Rattle.pdh_tx.specs.Held.{first_some}
 use Rattle.pdh_tx.specs.Tributary.{placed_in, held_in, meaning_in, share_in}
-use Rattle.pdh_tx.specs.Node.{EachPlaced, Advance, Stays, beginning, steps, came_at, came_to, read_to, taken_to}
+use Rattle.pdh_tx.specs.Node.{EachPlaced, Stays, steps, came_at, came_to, read_to, taken_to}
 use Rattle.pdh_tx.specs.Passing.{made_through}
 use Rattle.pdh_tx.specs.Tributaries.{meanings, HaveDecided, beginning_stretch, GoThrough, StopIn, HavePassed, IsPassable, FailFrom, IsClearFor, FailIn}
 use Rattle.pdh_tx.specs.laws.Growing.{given_more}
@@ -30,9 +31,12 @@ use Rattle.pdh_tx.proofs.TributarySteps.{faults_failed}
 no : {stop : TxStop} → None ≡ Some stop → ⊥
 no h = cc
 
-module _ {S C : Type 0} {shape : shape.Ghosts S} {tx : Ghosts C} (frame : IsFrame shape.shape) (has : HasTributaries shape.shape) (tribs : shape.shape.tribs ≡ shape.TRIBS) (ts : Tributaries S C shape tx) (plan : Plan) (at : Piece) (within : at.slot + at.len ≤ shape.shape.len) (a b : Inputs) where
+module _ {S C : Type 0} {shape : shape.Ghosts S} {tx : Ghosts C} (frame : IsFrame shape.shape) (has : HasTributaries shape.shape) (tribs : shape.shape.tribs ≡ shape.TRIBS) (ts : Tributaries S C shape tx) (schedule : Contents) (at : Piece) (within : at.slot + at.len ≤ shape.shape.len) (a b : Inputs) where
   abbrev s : FrameShape
   s = shape.shape
+
+  abbrev plan : Plan
+  plan = plan_of schedule
 
   abbrev n : ℕ
   n = at.frame
@@ -51,21 +55,14 @@ module _ {S C : Type 0} {shape : shape.Ghosts S} {tx : Ghosts C} (frame : IsFram
 
   -- ---- it began
 
-  -- and so with the same tributaries
-  pub begun_still : (mid over : Tributaries S C shape tx) → over.list.items ≡ mid.list.items → GoThrough ts mid plan (beginning_stretch ts at.path plan n t) a b → GoThrough ts over plan (beginning_stretch ts at.path plan n t) a b
-  begun_still mid over list begun =
-      let P : List (Tributary C) → Type 0 = λ ws. Advance (placed_in tx) (held_in tx) (meanings ts) plan ts.list.items ws (taken_to s at.path plan n t) (came_to s at.path plan n t 0) (read_to s at.path plan n t)
-      (λ size. beginning s at.path plan (meanings ts) size n t) a b in
-      subst P (sym list) begun
-
-  module _ (mid : Tributaries S C shape tx) (same : meanings mid ≡ meanings ts) (begun : GoThrough ts mid plan (beginning_stretch ts at.path plan n t) a b) where
-    pub begun_placed : HavePassed mid plan at 0
+  module _ (mid : Tributaries S C shape tx) (same : meanings mid ≡ meanings ts) (begun : GoThrough ts mid (beginning_stretch ts at.path schedule n t) a b) where
+    pub begun_placed : HavePassed mid schedule at 0
     begun_placed =
         let P : (ℕ → ℕ) → Type 0 = λ made. EachPlaced (placed_in tx) mid.list.items plan made (read_to s at.path plan n t) in
         let Q : (ℕ → ℕ) → Type 0 = λ gone. EachPlaced (placed_in tx) mid.list.items plan (made_through s plan at 0) gone in
         subst Q (read_first (placed_in tx) (held_in tx) (meaning_in tx) (share_in {C = C}) s has at.path plan n t u) (subst P first begun.place)
 
-    pub begun_passable : HaveDecided mid at.path plan n → IsClearFor ts plan at a → (j : ℕ) → IsPassable mid plan at b j
+    pub begun_passable : HaveDecided mid at.path schedule n → IsClearFor ts schedule at a → (j : ℕ) → IsPassable mid schedule at b j
     begun_passable decided clear j m here =
         let ms : List Meaning = meanings ts in
         let ws : List (Tributary C) = ts.list.items in
@@ -87,7 +84,7 @@ module _ {S C : Type 0} {shape : shape.Ghosts S} {tx : Ghosts C} (frame : IsFram
           few = piece_few s frame at.path plan ms clear.size n t j known fits at.len clear.clear;
         }
 
-    pub begun_halts : (c : Inputs) → FailFrom mid plan at 0 b c → FailIn ts plan at a c
+    pub begun_halts : (c : Inputs) → FailFrom mid schedule at 0 b c → FailIn ts schedule at a c
     begun_halts c stays =
         let P : List Meaning → Type 0 = λ ms. Stays ms plan (made_through s plan at 0) (came_at s at.path plan n u) Failed b c in
         let Q : (ℕ → ℕ) → Type 0 = λ made. Stays (meanings ts) plan made (came_at s at.path plan n u) Failed b c in
@@ -96,8 +93,8 @@ module _ {S C : Type 0} {shape : shape.Ghosts S} {tx : Ghosts C} (frame : IsFram
 
   -- ---- something stood in the way of its beginning
 
-  module _ (stop : TxStop) (f g : ℕ) (blocked : StopIn ts plan (beginning_stretch ts at.path plan n t) stop a b f g) where
-    pub begin_halts : ((c : C) (n k : ℕ) → (tx.meaning c).given plan n k ≤ (tx.meaning c).given plan (suc n) k) → FailIn ts plan at a b
+  module _ (stop : TxStop) (f g : ℕ) (blocked : StopIn ts (beginning_stretch ts at.path schedule n t) stop a b f g) where
+    pub begin_halts : ((c : C) (n k : ℕ) → (tx.meaning c).given plan n k ≤ (tx.meaning c).given plan (suc n) k) → FailIn ts schedule at a b
     begin_halts grows =
         stays_more (meanings ts) plan (taken_to s at.path plan n t) (came_to s at.path plan n t 0) (came_at s at.path plan n u) stop a b
         (λ k. given_more (meaning_in tx) plan ts.list.items (came_to s at.path plan n t 0) (came_at s at.path plan n u) k (λ w n k. grows w.child n k)
@@ -105,7 +102,7 @@ module _ {S C : Type 0} {shape : shape.Ghosts S} {tx : Ghosts C} (frame : IsFram
         blocked.stays
 
     -- which was a fault, since nothing else does
-    pub begin_failed : 0 < at.len → IsClearFor ts plan at a → g ≡ one_more f
+    pub begin_failed : 0 < at.len → IsClearFor ts schedule at a → g ≡ one_more f
     begin_failed some clear =
         let zero : t + 0 ≡ t = omega arith in
         let P : ℕ → Type 0 = λ k. first_some (steps s at.path plan (meanings ts) clear.size n k) ≡ None in

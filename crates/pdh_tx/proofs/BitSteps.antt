@@ -1,5 +1,5 @@
 -- The bit of a slot, from its steps.
-use Rattle.std.proofs.Common.{◌≡◌, ℕ, suc, ◌<◌, ◌≤◌, ◌^◌, Bool, true, false, List, ◌++◌, length, map, refl, sym, ap, ◌∙◌, subst, arith, Option, Some, None, append_assoc, Result, Ok, Err, OnOk, IfOk}
+use Rattle.std.proofs.Common.{◌≡◌, ℕ, suc, ◌<◌, ◌≤◌, ◌^◌, Bool, false, List, ◌++◌, length, map, refl, sym, ap, ◌∙◌, subst, arith, Option, Some, None, append_assoc, Result, Ok, Err, OnOk, IfOk}
 use Rattle.std.specs.List.{range_with_len}
 use Rattle.pdh_edge.specs.Ports.{Inputs}
 use Rattle.pdh_shape.specs.declared.place.Path.{Path}
@@ -13,11 +13,13 @@ use Rattle.pdh_tx.specs.declared.tx.TxStop.TheVariants.{Underflow}
 use Rattle.pdh_tx.specs.declared.tributary.FrameShare.{FrameShare}
 use Rattle.pdh_tx.specs.Meaning.{Meaning, Plan, Supply, is_failed, IsUsedUp}
 use Rattle.pdh_tx.specs.Held.{first_some}
-use Rattle.pdh_tx.specs.Node.{EachPlaced, EachHeld, IsDecided, given_by, Advance, Blocked, MakesBit, below, source_of, beginning, arrivals, reads, steps, place_at, taken_to, came_to, read_to}
+use Rattle.pdh_tx.specs.Node.{EachPlaced, EachHeld, IsDecided, given_by, Advance, Blocked, below, source_of, beginning, arrivals, reads, steps, place_at, taken_to, came_to, read_to}
+use Rattle.pdh_tx.specs.Stored.{MakesBit}
 use Rattle.pdh_tx.specs.laws.Growing.{given_more}
 use Rattle.pdh_tx.proofs.Firsts.{first_after, first_of}
 use Rattle.pdh_tx.proofs.Advancing.{advance_join, blocked_join, blocked_more}
 use Rattle.pdh_tx.proofs.FrameStarts.{advance_change, started, ended}
+use Rattle.pdh_tx.proofs.NodePieces.{one_line}
 use Rattle.pdh_tx.proofs.TributarySteps.{faults_unmet}
 
 module _ {W : Type 0} (placed : W → Plan → ℕ → ℕ → Type 0) (held : W → Supply → ℕ → ℕ → Type 0) (meaning : W → Meaning) (share : W → FrameShare) (plan : Plan) (s : FrameShape) (path : Path) where
@@ -97,26 +99,26 @@ module _ {W : Type 0} (placed : W → Plan → ℕ → ℕ → Type 0) (held : W
       → ((supply : Supply) → IsDecided share s path supply.plan n w → supply.says n ≡ say → odd ≡ odd_before s (source_of path ms supply) n
       → EachHeld held w (below supply) (λ j. came_before s (supply.plan.counts path j) n (suc t)) (read_to s path supply.plan n t)
       → (bit ≡ slot_bit s (source_of path ms supply) n t (s.role t)) × EachHeld held x (below supply) (λ j. came_before s (supply.plan.counts path j) n (suc t)) (read_to s path supply.plan n (suc t)))
-      → MakesBit placed held share ms s path plan u x n t say odd bit a c
-  bit_made ms u w x n t say odd bit a c advance read place was decided scheduled bounded makes = record {
-    given = advance.moves.given;
-    takes = advance.moves.takes;
-    others = advance.moves.others;
-    exact = advance.moves.exact;
-    free = λ size fit.
+      → MakesBit placed held share s path plan ms u x n t say odd bit a c
+  bit_made ms u w x n t say odd bit a c advance read place was decided scheduled bounded makes = (
+    record {
+      given = advance.moves.given;
+      takes = advance.moves.takes;
+      others = advance.moves.others;
+      exact = advance.moves.exact;
+      place = record { made = place; decided = decided; scheduled = scheduled; bounded = bounded };
+      bounded = bounded;
+      onward = λ supply is each said parity agrees.
+          let P : Plan → Type 0 = λ p. EachHeld held w (below supply) (λ j. came_before s (p.counts path j) n (suc t)) (read_to s path p n t) in
+          let Q : Plan → Type 0 = λ p. EachHeld held x (below supply) (λ j. came_before s (p.counts path j) n (suc t)) (read_to s path p n (suc t)) in
+          let D : Plan → Type 0 = λ p. IsDecided share s path p n w in
+          let both = makes supply (subst D (sym is) was) said parity (subst P (sym is) (advance.moves.onward (below supply) is each agrees)) in
+          (one_line s (source_of path ms supply) n t bit both.0, subst Q is both.1);
+    },
+    λ size fit.
         ap first_some (sym (append_assoc (beginning s path plan ms size n t) (arrivals s path plan ms size n t) (reads s path plan n t)))
-        ∙ first_after (beginning s path plan ms size n t ++ arrivals s path plan ms size n t) (reads s path plan n t) (advance.free size fit) ∙ read;
-    place = place;
-    decided = decided;
-    scheduled = scheduled;
-    bounded = bounded;
-    onward = λ supply is each said parity agrees.
-        let P : Plan → Type 0 = λ p. EachHeld held w (below supply) (λ j. came_before s (p.counts path j) n (suc t)) (read_to s path p n t) in
-        let Q : Plan → Type 0 = λ p. EachHeld held x (below supply) (λ j. came_before s (p.counts path j) n (suc t)) (read_to s path p n (suc t)) in
-        let D : Plan → Type 0 = λ p. IsDecided share s path p n w in
-        let both = makes supply (subst D (sym is) was) said parity (subst P (sym is) (advance.moves.onward (below supply) is each agrees)) in
-        (both.0, subst Q is both.1);
-  }
+        ∙ first_after (beginning s path plan ms size n t ++ arrivals s path plan ms size n t) (reads s path plan n t) (advance.free size fit) ∙ read,
+  )
 
   -- by what the making of the bit ensures
   pub made_of : {E : Type 0} (ms : List Meaning) (u w x : List W) (n t : ℕ) (say : Service) (odd : Bool) (a c : Inputs) (r : Result Bool E) → map meaning w ≡ ms
@@ -128,7 +130,7 @@ module _ {W : Type 0} (placed : W → Plan → ℕ → ℕ → Type 0) (held : W
       → IfOk r (λ bit. (supply : Supply) → IsDecided share s path supply.plan n w → supply.says n ≡ say → odd ≡ odd_before s (source_of path (map meaning w) supply) n
       → EachHeld held w (below supply) (λ j. came_before s (supply.plan.counts path j) n (suc t)) (read_to s path supply.plan n t)
       → (bit ≡ slot_bit s (source_of path (map meaning w) supply) n t (s.role t)) × EachHeld held x (below supply) (λ j. came_before s (supply.plan.counts path j) n (suc t)) (read_to s path supply.plan n (suc t)))
-      → IfOk r (λ bit. MakesBit placed held share ms s path plan u x n t say odd bit a c)
+      → IfOk r (λ bit. MakesBit placed held share s path plan ms u x n t say odd bit a c)
   made_of ms u w x n t say odd a c (Err e) same advance was decided scheduled bounded free place makes = tt
   made_of ms u w x n t say odd a c (Ok bit) same advance was decided scheduled bounded free place makes =
       bit_made ms u w x n t say odd bit a c advance (free plan was advance.place) (place plan was advance.place) was decided scheduled bounded

@@ -1,5 +1,5 @@
 -- One tributary that takes bits of its child, one after another.
-use Rattle.std.proofs.Common.{◌≡◌, ℕ, suc, ◌<◌, ◌≤◌, [], ◌∷◌, ◌++◌, cond, leb, refl, sym, ap, ◌∙◌, arith, Option, Some, None, length-append, Result, Ok, Err, IfErr, OnErr, OnOk}
+use Rattle.std.proofs.Common.{◌≡◌, ℕ, suc, ◌<◌, ◌≤◌, [], ◌∷◌, ◌++◌, cond, leb, refl, sym, ap, ◌∙◌, arith, Option, Some, None, length-append, Result, Ok, Err, IfErr, OnErr}
 use Rattle.std.proofs.lemmas.Bool.{lt-leb}
 use Rattle.pdh_edge.specs.Ports.{Inputs, nothing}
 use Rattle.pdh_shape.specs.declared.place.Place.{Place}
@@ -83,11 +83,3 @@ lead_met m plan place fits fits' made fill stop f g f' few room less narrower be
     let here : m.obstacle plan size made ≡ Some stop = sym (first_of_two (m.obstacle plan size made)) ∙ ap (λ o. first_some (m.obstacle plan size made ∷ o ∷ [])) (sym none) ∙ e in
     map_some (m.obstacle plan size) stop 0 24 made (omega arith) (omega arith) (λ k l l'. before size fit k l') here)
     met
-
-pub on_ok_three : {T E A B C D : Type 0} (r : Result T E) → OnOk r A → OnOk r B → OnOk r C → (A → B → C → D) → OnOk r D
-on_ok_three (Ok x) a b c f = f a b c
-on_ok_three (Err e) a b c f = tt
-
-pub if_err_two : {T E : Type 0} (r : Result T E) (A B D : E → Type 0) → IfErr r A → IfErr r B → ((e : E) → A e → B e → D e) → IfErr r D
-if_err_two (Ok x) A B D a b f = tt
-if_err_two (Err e) A B D a b f = f e a b

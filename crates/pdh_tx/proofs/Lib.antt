@@ -11,6 +11,7 @@ mod Reading
 pub mod BitSteps
 pub mod Parity
 pub mod Saying
+pub mod SenderSteps
 pub mod NodeSteps
 mod Fills
 pub mod Opening

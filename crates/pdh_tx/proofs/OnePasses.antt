@@ -10,7 +10,8 @@ use Rattle.pdh_tx.specs.declared.tx.Tx.{Ghosts}
 use Rattle.pdh_tx.specs.declared.pieces.Piece.{Piece}
 use Rattle.pdh_tx.specs.declared.tributaries.Tributaries.{Tributaries}
 use Rattle.pdh_tx.specs.declared.tributary.Tributary.{Tributary}
-use Rattle.pdh_tx.specs.Meaning.{Plan}
+use Rattle.pdh_clock.specs.Contents.{Contents}
+use Rattle.pdh_tx.specs.Meaning.{Plan, plan_of}
 use Rattle.pdh_tx.specs.Tributary.{placed_in, meaning_in}
 use Rattle.pdh_tx.specs.Node.{IsShare, came_at, read_to}
 use Rattle.pdh_tx.specs.Passing.{carried_in}
@@ -28,9 +29,10 @@ module _ {S C : Type 0} {shape : shape.Ghosts S} {tx : Ghosts C} where
     pub left : read_to shape.shape at.path plan at.frame at.slot i + carried_in shape.shape i w.share.more at.slot at.len ≡ read_to shape.shape at.path plan at.frame (at.slot + at.len) i
     pub few : arriving ≤ shape.shape.len
 
-  pub next_one : (frame : IsFrame shape.shape) (ts : Tributaries S C shape tx) (plan : Plan) (at : Piece) (i : ℕ) (w : Tributary C) (arriving : ℕ) → slice_get ts.list.items i ≡ Some w → at.slot + at.len ≤ shape.shape.len
-      → HaveDecided ts at.path plan at.frame → HavePassed ts plan at i → arrived_in shape.shape w.share.arriving at.slot + arriving ≡ arrived_in shape.shape w.share.arriving (at.slot + at.len) → IsNext ts plan at i w arriving
-  next_one frame ts plan at i w arriving here inside decided passed arrives =
+  pub next_one : (frame : IsFrame shape.shape) (ts : Tributaries S C shape tx) (schedule : Contents) (at : Piece) (i : ℕ) (w : Tributary C) (arriving : ℕ) → slice_get ts.list.items i ≡ Some w → at.slot + at.len ≤ shape.shape.len
+      → HaveDecided ts at.path schedule at.frame → HavePassed ts schedule at i → arrived_in shape.shape w.share.arriving at.slot + arriving ≡ arrived_in shape.shape w.share.arriving (at.slot + at.len) → IsNext ts (plan_of schedule) at i w arriving
+  next_one frame ts schedule at i w arriving here inside decided passed arrives =
+      let plan : Plan = plan_of schedule in
       let s : FrameShape = shape.shape in
       let n : ℕ = at.frame in
       let t : ℕ = at.slot in

@@ -19,7 +19,8 @@ use Rattle.pdh_tx.specs.declared.tx.TxStop.TheVariants.{Failed}
 use Rattle.pdh_tx.specs.Meaning.{Meaning, Plan, Supply}
 use Rattle.pdh_tx.specs.Node.{below, source_of, any_leaf, given_by, carried_by, overhead_bit, came_to, read_to, taken_to, EachPlaced, EachHeld, IsDecided, Advance, Stays, came_at}
 use Rattle.pdh_runs.specs.Pieces.{overhead_before, Assembled}
-use Rattle.pdh_tx.specs.Passing.{up_to, HoldsBits, HoldsLine, HoldsOverhead, Passes, MakesPiece}
+use Rattle.pdh_tx.specs.Passing.{up_to, HoldsBits, HoldsLine, HoldsOverhead, Passes}
+use Rattle.pdh_tx.specs.Stored.{MakesPiece}
 use Rattle.pdh_tx.proofs.Moving.{takes_join, agrees_left, agrees_right, given_same, inside}
 use Rattle.pdh_tx.proofs.Reading.{overhead_is}
 use Rattle.pdh_tx.proofs.PassingAll.{upto_past, upto_below}
@@ -97,7 +98,7 @@ module _ {W : Type 0} (placed : W → Plan → ℕ → ℕ → Type 0) (held : W
       → Advance placed held ms plan old mid (taken_to s path plan n t) (came_to s path plan n t 0) (read_to s path plan n t) steps a b
       → EachPlaced placed new plan (up_to f f' s.tribs) (up_to h h' s.tribs)
       → Passes held path ms plan mid new (up_to f f' 0) (up_to f f' s.tribs) (up_to h h' 0) (up_to h h' s.tribs) b c (λ source. HoldsBits s source n t len columns s.tribs)
-      → MakesPiece placed held share ms s path plan old new n t u say odd bits a c
+      → MakesPiece placed held share s path plan ms old new n t u say odd bits a c
   piece_makes ms old mid new say odd len overhead bits columns steps a b c ms_long mid_long new_long long most decided decided_new scheduled bounded over assembled advance place passes =
       let moves = advance.moves in
       let start : (k : ℕ) → given_by ms plan (came_to s path plan n t 0) k ≡ given_by ms plan (up_to f f' 0) k = λ k. ap (λ made. given_by ms plan made k) came_first in
@@ -112,13 +113,16 @@ module _ {W : Type 0} (placed : W → Plan → ℕ → ℕ → Type 0) (held : W
             let l = length-append (moves.given k) (passes.given k) in
             let last : given_by ms plan (up_to f f' s.tribs) k ≡ given_by ms plan f' k = given_same ms plan (up_to f f' s.tribs) f' k (λ j m at leaf. ap (λ x. m.given plan x k) (upto_below f f' s.tribs j (let i = inside ms j m at in omega arith))) in
             omega arith;
-        place = λ j w e.
-            let known : j < s.tribs = (let i = inside new j w e in omega arith) in
-            let P : ℕ → Type 0 = λ x. placed w plan x (up_to h h' s.tribs j) in
-            let Q : ℕ → Type 0 = λ x. placed w plan (f' j) x in
-            subst Q (upto_below h h' s.tribs j known) (subst P (upto_below f f' s.tribs j known) (place j w e));
-        decided = decided_new;
-        scheduled = scheduled;
+        place = record {
+          made = λ j w e.
+              let known : j < s.tribs = (let i = inside new j w e in omega arith) in
+              let P : ℕ → Type 0 = λ x. placed w plan x (up_to h h' s.tribs j) in
+              let Q : ℕ → Type 0 = λ x. placed w plan (f' j) x in
+              subst Q (upto_below h h' s.tribs j known) (subst P (upto_below f f' s.tribs j known) (place j w e));
+          decided = decided_new;
+          scheduled = scheduled;
+          bounded = bounded;
+        };
         bounded = bounded;
         onward = λ supply is each said parity agrees.
             let here = moves.onward (below supply) is each (agrees_left (any_leaf ms) supply.lists (given_by ms plan (taken_to s path plan n t)) moves.given passes.given agrees) in

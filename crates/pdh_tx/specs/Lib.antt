@@ -8,6 +8,9 @@ pub mod Node
 pub mod Locked
 pub mod NodeState
 pub mod Making
+pub mod Calls
 pub mod Passing
+pub mod Body
+pub mod Stored
 pub mod Tributaries
 pub mod laws

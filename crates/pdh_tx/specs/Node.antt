@@ -1,5 +1,5 @@
 -- A multiplexer with a store for each child.
-use Rattle.std.specs.Prelude.{◌≡◌, ℕ, suc, ◌+◌, ◌/◌, ◌%◌, ◌<◌, ◌≤◌, ◌^◌, Bool, true, false, not, ◌&&◌, ◌==◌, nat_le, nat_lt, List, [], ◌∷◌, ◌++◌, All, length, map, flat_map, count_by, slice_get, Option, Some, None, if◌then◌else◌}
+use Rattle.std.specs.Prelude.{◌≡◌, ℕ, suc, ◌+◌, ◌/◌, ◌%◌, ◌≤◌, Bool, true, false, not, ◌&&◌, ◌==◌, nat_le, nat_lt, List, [], ◌∷◌, ◌++◌, All, length, map, flat_map, count_by, slice_get, Option, Some, None, if◌then◌else◌}
 use Rattle.std.specs.List.{range_with_len, slice_index_or}
 use Rattle.pdh_edge.specs.Leaves.{any_below, NoneShared}
 use Rattle.pdh_edge.specs.Ports.{Inputs, Takes}
@@ -11,7 +11,7 @@ use Rattle.pdh_shape.specs.declared.role.Role.{Role}
 use Rattle.pdh_shape.specs.declared.role.Role.TheVariants.{Align, Service as ServiceSlot, Control, Just, Info}
 use Rattle.pdh_shape.specs.Frame.{FrameShape, idle}
 use Rattle.pdh_shape.specs.OwnNumbers.{lead}
-use Rattle.pdh_line.specs.Sending.{arrives_at, sends_more, came_before, read_before, taken, shape_numbers, Source, payload_bit, slot_bit, odd_before, line_bit}
+use Rattle.pdh_line.specs.Sending.{arrives_at, sends_more, came_before, read_before, taken, shape_numbers, Source, payload_bit, line_bit}
 use Rattle.pdh_line.specs.Events.{overflows, underflows}
 use Rattle.pdh_tx.specs.declared.tx.TxStop.{TxStop}
 use Rattle.pdh_tx.specs.declared.tx.TxStop.TheVariants.{Overflow, Underflow, NoFrame}
@@ -118,6 +118,11 @@ meaning_with s path ms came first = record {
 abbrev pub node_meaning : FrameShape → Path → List Meaning → Meaning
 node_meaning s path ms = meaning_with s path ms (λ plan j x. taken s (plan.counts path j) x) (node_obstacle s path ms)
 
+-- the store of tributary j, which has these counts, holds so many bits where x bits of a line with frames of so many are made: what
+-- came into it less what was read
+abbrev pub IsFill : FrameShape → ℕ → (ℕ → ℕ) → ℕ → ℕ → ℕ → Type 0
+IsFill s len counts j x fill = read_before s j counts (x / len) (x % len) + fill ≡ taken s counts x
+
 -- ---- the state of a node's tributaries
 
 -- each tributary has made and read so many bits
@@ -202,35 +207,22 @@ pub record Blocked (ms : List Meaning) (plan : Plan) (made most : ℕ → ℕ) (
 
 -- ---- the bit of a slot
 
+-- whether the frame carries an additional bit of tributary j, by what it carries of each
+abbrev pub carries_more : List FrameShare → ℕ → Bool
+carries_more shares j = (slice_index_or shares j (record { arriving = 0; more = false })).more
+
 -- the tributary whose bit a slot of this role carries, by what the frame carries of each
 abbrev pub carried_by : List FrameShare → Role → Option ℕ
 carried_by shares (Info j) = Some j
-carried_by shares (Just j) = (if (slice_index_or shares j (record { arriving = 0; more = false })).more then Some j else None)
+carried_by shares (Just j) = (if carries_more shares j then Some j else None)
 carried_by shares _ = None
 
 -- the bit of a slot that carries no tributary's
 abbrev pub overhead_bit : FrameShape → Service → Bool → List FrameShare → Role → Bool
 overhead_bit s say odd shares (Align signal) = signal
 overhead_bit s say odd shares (ServiceSlot number) = s.service number say odd
-overhead_bit s say odd shares (Control j copy) = not (slice_index_or shares j (record { arriving = 0; more = false })).more
+overhead_bit s say odd shares (Control j copy) = not (carries_more shares j)
 overhead_bit s say odd shares _ = true
-
--- The tributaries made the bit of slot t of frame n, with all its steps, where the frame says `say` and `odd` is whether the
--- information and justifiable slots of the frame before hold an odd number of ones.
-pub record MakesBit {W : Type 0} (placed : W → Plan → ℕ → ℕ → Type 0) (held : W → Supply → ℕ → ℕ → Type 0) (share : W → FrameShare) (ms : List Meaning) (s : FrameShape) (path : Path) (plan : Plan) (old new : List W) (n t : ℕ)
-    (say : Service) (odd bit : Bool) (before after : Inputs) : Type 0 where
-  pub given : ℕ → List Bool
-  pub takes : Takes given before after
-  pub others : (k : ℕ) → any_leaf ms k ≡ false → given k ≡ []
-  pub exact : (k : ℕ) → any_leaf ms k ≡ true → given_by ms plan (taken_to s path plan n t) k + length (given k) ≡ given_by ms plan (λ j. came_before s (plan.counts path j) n (suc t)) k
-  pub free : (size : ℕ → ℕ) → AllFit ms plan (taken_to s path plan n t) before size → first_some (steps s path plan ms size n t) ≡ None
-  pub place : EachPlaced placed new plan (λ j. came_before s (plan.counts path j) n (suc t)) (read_to s path plan n (suc t))
-  pub decided : IsDecided share s path plan n new
-  pub scheduled : n < plan.frames path
-  pub bounded : suc n < 2 ^ 64
-  pub onward : (supply : Supply) → supply.plan ≡ plan → EachHeld held old (below supply) (taken_to s path plan n t) (read_to s path plan n t) → supply.says n ≡ say → odd ≡ odd_before s (source_of path ms supply) n
-      → Agrees (any_leaf ms) supply.lists (given_by ms plan (taken_to s path plan n t)) given
-      → (bit ≡ slot_bit s (source_of path ms supply) n t (s.role t)) × EachHeld held new (below supply) (λ j. came_before s (plan.counts path j) n (suc t)) (read_to s path plan n (suc t))
 
 -- the information and justifiable slots of frame n below slot t hold an odd number of ones
 abbrev pub odd_within : FrameShape → Source → ℕ → ℕ → Bool

@@ -1,5 +1,5 @@
 -- Many slots of a node's frame at once.
-use Rattle.std.specs.Prelude.{◌≡◌, ℕ, suc, ◌+◌, ◌-◌, ◌<◌, ◌≤◌, ◌^◌, Bool, true, false, nat_lt, List, [], length, map, None, if◌then◌else◌}
+use Rattle.std.specs.Prelude.{◌≡◌, ℕ, ◌+◌, ◌-◌, ◌<◌, ◌≤◌, Bool, true, false, nat_lt, List, [], length, map, if◌then◌else◌}
 use Rattle.std.specs.List.{range_with_len, slice_index_or}
 use Rattle.pdh_edge.specs.Ports.{Inputs, Takes}
 use Rattle.pdh_shape.specs.declared.place.Path.{Path}
@@ -7,17 +7,20 @@ use Rattle.pdh_shape.specs.Frame.{FrameShape}
 use Rattle.pdh_shape.specs.Payload.{is_payload}
 use Rattle.pdh_shape.specs.Tributary.{reads_from, reads_below}
 use Rattle.pdh_shape.specs.OwnNumbers.{store_size}
-use Rattle.pdh_line.specs.Sending.{Source, slot_bit, odd_before}
+use Rattle.pdh_line.specs.Sending.{Source, slot_bit}
+use Rattle.pdh_clock.specs.Contents.{Contents}
 use Rattle.pdh_runs.specs.Pieces.{row, rows, overhead_before, FillsColumn}
+use Rattle.pdh_tx.specs.declared.tx.TxStop.TheVariants.{Failed}
 use Rattle.pdh_tx.specs.declared.pieces.Piece.{Piece}
 use Rattle.pdh_tx.specs.declared.tributary.Tributary.{Tributary}
 use Rattle.pdh_tx.specs.declared.tx.Tx.{Ghosts}
 use Rattle.pdh_tx.specs.Making.{IsClear}
-use Rattle.pdh_tx.specs.Meaning.{Plan, Supply, Meaning, Agrees}
+use Rattle.pdh_tx.specs.Meaning.{Plan, Supply, plan_of, Meaning, Agrees}
 use Rattle.pdh_shape.specs.declared.role.Service.{Service}
 use Rattle.pdh_tx.specs.declared.tributary.FrameShare.{FrameShare}
-use Rattle.pdh_tx.specs.Held.{Held, first_some}
-use Rattle.pdh_tx.specs.Node.{below, source_of, any_leaf, given_by, AllFit, steps, taken_to, read_to, EachPlaced, IsDecided, EachHeld, came_at, overhead_bit}
+use Rattle.pdh_tx.specs.Held.{Held, Gains, Halts}
+use Rattle.pdh_tx.specs.Tributary.{placed_in, held_in, meaning_in}
+use Rattle.pdh_tx.specs.Node.{below, source_of, any_leaf, given_by, read_to, EachHeld, came_at, overhead_bit}
 
 -- numbers of which the first i are others
 abbrev pub up_to : (ℕ → ℕ) → (ℕ → ℕ) → ℕ → ℕ → ℕ
@@ -55,6 +58,31 @@ abbrev pub passed_in : {C : Type 0} → Ghosts C → FrameShape → ℕ → ℕ 
 passed_in tx s j first len old new =
     HeldAndFilled tx.stands_for tx.meaning s j old.share.more first len (carried_in s j old.share.more first len) new.child new.store
 
+-- Nothing stands in the way of a tributary in a piece: none of the bits of its child, so many, the bits that the piece carries
+-- are there, and its store holds those that are left over.
+pub record PassesFreely {C : Type 0} (tx : Ghosts C) (s : FrameShape) (j first len arriving : ℕ) (w : Tributary C) (schedule : Contents) (inputs : Inputs) : Type 0 where
+  pub made : ℕ
+  pub read : ℕ
+  pub placed : placed_in tx w (plan_of schedule) made read
+  pub clear : IsClear (meaning_in tx w) (plan_of schedule) made (made + arriving) inputs
+  pub enough : carried_in s j w.share.more first len ≤ length w.store + arriving
+  pub few : length w.store ≤ store_size → length w.store + arriving ≤ carried_in s j w.share.more first len + store_size
+
+-- it passed its bits of the piece, which stand in this column
+pub record PassesBits {C : Type 0} (tx : Ghosts C) (s : FrameShape) (j first len arriving : ℕ) (old new : Tributary C) (column : List Bool) (plan : Plan) (made read : ℕ) (before after : Inputs) : Type 0 where
+  pub placed : placed_in tx new plan (made + arriving) (read + carried_in s j old.share.more first len)
+  pub gains : Gains (meaning_in tx old) plan (held_in tx old) (passed_in tx s j first len old new column) made (made + arriving) read before after
+
+-- and the column is as long as the piece wants it
+pub record PassesColumn {C : Type 0} (tx : Ghosts C) (s : FrameShape) (j first len arriving : ℕ) (old new : Tributary C) (column : List Bool) (schedule : Contents) (before after : Inputs) : Type 0 where
+  pub bits : (made read : ℕ) → placed_in tx old (plan_of schedule) made read → PassesBits tx s j first len arriving old new column (plan_of schedule) made read before after
+  pub rows : length column ≡ rows s first len
+
+-- a call failed on its way through the piece
+abbrev pub HaltsPassing : {C : Type 0} → Ghosts C → ℕ → Tributary C → Contents → Inputs → Inputs → Type 0
+HaltsPassing tx arriving w schedule before after =
+    (made read : ℕ) → placed_in tx w (plan_of schedule) made read → Halts (meaning_in tx w) (plan_of schedule) made (made + arriving) Failed before after
+
 -- the column of tributary j holds the bits of its slots of a piece of frame n
 abbrev pub HoldsBitsOf : FrameShape → Source → ℕ → ℕ → ℕ → List (List Bool) → ℕ → Type 0
 HoldsBitsOf s source n first len columns j =
@@ -87,29 +115,6 @@ pub record Passes {W : Type 0} (held : W → Supply → ℕ → ℕ → Type 0) 
   pub onward : (supply : Supply) → supply.plan ≡ plan → EachHeld held old (below supply) made gone → Agrees (any_leaf ms) supply.lists (given_by ms plan made) given
       → EachHeld held new (below supply) more left × written (source_of path ms supply)
 
--- nothing stands in the way of so many slots of frame n, from slot t on, where the tributaries have made so many bits
-pub record StepsClear (s : FrameShape) (path : Path) (plan : Plan) (ms : List Meaning) (n t len : ℕ) (made : ℕ → ℕ) (inputs : Inputs) : Type 0 where
-  -- how many bits the leaves' lists hold in all
-  pub size : ℕ → ℕ
-  pub fits : AllFit ms plan made inputs size
-  pub clear : (v : ℕ) → v < len → first_some (steps s path plan ms size n (t + v)) ≡ None
-
 -- the bits of a piece of frame n are those of the line that this source decides
 abbrev pub HoldsLine : FrameShape → Source → ℕ → ℕ → List Bool → Type 0
 HoldsLine s source n t bits = (v : ℕ) → v < length bits → slice_index_or bits v false ≡ slot_bit s source n (t + v) (s.role (t + v))
-
--- The tributaries made the bits of frame n from slot t to slot u, with all their steps, where the frame says `say` and `odd`
--- is whether the information and justifiable slots of the frame before hold an odd number of ones.
-pub record MakesPiece {W : Type 0} (placed : W → Plan → ℕ → ℕ → Type 0) (held : W → Supply → ℕ → ℕ → Type 0) (share : W → FrameShare) (ms : List Meaning) (s : FrameShape) (path : Path) (plan : Plan) (old new : List W) (n t u : ℕ)
-    (say : Service) (odd : Bool) (bits : List Bool) (before after : Inputs) : Type 0 where
-  pub given : ℕ → List Bool
-  pub takes : Takes given before after
-  pub others : (k : ℕ) → any_leaf ms k ≡ false → given k ≡ []
-  pub exact : (k : ℕ) → any_leaf ms k ≡ true → given_by ms plan (taken_to s path plan n t) k + length (given k) ≡ given_by ms plan (came_at s path plan n u) k
-  pub place : EachPlaced placed new plan (came_at s path plan n u) (read_to s path plan n u)
-  pub decided : IsDecided share s path plan n new
-  pub scheduled : n < plan.frames path
-  pub bounded : suc n < 2 ^ 64
-  pub onward : (supply : Supply) → supply.plan ≡ plan → EachHeld held old (below supply) (taken_to s path plan n t) (read_to s path plan n t) → supply.says n ≡ say → odd ≡ odd_before s (source_of path ms supply) n
-      → Agrees (any_leaf ms) supply.lists (given_by ms plan (taken_to s path plan n t)) given
-      → HoldsLine s (source_of path ms supply) n t bits × EachHeld held new (below supply) (came_at s path plan n u) (read_to s path plan n u)

@@ -3,3 +3,5 @@ pub mod Growing
 pub mod NodeLaws
 pub mod LeafLaws
 pub mod Stepping
+pub mod Each
+pub mod StoredLaws

@@ -2,7 +2,7 @@
 
 ghost use Rattle.std.specs.Prelude.{◌≡◌, ◌<◌, ◌≤◌, OnOk, IfErr};
 ghost use Rattle.pdh_line.specs.Sending.{arrives_at};
-ghost use Rattle.pdh_tx.specs.Meaning.{plan_of};
+ghost use Rattle.pdh_tx.specs.Calls.{Draws};
 ghost use Rattle.pdh_tx.specs.Tributaries.{meanings, shares, AreFed, HaveDecided, arrival_stretch, arrivals_stretch, StandAt, GoThrough, StopIn};
 
 use crate::tributaries::Tributaries;
@@ -34,20 +34,15 @@ impl<S: Shape, C: Tx> Tributaries<S, C> {
         feed: &mut F,
     ) -> Result<(), TxStop>
         requires trib { trib < S.TRIBS }
-        requires small { trib < 255 }
         requires slot { slot < S.LEN }
-        requires decided { HaveDecided self.old path (plan_of clock.now) frame }
+        requires decided { HaveDecided self.old path clock.now frame }
         requires fed { AreFed self.old path clock.now (F.inputs feed.old) }
-        requires placed { StandAt self.old (plan_of clock.now)
-            (arrival_stretch self.old path (plan_of clock.now) frame slot trib) }
-        ensures ok { OnOk result (GoThrough self.old self.new (plan_of clock.now)
-            (arrival_stretch self.old path (plan_of clock.now) frame slot trib)
+        requires placed { StandAt self.old (arrival_stretch self.old path clock.now frame slot trib) }
+        ensures ok { OnOk result (GoThrough self.old self.new (arrival_stretch self.old path clock.now frame slot trib)
             (F.inputs feed.old) (F.inputs feed.new)) }
-        ensures err { IfErr result (λ stop. StopIn self.old (plan_of clock.now)
-            (arrival_stretch self.old path (plan_of clock.now) frame slot trib) stop
+        ensures err { IfErr result (λ stop. StopIn self.old (arrival_stretch self.old path clock.now frame slot trib) stop
             (F.inputs feed.old) (F.inputs feed.new) (F.feed_faults feed.old) (F.feed_faults feed.new)) }
-        ensures unfailed { OnOk result (F.feed_faults feed.new ≡ F.feed_faults feed.old) }
-        ensures fed { F.fed feed.old feed.new }
+        ensures fed { Draws F.Feed feed.old feed.new result }
         ensures same { meanings self.new ≡ meanings self.old }
         ensures shares { shares self.new ≡ shares self.old }
     {
@@ -55,6 +50,7 @@ impl<S: Shape, C: Tx> Tributaries<S, C> {
         if !arrives::<S>(count, slot) {
             return Ok(());
         }
+        prove!(trib < S::TRIBS);
         let place = Place {
             path,
             trib: trib + 1,
@@ -74,18 +70,14 @@ impl<S: Shape, C: Tx> Tributaries<S, C> {
         feed: &mut F,
     ) -> Result<(), TxStop>
         requires slot { slot < S.LEN }
-        requires decided { HaveDecided self.old path (plan_of clock.now) frame }
+        requires decided { HaveDecided self.old path clock.now frame }
         requires fed { AreFed self.old path clock.now (F.inputs feed.old) }
-        requires placed { StandAt self.old (plan_of clock.now)
-            (arrivals_stretch self.old path (plan_of clock.now) frame slot S.TRIBS) }
-        ensures ok { OnOk result (GoThrough self.old self.new (plan_of clock.now)
-            (arrivals_stretch self.old path (plan_of clock.now) frame slot S.TRIBS)
+        requires placed { StandAt self.old (arrivals_stretch self.old path clock.now frame slot S.TRIBS) }
+        ensures ok { OnOk result (GoThrough self.old self.new (arrivals_stretch self.old path clock.now frame slot S.TRIBS)
             (F.inputs feed.old) (F.inputs feed.new)) }
-        ensures err { IfErr result (λ stop. StopIn self.old (plan_of clock.now)
-            (arrivals_stretch self.old path (plan_of clock.now) frame slot S.TRIBS) stop
+        ensures err { IfErr result (λ stop. StopIn self.old (arrivals_stretch self.old path clock.now frame slot S.TRIBS) stop
             (F.inputs feed.old) (F.inputs feed.new) (F.feed_faults feed.old) (F.feed_faults feed.new)) }
-        ensures unfailed { OnOk result (F.feed_faults feed.new ≡ F.feed_faults feed.old) }
-        ensures fed { F.fed feed.old feed.new }
+        ensures fed { Draws F.Feed feed.old feed.new result }
         ensures same { meanings self.new ≡ meanings self.old }
         ensures shares { shares self.new ≡ shares self.old }
     {

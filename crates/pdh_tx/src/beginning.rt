@@ -3,6 +3,7 @@
 
 ghost use Rattle.std.specs.Prelude.{◌≡◌, ◌<◌, ◌≤◌, ◌^◌, ℕ, suc, map, slice_get, Some, OnOk, IfErr};
 ghost use Rattle.pdh_tx.specs.Meaning.{plan_of, IsNodeOf};
+ghost use Rattle.pdh_tx.specs.Calls.{Draws};
 ghost use Rattle.pdh_tx.specs.Tributary.{share_in, child_in, store_in, would_carry};
 ghost use Rattle.pdh_tx.specs.Node.{node_frame};
 ghost use Rattle.pdh_tx.specs.Tributaries.{meanings, AreFed, HaveDecided, StandBefore, lead_stretch, leads_stretch, beginning_stretch, StandAt, GoThrough, StopIn};
@@ -23,19 +24,16 @@ impl<S: Shape, C: Tx> Tributaries<S, C> {
         feed: &mut F,
     ) -> Result<(), TxStop>
         requires trib { trib < S.TRIBS }
-        requires small { trib < 255 }
         requires fed { AreFed self.old path clock.now (F.inputs feed.old) }
-        requires placed { StandAt self.old (plan_of clock.now)
-            (lead_stretch self.old (plan_of clock.now) trib) }
-        ensures ok { OnOk result (GoThrough self.old self.new (plan_of clock.now)
-            (lead_stretch self.old (plan_of clock.now) trib) (F.inputs feed.old) (F.inputs feed.new)) }
-        ensures err { IfErr result (λ stop. StopIn self.old (plan_of clock.now)
-            (lead_stretch self.old (plan_of clock.now) trib) stop
+        requires placed { StandAt self.old (lead_stretch self.old clock.now trib) }
+        ensures ok { OnOk result (GoThrough self.old self.new (lead_stretch self.old clock.now trib)
+            (F.inputs feed.old) (F.inputs feed.new)) }
+        ensures err { IfErr result (λ stop. StopIn self.old (lead_stretch self.old clock.now trib) stop
             (F.inputs feed.old) (F.inputs feed.new) (F.feed_faults feed.old) (F.feed_faults feed.new)) }
-        ensures unfailed { OnOk result (F.feed_faults feed.new ≡ F.feed_faults feed.old) }
-        ensures fed { F.fed feed.old feed.new }
+        ensures fed { Draws F.Feed feed.old feed.new result }
         ensures same { meanings self.new ≡ meanings self.old }
     {
+        prove!(trib < S::TRIBS);
         let place = Place {
             path,
             trib: trib + 1,
@@ -53,15 +51,12 @@ impl<S: Shape, C: Tx> Tributaries<S, C> {
         feed: &mut F,
     ) -> Result<(), TxStop>
         requires fed { AreFed self.old path clock.now (F.inputs feed.old) }
-        requires placed { StandAt self.old (plan_of clock.now)
-            (leads_stretch self.old (plan_of clock.now) S.TRIBS) }
-        ensures ok { OnOk result (GoThrough self.old self.new (plan_of clock.now)
-            (leads_stretch self.old (plan_of clock.now) S.TRIBS) (F.inputs feed.old) (F.inputs feed.new)) }
-        ensures err { IfErr result (λ stop. StopIn self.old (plan_of clock.now)
-            (leads_stretch self.old (plan_of clock.now) S.TRIBS) stop
+        requires placed { StandAt self.old (leads_stretch self.old clock.now S.TRIBS) }
+        ensures ok { OnOk result (GoThrough self.old self.new (leads_stretch self.old clock.now S.TRIBS)
+            (F.inputs feed.old) (F.inputs feed.new)) }
+        ensures err { IfErr result (λ stop. StopIn self.old (leads_stretch self.old clock.now S.TRIBS) stop
             (F.inputs feed.old) (F.inputs feed.new) (F.feed_faults feed.old) (F.feed_faults feed.new)) }
-        ensures unfailed { OnOk result (F.feed_faults feed.new ≡ F.feed_faults feed.old) }
-        ensures fed { F.fed feed.old feed.new }
+        ensures fed { Draws F.Feed feed.old feed.new result }
         ensures same { meanings self.new ≡ meanings self.old }
     {
         for trib in 0..S::TRIBS {
@@ -80,16 +75,12 @@ impl<S: Shape, C: Tx> Tributaries<S, C> {
     ) -> Result<(), TxStop>
         requires scheduled { frame < (plan_of clock.now).frames path }
         requires fed { AreFed self.old path clock.now (F.inputs feed.old) }
-        requires placed { StandAt self.old (plan_of clock.now)
-            (beginning_stretch self.old path (plan_of clock.now) frame 0) }
-        ensures ok { OnOk result (GoThrough self.old self.new (plan_of clock.now)
-            (beginning_stretch self.old path (plan_of clock.now) frame 0)
+        requires placed { StandAt self.old (beginning_stretch self.old path clock.now frame 0) }
+        ensures ok { OnOk result (GoThrough self.old self.new (beginning_stretch self.old path clock.now frame 0)
             (F.inputs feed.old) (F.inputs feed.new)) }
-        ensures err { IfErr result (λ stop. StopIn self.old (plan_of clock.now)
-            (beginning_stretch self.old path (plan_of clock.now) frame 0) stop
+        ensures err { IfErr result (λ stop. StopIn self.old (beginning_stretch self.old path clock.now frame 0) stop
             (F.inputs feed.old) (F.inputs feed.new) (F.feed_faults feed.old) (F.feed_faults feed.new)) }
-        ensures unfailed { OnOk result (F.feed_faults feed.new ≡ F.feed_faults feed.old) }
-        ensures fed { F.fed feed.old feed.new }
+        ensures fed { Draws F.Feed feed.old feed.new result }
         ensures same { meanings self.new ≡ meanings self.old }
     {
         if frame > 0 {
@@ -128,17 +119,14 @@ impl<S: Shape, C: Tx> Tributaries<S, C> {
     ) -> Result<(), TxStop>
         requires fed { AreFed self.old path clock.now (F.inputs feed.old) }
         requires placed { StandBefore self.old path (plan_of clock.now) frame slot }
-        ensures decided { OnOk result (HaveDecided self.new path (plan_of clock.now) frame) }
+        ensures decided { OnOk result (HaveDecided self.new path clock.now frame) }
         ensures scheduled { OnOk result (frame < (plan_of clock.now).frames path) }
         ensures bounded { OnOk result (suc frame < 2 ^ 64) }
-        ensures ok { OnOk result (GoThrough self.old self.new (plan_of clock.now)
-            (beginning_stretch self.old path (plan_of clock.now) frame slot)
+        ensures ok { OnOk result (GoThrough self.old self.new (beginning_stretch self.old path clock.now frame slot)
             (F.inputs feed.old) (F.inputs feed.new)) }
-        ensures err { IfErr result (λ stop. StopIn self.old (plan_of clock.now)
-            (beginning_stretch self.old path (plan_of clock.now) frame slot) stop
+        ensures err { IfErr result (λ stop. StopIn self.old (beginning_stretch self.old path clock.now frame slot) stop
             (F.inputs feed.old) (F.inputs feed.new) (F.feed_faults feed.old) (F.feed_faults feed.new)) }
-        ensures unfailed { OnOk result (F.feed_faults feed.new ≡ F.feed_faults feed.old) }
-        ensures fed { F.fed feed.old feed.new }
+        ensures fed { Draws F.Feed feed.old feed.new result }
         ensures same { meanings self.new ≡ meanings self.old }
     {
         if slot > 0 {
@@ -156,19 +144,15 @@ impl<S: Shape, C: Tx> Tributaries<S, C> {
         feed: &mut F,
     ) -> Result<(), TxStop>
         requires fed { AreFed self.old path clock.now (F.inputs feed.old) }
-        requires placed { StandAt self.old (plan_of clock.now)
-            (beginning_stretch self.old path (plan_of clock.now) frame 0) }
-        ensures decided { OnOk result (HaveDecided self.new path (plan_of clock.now) frame) }
+        requires placed { StandAt self.old (beginning_stretch self.old path clock.now frame 0) }
+        ensures decided { OnOk result (HaveDecided self.new path clock.now frame) }
         ensures scheduled { OnOk result (frame < (plan_of clock.now).frames path) }
         ensures bounded { OnOk result (suc frame < 2 ^ 64) }
-        ensures ok { OnOk result (GoThrough self.old self.new (plan_of clock.now)
-            (beginning_stretch self.old path (plan_of clock.now) frame 0)
+        ensures ok { OnOk result (GoThrough self.old self.new (beginning_stretch self.old path clock.now frame 0)
             (F.inputs feed.old) (F.inputs feed.new)) }
-        ensures err { IfErr result (λ stop. StopIn self.old (plan_of clock.now)
-            (beginning_stretch self.old path (plan_of clock.now) frame 0) stop
+        ensures err { IfErr result (λ stop. StopIn self.old (beginning_stretch self.old path clock.now frame 0) stop
             (F.inputs feed.old) (F.inputs feed.new) (F.feed_faults feed.old) (F.feed_faults feed.new)) }
-        ensures unfailed { OnOk result (F.feed_faults feed.new ≡ F.feed_faults feed.old) }
-        ensures fed { F.fed feed.old feed.new }
+        ensures fed { Draws F.Feed feed.old feed.new result }
         ensures same { meanings self.new ≡ meanings self.old }
     {
         if frame >= clock.frames(&path) {

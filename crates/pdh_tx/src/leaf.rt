@@ -1,10 +1,11 @@
 //! The sender that is a leaf: its bits are those of a feed's list.
 
 ghost use Rattle.std.specs.Prelude.{◌≡◌, ◌+◌, ◌≤◌, length, IsTrue, OnOk, OnErr};
-ghost use Rattle.pdh_packed.specs.Gaining.{gained, IsGrown};
-ghost use Rattle.pdh_edge.specs.Ports.{Takes, HasCause, for_leaf};
+ghost use Rattle.pdh_packed.specs.Gaining.{gained};
+ghost use Rattle.pdh_edge.specs.Ports.{Takes, for_leaf};
 ghost use Rattle.pdh_shape.specs.Frame.{idle};
 ghost use Rattle.pdh_tx.specs.Meaning.{IsFresh};
+ghost use Rattle.pdh_tx.specs.Calls.{DrawsClear, Appends};
 ghost use Rattle.pdh_tx.specs.Leaf.{leaf_meaning, TakesUpTo};
 ghost use Rattle.pdh_tx.specs.laws.LeafLaws.{leaf_grows};
 
@@ -45,13 +46,11 @@ fn take_bits<F: Feed>(
     requires held { IsTrue ((F.inputs feed.old).holds leaf) }
     requires enough { count ≤ (F.inputs feed.old).left leaf }
     requires room { length into.old.bits + count ≤ into.old.capacity }
-    ensures grown { OnOk result (IsGrown into.old into.new count) }
+    ensures appended { Appends into.old into.new count result }
     ensures ok { OnOk result
         (Takes (for_leaf leaf (gained into.old into.new)) (F.inputs feed.old) (F.inputs feed.new)) }
     ensures err { OnErr result (TakesUpTo leaf count (F.inputs feed.old) (F.inputs feed.new)) }
-    ensures cause { HasCause (F.feed_faults feed.old) (F.feed_faults feed.new) result }
-    ensures fed { F.fed feed.old feed.new }
-    ensures capacity { into.new.capacity ≡ into.old.capacity }
+    ensures fed { DrawsClear F.Feed feed.old feed.new result }
 {
     let mut taken = 0;
     while taken < count {

@@ -1,4 +1,4 @@
-//! Where a multiplexer stands in its line. Those without stores go by it too.
+//! Where a multiplexer stands in its line.
 
 ghost use Rattle.std.specs.Prelude.{◌≡◌, ◌<◌, ◌^◌, ◌==◌, suc, if◌then◌else◌};
 ghost use Rattle.pdh_line.specs.Sending.{Source, odd_before};

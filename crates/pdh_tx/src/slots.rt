@@ -1,16 +1,17 @@
 //! What a slot of a sent frame carries, with a bit out of a store where it reads a tributary.
 
-ghost use Rattle.std.specs.Prelude.{◌≡◌, ◌<◌, ℕ, suc, false, length, slice_get, Some, None, OnOk, OnErr, IfOk, IfErr, IfSome};
-ghost use Rattle.pdh_shape.specs.Tributary.{turned};
+ghost use Rattle.std.specs.Prelude.{◌≡◌, ◌<◌, ℕ, suc, false, length, slice_get, Some, None, OnOk, IfOk, IfErr};
 ghost use Rattle.pdh_tx.specs.declared.tx.TxStop.TheVariants.{Underflow};
-ghost use Rattle.pdh_tx.specs.Meaning.{Plan, Supply, is_failed};
+ghost use Rattle.pdh_tx.specs.Meaning.{Plan, is_failed};
 ghost use Rattle.pdh_tx.specs.Tributary.{store_in};
-ghost use Rattle.pdh_tx.specs.Node.{line_of, set_at, carried_by, overhead_bit};
-ghost use Rattle.pdh_tx.specs.Tributaries.{meanings, shares, HaveMade, HoldFor, GiveBit, ReadSlot, MeetAtRead};
+ghost use Rattle.pdh_tx.specs.Node.{set_at};
+ghost use Rattle.pdh_tx.specs.Tributaries.{meanings, shares, HaveMade, GiveNext, GiveBit, ReadSlot, MeetAtRead};
 
+use crate::decisions::{carried, overhead_of};
 use crate::tributaries::Tributaries;
+use crate::tributary::Tributary;
 use crate::{Tx, TxStop};
-use pdh_shape::{Path, Place, Role, Service, Shape};
+use pdh_shape::{Path, Place, Service, Shape};
 
 impl<S: Shape, C: Tx> Tributaries<S, C> {
     // Takes the bit of a tributary that a slot carries.
@@ -20,9 +21,7 @@ impl<S: Shape, C: Tx> Tributaries<S, C> {
             → HaveMade self.new plan made (set_at gone trib (suc (gone trib)))) }
         ensures some { OnOk result ((w : _) → slice_get self.old.list.items trib ≡ Some w
             → 0 < length (store_in w)) }
-        ensures bit { IfOk result (λ bit. (supply : Supply) (made gone : ℕ → ℕ) → HoldFor self.old supply made gone
-            → (bit ≡ turned (S.shape.inverted trib) (line_of (slice_get (meanings self.old) trib) supply (gone trib)))
-            × HoldFor self.new supply made (set_at gone trib (suc (gone trib)))) }
+        ensures bit { IfOk result (GiveNext self.old self.new trib) }
         ensures none { IfErr result (λ stop. (stop ≡ Underflow place) × ((w : _) →
             slice_get self.old.list.items trib ≡ Some w → length (store_in w) ≡ 0)) }
         ensures same { meanings self.new ≡ meanings self.old }
@@ -31,38 +30,6 @@ impl<S: Shape, C: Tx> Tributaries<S, C> {
         match self.list[trib as usize].leave() {
             Ok(bit) => Ok(bit != S::inverted(trib)),
             Err(_) => Err(TxStop::Underflow(place)),
-        }
-    }
-
-    // The tributary whose bit a slot carries, if it carries one.
-    fn carried(&self, slot: u32) -> Option<u8>
-        requires { slot < S.LEN }
-        ensures carried { result ≡ carried_by (shares self.now) (S.shape.role slot) }
-        ensures known { IfSome result (λ trib. trib < S.TRIBS) }
-    {
-        match S::role(slot) {
-            Role::Info(trib) => Some(trib),
-            Role::Just(trib) => {
-                if self.list[trib as usize].share.more {
-                    Some(trib)
-                } else {
-                    None
-                }
-            }
-            _ => None,
-        }
-    }
-
-    /// The bit of a slot that carries no tributary's.
-    pub fn overhead(&self, slot: u32, say: &Service, odd: bool) -> bool
-        requires { slot < S.LEN }
-        ensures { result ≡ overhead_bit S.shape say.now odd (shares self.now) (S.shape.role slot) }
-    {
-        match S::role(slot) {
-            Role::Align(signal) => signal,
-            Role::Service(number) => S::service(number, say, odd),
-            Role::Control(trib, _) => !self.list[trib as usize].share.more,
-            _ => true,
         }
     }
 
@@ -84,7 +51,7 @@ impl<S: Shape, C: Tx> Tributaries<S, C> {
         ensures same { meanings self.new ≡ meanings self.old }
         ensures shares { shares self.new ≡ shares self.old }
     {
-        match self.carried(slot) {
+        match carried::<S, Vec<Tributary<C>>>(slot, &self.list) {
             Some(trib) => {
                 prove!(trib < S::TRIBS);
                 let place = Place {
@@ -95,7 +62,7 @@ impl<S: Shape, C: Tx> Tributaries<S, C> {
                 };
                 self.read(trib, place)
             }
-            None => Ok(self.overhead(slot, say, odd)),
+            None => Ok(overhead_of::<S, Vec<Tributary<C>>>(slot, say, odd, &self.list)),
         }
     }
 }

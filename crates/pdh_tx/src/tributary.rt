@@ -1,15 +1,11 @@
 //! A tributary of a multiplexer: its child, its elastic store, and its share of the frame.
 
-ghost use Rattle.std.specs.Prelude.{◌≡◌, ◌+◌, ◌<◌, ◌≤◌, ℕ, suc, All, OnOk, OnErr, IfOk, IfErr, None, length, nat_le};
-ghost use Rattle.pdh_shape.specs.Frame.{idle};
-ghost use Rattle.pdh_edge.specs.Ports.{HasCause};
+ghost use Rattle.std.specs.Prelude.{◌≡◌, ◌+◌, ◌<◌, ◌≤◌, ℕ, suc, OnOk, OnErr, IfOk, IfErr, length, nat_le};
 ghost use Rattle.pdh_shape.specs.OwnNumbers.{lead, threshold, store_size};
-ghost use Rattle.pdh_tx.specs.Meaning.{Plan, Supply, plan_of, IsNodeOf, HoldsAll, Fits, Met};
-ghost use Rattle.pdh_tx.specs.Held.{Gains, Halts, lead_of, first_some};
-ghost use Rattle.pdh_tx.specs.Making.{IsClear};
-ghost use Rattle.pdh_runs.specs.Pieces.{rows};
-ghost use Rattle.pdh_tx.specs.Tributary.{placed_in, held_in, meaning_in, arrival_in};
-ghost use Rattle.pdh_tx.specs.Passing.{carried_in, passed_in};
+ghost use Rattle.pdh_tx.specs.Meaning.{Plan, Supply, plan_of};
+ghost use Rattle.pdh_tx.specs.Calls.{Draws, DrawsClear, HasRoomFor, HasSameRoom, IsFed};
+ghost use Rattle.pdh_tx.specs.Tributary.{placed_in, held_in, meaning_in, KeepsShare, StandsIn, TakesNext, StopsAtNext, TakesLead, StopsInLead};
+ghost use Rattle.pdh_tx.specs.Passing.{PassesFreely, PassesColumn, HaltsPassing};
 
 use crate::{Tx, TxStop};
 use pdh_clock::Schedule;
@@ -48,25 +44,15 @@ impl<C: Tx> Tributary<C> {
         clock: &Schedule,
         feed: &mut F,
     ) -> Result<(), TxStop>
-        requires lists { HoldsAll (meaning_in C.Tx self.old).leaves (F.inputs feed.old) }
-        requires nodes { All (IsNodeOf clock.now.levels) (meaning_in C.Tx self.old).nodes }
-        requires placed { (made : ℕ) × (read : ℕ) × placed_in C.Tx self.old (plan_of clock.now) made read }
-        ensures placed { OnOk result ((made read : ℕ) → placed_in C.Tx self.old (plan_of clock.now) made read
-            → placed_in C.Tx self.new (plan_of clock.now) (suc made) read) }
-        ensures gains { OnOk result ((made read : ℕ) → placed_in C.Tx self.old (plan_of clock.now) made read
-            → Gains (meaning_in C.Tx self.old) (plan_of clock.now) (held_in C.Tx self.old) (held_in C.Tx self.new) made (suc made) read (F.inputs feed.old) (F.inputs feed.new)) }
-        ensures free { OnOk result (let plan = plan_of clock.now in (made read : ℕ) → placed_in C.Tx self.old plan made read → (size : ℕ → ℕ)
-            → Fits (meaning_in C.Tx self.old) plan made (F.inputs feed.old) size → first_some (arrival_in C.Tx self.old plan place size made) ≡ None) }
-        ensures halts { IfErr result (λ stop. (made read : ℕ) → placed_in C.Tx self.old (plan_of clock.now) made read
-            → Halts (meaning_in C.Tx self.old) (plan_of clock.now) made (suc made) stop (F.inputs feed.old) (F.inputs feed.new)) }
-        ensures met { IfErr result (λ stop. let plan = plan_of clock.now in (made read : ℕ) → placed_in C.Tx self.old plan made read
-            → Met (Fits (meaning_in C.Tx self.old) plan made (F.inputs feed.old)) (λ size. first_some (arrival_in C.Tx self.old plan place size made))
-            stop (F.feed_faults feed.old) (F.feed_faults feed.new)) }
-        ensures unfailed { OnOk result (F.feed_faults feed.new ≡ F.feed_faults feed.old) }
-        ensures fed { F.fed feed.old feed.new }
-        ensures same { meaning_in C.Tx self.new ≡ meaning_in C.Tx self.old }
-        ensures share { self.new.share ≡ self.old.share }
-        ensures kept { OnErr result (self.new.store ≡ self.old.store) }
+        requires fed { IsFed (meaning_in C.Tx self.old) clock.now (F.inputs feed.old) }
+        requires placed { StandsIn C.Tx self.old clock.now }
+        ensures ok { OnOk result (TakesNext C.Tx self.old self.new clock.now place
+            (F.inputs feed.old) (F.inputs feed.new)) }
+        ensures err { IfErr result (λ stop. StopsAtNext C.Tx self.old clock.now place stop
+            (F.inputs feed.old) (F.inputs feed.new) (F.feed_faults feed.old) (F.feed_faults feed.new)) }
+        ensures fed { Draws F.Feed feed.old feed.new result }
+        ensures kept { KeepsShare C.Tx self.old self.new }
+        ensures store { OnErr result (self.new.store ≡ self.old.store) }
     {
         let bit = self.child.next(clock, feed)?;
         match self.store.arrive(bit) {
@@ -91,31 +77,18 @@ impl<C: Tx> Tributary<C> {
         queue: &mut Packed,
         column: &mut Packed,
     ) -> Result<(), Failed>
-        requires lists { HoldsAll (meaning_in C.Tx self.old).leaves (F.inputs feed.old) }
-        requires nodes { All (IsNodeOf clock.now.levels) (meaning_in C.Tx self.old).nodes }
+        requires fed { IsFed (meaning_in C.Tx self.old) clock.now (F.inputs feed.old) }
         requires trib { trib < S.TRIBS }
         requires inside { first + len ≤ S.LEN }
-        requires room { arriving + store_size ≤ queue.old.capacity }
-        requires column { S.LOW + 1 ≤ column.old.capacity }
-        requires clear { (made : ℕ) × (read : ℕ) × (placed_in C.Tx self.old (plan_of clock.now) made read)
-            × (IsClear (meaning_in C.Tx self.old) (plan_of clock.now) made (made + arriving) (F.inputs feed.old)) }
-        requires enough { carried_in S.shape trib self.old.share.more first len ≤ length self.old.store + arriving }
-        requires few { length self.old.store ≤ store_size
-            → length self.old.store + arriving ≤ carried_in S.shape trib self.old.share.more first len + store_size }
-        ensures placed { OnOk result (let gone = carried_in S.shape trib self.old.share.more first len in
-            (made read : ℕ) → placed_in C.Tx self.old (plan_of clock.now) made read → placed_in C.Tx self.new (plan_of clock.now) (made + arriving) (read + gone)) }
-        ensures gains { OnOk result (let plan = plan_of clock.now in (made read : ℕ) → placed_in C.Tx self.old plan made read
-            → Gains (meaning_in C.Tx self.old) plan (held_in C.Tx self.old) (passed_in C.Tx S.shape trib first len self.old self.new column.new.bits)
-            made (made + arriving) read (F.inputs feed.old) (F.inputs feed.new)) }
-        ensures rows { OnOk result (length column.new.bits ≡ rows S.shape first len) }
-        ensures halts { OnErr result ((made read : ℕ) → placed_in C.Tx self.old (plan_of clock.now) made read
-            → Halts (meaning_in C.Tx self.old) (plan_of clock.now) made (made + arriving) TxStop.Failed (F.inputs feed.old) (F.inputs feed.new)) }
-        ensures cause { HasCause (F.feed_faults feed.old) (F.feed_faults feed.new) result }
-        ensures fed { F.fed feed.old feed.new }
-        ensures same { meaning_in C.Tx self.new ≡ meaning_in C.Tx self.old }
-        ensures share { self.new.share ≡ self.old.share }
-        ensures queue_room { queue.new.capacity ≡ queue.old.capacity }
-        ensures column_room { column.new.capacity ≡ column.old.capacity }
+        requires room { HasRoomFor (arriving + store_size) (S.LOW + 1) queue.old column.old }
+        requires clear { PassesFreely C.Tx S.shape trib first len arriving self.old clock.now (F.inputs feed.old) }
+        ensures ok { OnOk result (PassesColumn C.Tx S.shape trib first len arriving self.old self.new
+            column.new.bits clock.now (F.inputs feed.old) (F.inputs feed.new)) }
+        ensures halts { OnErr result (HaltsPassing C.Tx arriving self.old clock.now
+            (F.inputs feed.old) (F.inputs feed.new)) }
+        ensures fed { DrawsClear F.Feed feed.old feed.new result }
+        ensures kept { KeepsShare C.Tx self.old self.new }
+        ensures room { HasSameRoom queue.old queue.new column.old column.new }
     {
         let more = self.share.more;
         queue.clear();
@@ -135,18 +108,14 @@ impl<C: Tx> Tributary<C> {
         clock: &Schedule,
         feed: &mut F,
     ) -> Result<(), TxStop>
-        requires lists { HoldsAll (meaning_in C.Tx self.old).leaves (F.inputs feed.old) }
-        requires nodes { All (IsNodeOf clock.now.levels) (meaning_in C.Tx self.old).nodes }
+        requires fed { IsFed (meaning_in C.Tx self.old) clock.now (F.inputs feed.old) }
         requires placed { placed_in C.Tx self.old (plan_of clock.now) 0 0 }
-        ensures placed { OnOk result (placed_in C.Tx self.new (plan_of clock.now) lead 0) }
-        ensures gains { OnOk result (Gains (meaning_in C.Tx self.old) (plan_of clock.now) (held_in C.Tx self.old) (held_in C.Tx self.new) 0 lead 0 (F.inputs feed.old) (F.inputs feed.new)) }
-        ensures free { OnOk result ((size : ℕ → ℕ) → Fits (meaning_in C.Tx self.old) (plan_of clock.now) 0 (F.inputs feed.old) size → first_some (lead_of (meaning_in C.Tx self.old) (plan_of clock.now) size) ≡ None) }
-        ensures halts { IfErr result (λ stop. Halts (meaning_in C.Tx self.old) (plan_of clock.now) 0 lead stop (F.inputs feed.old) (F.inputs feed.new)) }
-        ensures met { IfErr result (λ stop. Met (Fits (meaning_in C.Tx self.old) (plan_of clock.now) 0 (F.inputs feed.old)) (λ size. first_some (lead_of (meaning_in C.Tx self.old) (plan_of clock.now) size)) stop (F.feed_faults feed.old) (F.feed_faults feed.new)) }
-        ensures unfailed { OnOk result (F.feed_faults feed.new ≡ F.feed_faults feed.old) }
-        ensures fed { F.fed feed.old feed.new }
-        ensures same { meaning_in C.Tx self.new ≡ meaning_in C.Tx self.old }
-        ensures share { self.new.share ≡ self.old.share }
+        ensures ok { OnOk result (TakesLead C.Tx self.old self.new clock.now
+            (F.inputs feed.old) (F.inputs feed.new)) }
+        ensures err { IfErr result (λ stop. StopsInLead C.Tx self.old clock.now stop
+            (F.inputs feed.old) (F.inputs feed.new) (F.feed_faults feed.old) (F.feed_faults feed.new)) }
+        ensures fed { Draws F.Feed feed.old feed.new result }
+        ensures kept { KeepsShare C.Tx self.old self.new }
     {
         for _taken in 0..LEAD {
             self.arrive(place, clock, feed)?;

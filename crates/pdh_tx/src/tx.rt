@@ -1,12 +1,10 @@
 //! Senders as a trait: what leaves and multiplexers have in common.
 
-ghost use Rattle.std.specs.Prelude.{◌≡◌, ◌≤◌, ◌+◌, ℕ, suc, Bool, true, false, All, length, IfOk, OnOk, IfErr, OnErr};
-ghost use Rattle.pdh_packed.specs.Gaining.{gained, IsGrown};
-ghost use Rattle.pdh_edge.specs.Ports.{HasCause};
+ghost use Rattle.std.specs.Prelude.{◌≡◌, ◌≤◌, ◌+◌, ℕ, suc, Bool, false, is_err, length, IfOk, OnOk, IfErr, OnErr};
+ghost use Rattle.pdh_packed.specs.Gaining.{gained};
 ghost use Rattle.pdh_shape.specs.declared.role.Service.{Service};
-ghost use Rattle.pdh_tx.specs.Meaning.{Supply, Plan, plan_of, Meaning, IsNodeOf, HoldsAll, Makes, Stops};
-ghost use Rattle.pdh_tx.specs.Held.{Halts};
-ghost use Rattle.pdh_tx.specs.Making.{IsClear, MakesAll};
+ghost use Rattle.pdh_tx.specs.Meaning.{Supply, Plan, Meaning};
+ghost use Rattle.pdh_tx.specs.Calls.{Draws, DrawsClear, Appends, IsFed, IsKept, StandsBy, StandsClear, MakesNext, StopsNext, MakesNextAll, HaltsNext};
 
 use pdh_clock::Schedule;
 use pdh_edge::{Failed, Feed};
@@ -61,23 +59,15 @@ pub trait Tx: Drop {
     /// where the feed's count of faults rose, and any other stop exactly where it is the first.
     fn next<F: Feed>(&mut self, clock: &Schedule, feed: &mut F) -> Result<bool, TxStop>
         requires running { is_stopped self.old ≡ false }
-        requires lists { HoldsAll (meaning self.old).leaves (F.inputs feed.old) }
-        requires nodes { All (IsNodeOf clock.now.levels) (meaning self.old).nodes }
-        requires stands { (x : ℕ) × stands_at self.old (plan_of clock.now) x }
-        ensures made { IfOk result (λ bit. (x : ℕ) → stands_at self.old (plan_of clock.now) x
-            → Makes (meaning self.old) (says self.old) (stands_at self.new (plan_of clock.now))
-            (stands_for self.old) (stands_for self.new) (plan_of clock.now) x bit
+        requires fed { IsFed (meaning self.old) clock.now (F.inputs feed.old) }
+        requires stands { StandsBy stands_at self.old clock.now }
+        ensures made { IfOk result (λ bit. MakesNext meaning says stands_at stands_for self.old self.new clock.now bit
             (F.inputs feed.old) (F.inputs feed.new)) }
-        ensures stops { IfErr result (λ stop. (x : ℕ) → stands_at self.old (plan_of clock.now) x
-            → Stops (meaning self.old) (plan_of clock.now) x stop
-            (F.inputs feed.old) (F.inputs feed.new)
-            (F.feed_faults feed.old) (F.feed_faults feed.new)) }
-        ensures running { OnOk result (is_stopped self.new ≡ false) }
-        ensures stopped { OnErr result (is_stopped self.new ≡ true) }
-        ensures unfailed { OnOk result (F.feed_faults feed.new ≡ F.feed_faults feed.old) }
-        ensures fed { F.fed feed.old feed.new }
-        ensures same { meaning self.new ≡ meaning self.old }
-        ensures same_says { says self.new ≡ says self.old };
+        ensures stops { IfErr result (λ stop. StopsNext meaning stands_at self.old clock.now stop
+            (F.inputs feed.old) (F.inputs feed.new) (F.feed_faults feed.old) (F.feed_faults feed.new)) }
+        ensures stopped { is_stopped self.new ≡ is_err result }
+        ensures fed { Draws F.Feed feed.old feed.new result }
+        ensures kept { IsKept meaning says self.old self.new };
 
     /// Makes the next bits of the line, so many, in whose way nothing stands, and appends them to
     /// `into`; it fails only where the feed's count of faults rose, and the leaves gave no more than
@@ -90,26 +80,17 @@ pub trait Tx: Drop {
         into: &mut Packed,
     ) -> Result<(), Failed>
         requires running { is_stopped self.old ≡ false }
-        requires lists { HoldsAll (meaning self.old).leaves (F.inputs feed.old) }
-        requires nodes { All (IsNodeOf clock.now.levels) (meaning self.old).nodes }
+        requires fed { IsFed (meaning self.old) clock.now (F.inputs feed.old) }
         requires room { length into.old.bits + count ≤ into.old.capacity }
-        requires clear { (x : ℕ) × (stands_at self.old (plan_of clock.now) x)
-            × (IsClear (meaning self.old) (plan_of clock.now) x (x + count) (F.inputs feed.old)) }
-        ensures grown { OnOk result (IsGrown into.old into.new count) }
-        ensures made { OnOk result ((x : ℕ) → stands_at self.old (plan_of clock.now) x
-            → MakesAll (meaning self.old) (says self.old) (stands_at self.new (plan_of clock.now))
-            (stands_for self.old) (stands_for self.new) (plan_of clock.now) x (x + count)
+        requires clear { StandsClear meaning stands_at self.old clock.now count (F.inputs feed.old) }
+        ensures appended { Appends into.old into.new count result }
+        ensures made { OnOk result (MakesNextAll meaning says stands_at stands_for self.old self.new clock.now count
             (gained into.old into.new) (F.inputs feed.old) (F.inputs feed.new)) }
-        ensures halts { OnErr result ((x : ℕ) → stands_at self.old (plan_of clock.now) x
-            → Halts (meaning self.old) (plan_of clock.now) x (x + count)
-            TxStop.Failed (F.inputs feed.old) (F.inputs feed.new)) }
-        ensures cause { HasCause (F.feed_faults feed.old) (F.feed_faults feed.new) result }
-        ensures running { OnOk result (is_stopped self.new ≡ false) }
-        ensures stopped { OnErr result (is_stopped self.new ≡ true) }
-        ensures fed { F.fed feed.old feed.new }
-        ensures same { meaning self.new ≡ meaning self.old }
-        ensures same_says { says self.new ≡ says self.old }
-        ensures capacity { into.new.capacity ≡ into.old.capacity };
+        ensures halts { OnErr result (HaltsNext meaning stands_at self.old clock.now count
+            (F.inputs feed.old) (F.inputs feed.new)) }
+        ensures stopped { is_stopped self.new ≡ is_err result }
+        ensures fed { DrawsClear F.Feed feed.old feed.new result }
+        ensures kept { IsKept meaning says self.old self.new };
 
     /// A longer line takes no fewer bits.
     ghost grows: { (t : Self) (plan : Plan) (x k : ℕ)

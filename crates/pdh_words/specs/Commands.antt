@@ -124,3 +124,7 @@ HasSmallNumbers (Mux chain (Some code)) = code < 64
 HasSmallNumbers (Show chain frame) = frame ≤ 999999999
 HasSmallNumbers (Drill chain seed frames) = seed ≤ 999999999
 HasSmallNumbers _ = ⊤
+
+-- what is told of words that are no row of the table
+abbrev pub usage_text : List ℕ
+usage_text = codes "usage: pdh mux demux clock inspect show e1pack e1unpack disturb drill"

@@ -1,7 +1,11 @@
-//! The commands, each with what its words tell.
+//! The table of commands: each command with what its words tell, and which words ask for which.
 
-use pdh_chain::Chain;
-use pdh_clock::Bias;
+ghost use Rattle.std.specs.Prelude.{◌≡◌, ◌≤◌, length, map, IfSome};
+ghost use Rattle.std.specs.String.{string_bytes};
+ghost use Rattle.pdh_words.specs.Commands.{chain_of, bias_of, framing_of, reading_of, conversion_of, showing_of, checking_of, sending_of, making_of, drilling_of, of_two as by_two, of_three as by_three, of_four as by_four, of_five as by_five, command_of, usage_text, HasSmallNumbers};
+
+use pdh_chain::{Chain, all_chains};
+use pdh_clock::{Bias, number};
 
 /// Which file a line is read from.
 #[derive(Clone, Copy, Debug, PartialEq, Eq)]
@@ -77,4 +81,214 @@ pub enum Command {
         /// How many frames the line has.
         frames: u64,
     },
+}
+
+/// What is told of words that are no row of the table.
+pub fn usage() -> &'static str
+    ensures text { result.now ≡ usage_text }
+    ensures short { length result.now ≤ 100 }
+{
+    "usage: pdh mux demux clock inspect show e1pack e1unpack disturb drill"
+}
+
+// The chain that a word names.
+fn chain(word: &str) -> Option<Chain>
+    ensures { result ≡ chain_of word.now }
+{
+    all_chains()
+        .iter()
+        .copied()
+        .find(|chain| word == chain.name())
+}
+
+// The clock offsets that a word names.
+fn bias(word: &str) -> Option<Bias>
+    ensures { result ≡ bias_of word.now }
+{
+    match word {
+        "nominal" => Some(Bias::Nominal),
+        "fast" => Some(Bias::Fast),
+        "slow" => Some(Bias::Slow),
+        "mixed" => Some(Bias::Mixed),
+        _ => None,
+    }
+}
+
+// The command of one word alone.
+fn framing(word: &str) -> Option<Command>
+    ensures { result ≡ framing_of word.now }
+{
+    match word {
+        "e1pack" => Some(Command::E1Pack),
+        "e1unpack" => Some(Command::E1Unpack),
+        _ => None,
+    }
+}
+
+// The command of one word and a chain that reads a line from this file.
+fn reading(word: &str, chain: Chain, bits: Bits) -> Option<Command>
+    ensures { result ≡ reading_of word.now chain bits }
+{
+    match word {
+        "demux" => Some(Command::Demux { chain, bits }),
+        "inspect" => Some(Command::Inspect { chain, bits }),
+        _ => None,
+    }
+}
+
+// The command of one word and a chain.
+fn conversion(word: &str, chain: Chain) -> Option<Command>
+    ensures { result ≡ conversion_of word.now chain }
+{
+    match word {
+        "mux" => Some(Command::Mux { chain, feac: None }),
+        "disturb" => Some(Command::Disturb { chain }),
+        _ => reading(word, chain, Bits::Line),
+    }
+}
+
+// The showing of a frame of a line, by its chain and its number.
+fn showing(chain_word: &str, frame: &str) -> Option<Command>
+    ensures is { result ≡ showing_of chain_word.now frame.now }
+    ensures numbers { IfSome result HasSmallNumbers }
+{
+    let chain = chain(chain_word)?;
+    let frame = u64::from(number(frame.as_bytes())?);
+    Some(Command::Show { chain, frame })
+}
+
+// The check of a schedule, by its chain.
+fn checking(chain_word: &str) -> Option<Command>
+    ensures { result ≡ checking_of chain_word.now }
+{
+    let chain = chain(chain_word)?;
+    Some(Command::ClockCheck { chain })
+}
+
+// The making of a line with C-bit parity that sends a code.
+fn sending(code_word: &str) -> Option<Command>
+    ensures is { result ≡ sending_of code_word.now }
+    ensures numbers { IfSome result HasSmallNumbers }
+{
+    let code = number(code_word.as_bytes())?;
+    if code > 63 {
+        return None;
+    }
+    Some(Command::Mux {
+        chain: Chain::C13,
+        feac: Some(code as u8),
+    })
+}
+
+// The making of a schedule, by its chain, its number of frames and its offsets.
+fn making(chain_word: &str, frames: &str, bias_word: &str) -> Option<Command>
+    ensures is { result ≡ making_of chain_word.now frames.now bias_word.now }
+    ensures numbers { IfSome result HasSmallNumbers }
+{
+    let chain = chain(chain_word)?;
+    let frames = u64::from(number(frames.as_bytes())?);
+    let bias = bias(bias_word)?;
+    Some(Command::ClockMake {
+        chain,
+        frames,
+        bias,
+    })
+}
+
+// The drill of a chain, by what its test patterns begin with and its number of frames.
+fn drilling(chain_word: &str, seed: &str, frames: &str) -> Option<Command>
+    ensures is { result ≡ drilling_of chain_word.now seed.now frames.now }
+    ensures numbers { IfSome result HasSmallNumbers }
+{
+    let chain = chain(chain_word)?;
+    let seed = u64::from(number(seed.as_bytes())?);
+    let frames = u64::from(number(frames.as_bytes())?);
+    Some(Command::Drill {
+        chain,
+        seed,
+        frames,
+    })
+}
+
+// The command of two words.
+fn of_two(first: &str, second: &str) -> Option<Command>
+    ensures is { result ≡ by_two first.now second.now }
+    ensures numbers { IfSome result HasSmallNumbers }
+{
+    if first == "inspect" && second == "e1" {
+        return Some(Command::InspectE1);
+    }
+    conversion(first, chain(second)?)
+}
+
+// The command of three words.
+fn of_three(first: &str, second: &str, third: &str) -> Option<Command>
+    ensures is { result ≡ by_three first.now second.now third.now }
+    ensures numbers { IfSome result HasSmallNumbers }
+{
+    if first == "show" {
+        return showing(second, third);
+    }
+    if first == "clock" && second == "check" {
+        return checking(third);
+    }
+    if third == "bent" {
+        return reading(first, chain(second)?, Bits::Bent);
+    }
+    None
+}
+
+// The command of four words.
+fn of_four(first: &str, second: &str, third: &str, fourth: &str) -> Option<Command>
+    ensures is { result ≡ by_four first.now second.now third.now fourth.now }
+    ensures numbers { IfSome result HasSmallNumbers }
+{
+    if first == "mux" && second == "c13" && third == "feac" {
+        return sending(fourth);
+    }
+    if first == "drill" {
+        return drilling(second, third, fourth);
+    }
+    None
+}
+
+// The command of five words.
+fn of_five(first: &str, second: &str, third: &str, fourth: &str, fifth: &str) -> Option<Command>
+    ensures is { result ≡ by_five first.now second.now third.now fourth.now fifth.now }
+    ensures numbers { IfSome result HasSmallNumbers }
+{
+    if first == "clock" && second == "make" {
+        return making(third, fourth, fifth);
+    }
+    None
+}
+
+/// The command of the words, without the program's own name, if they are a row of the table: `mux CHAIN`, `demux CHAIN`,
+/// `demux CHAIN bent`, `mux c13 feac CODE` with a number of at most 63, `clock check CHAIN`, `clock make CHAIN FRAMES BIAS`
+/// with a number and `nominal`, `fast`, `slow` or `mixed`, `inspect CHAIN`, `inspect CHAIN bent`, `inspect e1`,
+/// `show CHAIN NUMBER`, `e1pack`, `e1unpack`, `disturb CHAIN`, or `drill CHAIN SEED FRAMES` with two numbers. CHAIN is the name
+/// of a chain, and a number is `0`, or a digit 1 to 9 and at most eight digits.
+pub fn command_for(words: &[String]) -> Option<Command>
+    ensures is { result ≡ command_of (map string_bytes words.now) }
+    ensures numbers { IfSome result HasSmallNumbers }
+{
+    match words {
+        [word] => framing(word.as_str()),
+        [first, second] => of_two(first.as_str(), second.as_str()),
+        [first, second, third] => of_three(first.as_str(), second.as_str(), third.as_str()),
+        [first, second, third, fourth] => of_four(
+            first.as_str(),
+            second.as_str(),
+            third.as_str(),
+            fourth.as_str(),
+        ),
+        [first, second, third, fourth, fifth] => of_five(
+            first.as_str(),
+            second.as_str(),
+            third.as_str(),
+            fourth.as_str(),
+            fifth.as_str(),
+        ),
+        _ => None,
+    }
 }

@@ -3,8 +3,6 @@
 #![tactic(auto)]
 
 mod commands;
-mod words;
 
-pub use commands::{Bits, Command};
+pub use commands::{Bits, Command, command_for, usage};
 pub use pdh_text::Text;
-pub use words::command;

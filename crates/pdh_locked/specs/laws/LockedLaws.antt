@@ -1,5 +1,5 @@
 -- A longer line of a node without stores takes no fewer bits.
-use Rattle.std.proofs.Common.{◌≡◌, inl, inr, ℕ, zero, suc, ◌+◌, ◌*◌, ◌/◌, ◌%◌, ◌<◌, ◌≤◌, Bool, true, false, ◌&&◌, List, map, cond, eqb, refl, sym, ap, ◌∙◌, arith, eqb-true}
+use Rattle.std.proofs.Common.{◌≡◌, inl, inr, ℕ, zero, suc, ◌+◌, ◌*◌, ◌/◌, ◌%◌, ◌<◌, ◌≤◌, ◌^◌, length, subst, Bool, true, false, ◌&&◌, List, map, cond, eqb, refl, sym, ap, ◌∙◌, arith, eqb-true}
 use Rattle.std.proofs.lemmas.Bool.{cases_Bool, cases_lt}
 use Rattle.pdh_shape.specs.declared.role.Role.{Role}
 use Rattle.pdh_shape.specs.declared.role.Role.TheVariants.{Align, Service, Control, Just, Info}
@@ -9,7 +9,12 @@ use Rattle.pdh_shape.specs.Tributary.{reads_from, reads_below, HasTributaries}
 use Rattle.pdh_line.specs.Sending.{given}
 use Rattle.pdh_line.proofs.SendingLaws.{reads_below-suc, reads_below-all, given-locked}
 use Rattle.pdh_tx.specs.declared.tx.Tx.{Ghosts}
-use Rattle.pdh_tx.specs.Meaning.{Plan}
+use Rattle.std.proofs.lemmas.List.{length-map}
+use Rattle.pdh_tx.specs.Meaning.{Plan, Supply}
+use Rattle.pdh_tx.specs.Body.{IsKind}
+use Rattle.pdh_tx.specs.laws.Each.{each_now}
+use Rattle.pdh_tx.specs.laws.StoredLaws.{stored_long}
+use Rattle.pdh_locked.specs.Children.{placed_in, held_in, locked_kind, Before, Through, HoldTo}
 use Rattle.pdh_tx.specs.Locked.{locked_to, locked_meaning}
 use Rattle.pdh_tx.specs.Follows.{Follows}
 use Rattle.pdh_tx.specs.laws.Growing.{given_more, grows_to}
@@ -100,3 +105,23 @@ pub locked_grows : {C : Type 0} (tx : Ghosts C) (grows : (c : C) (plan : Plan) (
     → (path : Path) (children : List C) (plan : Plan) (x k : ℕ) → (locked_meaning s path (map tx.meaning children)).given plan x k ≤ (locked_meaning s path (map tx.meaning children)).given plan (suc x) k
 locked_grows tx grows s frame has locked path children plan x k =
     given_more tx.meaning plan children (λ j. given s j (plan.counts path j) x) (λ j. given s j (plan.counts path j) (suc x)) k (λ c n k. grows c plan n k) (λ j. given_less s frame has locked (plan.counts path j) j x)
+
+pub locked_is_kind : (s : FrameShape) → HasTributaries s → eqb s.copies 0 ≡ true → IsKind s (locked_kind s)
+locked_is_kind s has locked = record {
+  taken_is = λ path plan n t x j place within. locked_is s n t x place within locked (plan.counts path j) j;
+  taken_next = λ path plan n t n' t' j follows known. locked_follows s has n t n' t' follows j known;
+}
+
+module _ {C : Type 0} (tx : Ghosts C) (s : FrameShape) (has : HasTributaries s) (path : Path) (plan : Plan) (children : List C) (long : length children ≡ s.tribs) (n t n' t' : ℕ) (follows : Follows s n t n' t') where
+  pub locked_next : Through tx s path plan children n (suc t) → Before tx s path plan children n' t'
+  locked_next made = record {
+    made = each_now (λ c. placed_in tx c plan) children s.tribs long _ _ _ _ (locked_follows s has n t n' t' follows) (locked_follows s has n t n' t' follows) made.made;
+    scheduled = λ h. subst (λ v. v < plan.frames path) (sym (follows.within h).0) made.scheduled;
+    bounded = λ h. subst (λ v. suc v < 2 ^ 64) (sym (follows.within h).0) made.bounded;
+  }
+
+  pub locked_holds : (supply : Supply) → HoldTo tx s path plan children n (suc t) supply → HoldTo tx s path plan children n' t' supply
+  locked_holds supply made = each_now (λ c. held_in tx c _) children s.tribs long _ _ _ _ (locked_follows s has n t n' t' follows) (locked_follows s has n t n' t' follows) made
+
+pub locked_count : {C : Type 0} (tx : Ghosts C) (s : FrameShape) (children : List C) (TRIBS : ℕ) → s.tribs ≡ TRIBS → length children ≡ TRIBS → length (map tx.meaning children) ≡ s.tribs
+locked_count tx s children TRIBS is count = length-map children tx.meaning ∙ stored_long children s.tribs TRIBS is count

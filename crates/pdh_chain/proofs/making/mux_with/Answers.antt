@@ -1,7 +1,7 @@
 use Rattle.std.proofs.Common.{arith, ◌≡◌, sym, ◌∙◌, ap, subst, inl, inr}
 use Rattle.std.specs.Prelude.{IsTrue}
 use Rattle.std.proofs.lemmas.Result.{err_from_is_err_and}
-use Rattle.pdh_edge.specs.Ports.{Inputs}
+use Rattle.pdh_edge.specs.Ports.{Inputs, Outputs}
 use Rattle.pdh_edge.specs.Counts.{one_more}
 use Rattle.pdh_edge.proofs.Runs.{rose_of}
 use Rattle.pdh_nesting.specs.Chains.{top_len}
@@ -29,27 +29,29 @@ returns-in-Err-clause-err g c = (rose_of _ _ c.in-Err.ensures.cause, nothing_put
 
 -- ---- frames made at once
 
-pub send_clear_frames-requires-clause-lists : goal.send_clear_frames-requires-clause-lists
-send_clear_frames-requires-clause-lists g c =
-    leaves_held g.T.ChainTx.shapes _ (g.P.Feed.inputs c.start.new.self) c.in_ok-top.ensures.meaning
-    (λ k known. subst (λ (i : Inputs). IsTrue (i.holds k)) (sym c.in_default.ensures.inputs) (c.requires.leaves k known))
+pub send_clear_frames-requires-clause-port : goal.send_clear_frames-requires-clause-port
+send_clear_frames-requires-clause-port g c = record {
+  fed = record {
+    lists = leaves_held g.T.ChainTx.shapes _ (g.P.Feed.inputs c.start.new.self) c.in_ok-top.ensures.meaning
+        (λ k known. subst (λ (i : Inputs). IsTrue (i.holds k)) (sym c.in_default.ensures.inputs) (c.requires.port.has_leaves k known));
+    nodes = nodes_held g.T.ChainTx.shapes c.args.clock.now.levels _ c.in_ok-top.ensures.meaning (at_top g.T.ChainTx.shapes c.requires.chain.few.depth) c.requires.chain.levels_are;
+  };
+  line = subst (λ (o : Outputs). IsTrue (o.holds 0)) (sym c.in_default.ensures.outputs) c.requires.port.has_line;
+}
 
-pub send_clear_frames-requires-clause-nodes : goal.send_clear_frames-requires-clause-nodes
-send_clear_frames-requires-clause-nodes g c =
-    nodes_held g.T.ChainTx.shapes c.args.clock.now.levels _ c.in_ok-top.ensures.meaning (at_top g.T.ChainTx.shapes c.requires.depth) c.requires.levels
-
-pub send_clear_frames-requires-clause-frames : goal.send_clear_frames-requires-clause-frames
-send_clear_frames-requires-clause-frames g c =
+pub send_clear_frames-requires-clause-sender : goal.send_clear_frames-requires-clause-sender
+send_clear_frames-requires-clause-sender g c =
     let long : top_len g.T.ChainTx.shapes ≡ c.LEN-len.result = g.met.T.ChainTop.len_is ∙ sym c.LEN-len.ensures in
-    frames_held g.T.ChainTx.shapes _ _ g.met.T.ChainTx.are_frames c.in_ok-top.ensures.meaning long
-
-pub send_clear_frames-requires-clause-stands : goal.send_clear_frames-requires-clause-stands
-send_clear_frames-requires-clause-stands g c = c.in_ok-top.ensures.fresh.placed (plan_of c.args.clock.now)
+    record {
+      running = c.in_ok-top.ensures.fresh.runs;
+      stands = c.in_ok-top.ensures.fresh.placed (plan_of c.args.clock.now);
+      frames = frames_held g.T.ChainTx.shapes _ _ g.met.T.ChainTx.are_frames c.in_ok-top.ensures.meaning long;
+    }
 
 pub send_clear_frames-requires-clause-free : goal.send_clear_frames-requires-clause-free
 send_clear_frames-requires-clause-free g c =
     let long : top_len g.T.ChainTx.shapes ≡ c.LEN-len.result = g.met.T.ChainTop.len_is ∙ sym c.LEN-len.ensures in
-    unhindered g.T.ChainTx.shapes c.args.clock.now c.args.frames (g.P.Feed.inputs c.args.port.now) _ _ _ c.in_default.ensures.inputs g.met.T.ChainTx.are_frames g.met.T.ChainTx.read_evenly c.requires.depth c.in_ok-top.ensures.meaning long c.requires.levels
+    unhindered g.T.ChainTx.shapes c.args.clock.now c.args.frames (g.P.Feed.inputs c.args.port.now) _ _ _ c.in_default.ensures.inputs g.met.T.ChainTx.are_frames g.met.T.ChainTx.read_evenly c.requires.chain.few.depth c.in_ok-top.ensures.meaning long c.requires.chain.levels_are
     (c.is_unhindered-unhindered.ensures c.if-unhindered.true)
 
 pub returns-in_err-send_clear_frames-clause-err : goal.returns-in_err-send_clear_frames-clause-err
@@ -60,7 +62,7 @@ returns-in_err-send_clear_frames-clause-err g c =
     let p = err_from_is_err_and c.from_residual-in_err-send_clear_frames.result c.from_residual-in_err-send_clear_frames.ensures.1 in
     rw (p.1, p.2, sym c.in_default.ensures.inputs, sym c.in_default.ensures.outputs)
     (stop_since shapes (counts c.args.clock.now.rows) (says_of c.args.feac) (frame_count c.args.clock.now.rows) c.args.frames _ _ _ _ _ _ _ _ _ _ _ since.0 since.1
-    (call_failed shapes (counts c.args.clock.now.rows) (says_of c.args.feac) (frame_count c.args.clock.now.rows) g.met.T.ChainTx.are_frames (at_top shapes c.requires.depth) _ _ c.in_ok-top.ensures.meaning long _ c.args.frames _ _ _ _ _ _ _ _ _ c.in_ok-top.ensures.fresh.held c.in_err-send_clear_frames.ensures.fails))
+    (call_failed shapes (counts c.args.clock.now.rows) (says_of c.args.feac) (frame_count c.args.clock.now.rows) g.met.T.ChainTx.are_frames (at_top shapes c.requires.chain.few.depth) _ _ c.in_ok-top.ensures.meaning long _ c.args.frames _ _ _ _ _ _ _ _ _ c.in_ok-top.ensures.fresh.held c.in_err-send_clear_frames.ensures.err))
 
 pub returns-in_err-send_clear_frames-clause-ready : goal.returns-in_err-send_clear_frames-clause-ready
 returns-in_err-send_clear_frames-clause-ready g c =
@@ -70,56 +72,59 @@ returns-in_err-send_clear_frames-clause-ready g c =
 pub returns-in_err-send_clear_frames-clause-reads : goal.returns-in_err-send_clear_frames-clause-reads
 returns-in_err-send_clear_frames-clause-reads g c =
     let p = err_from_is_err_and c.from_residual-in_err-send_clear_frames.result c.from_residual-in_err-send_clear_frames.ensures.1 in
-    rw (p.1, p.2) (reads_by_call _ _ _ _ c.in_err-send_clear_frames.ensures.reads c.start.ensures.reads)
+    rw (p.1, p.2) (reads_by_call _ _ _ _ c.in_err-send_clear_frames.ensures.counted.reads_are c.start.ensures.reads)
 
 pub returns-in_err-send_clear_frames-clause-writes : goal.returns-in_err-send_clear_frames-clause-writes
 returns-in_err-send_clear_frames-clause-writes g c =
     let p = err_from_is_err_and c.from_residual-in_err-send_clear_frames.result c.from_residual-in_err-send_clear_frames.ensures.1 in
-    rw (p.1, p.2) (writes_by_call _ _ _ _ c.in_err-send_clear_frames.ensures.writes c.in_default.ensures.cause)
+    rw (p.1, p.2) (writes_by_call _ _ _ _ c.in_err-send_clear_frames.ensures.counted.writes_are c.in_default.ensures.cause)
 
 pub returns-then-unhindered-clause-reads : goal.returns-then-unhindered-clause-reads
-returns-then-unhindered-clause-reads g c = c.in_ok-send_clear_frames.ensures.reads ∙ c.start.ensures.reads
+returns-then-unhindered-clause-reads g c = c.in_ok-send_clear_frames.ensures.counted.reads_are ∙ c.start.ensures.reads
 
 pub returns-then-unhindered-clause-writes : goal.returns-then-unhindered-clause-writes
-returns-then-unhindered-clause-writes g c = c.in_ok-send_clear_frames.ensures.writes ∙ c.in_default.ensures.cause
+returns-then-unhindered-clause-writes g c = c.in_ok-send_clear_frames.ensures.counted.writes_are ∙ c.in_default.ensures.cause
 
 pub returns-then-unhindered-clause-ok : goal.returns-then-unhindered-clause-ok
 returns-then-unhindered-clause-ok g c =
     let shapes = g.T.ChainTx.shapes in
     let long : top_len g.T.ChainTx.shapes ≡ c.LEN-len.result = g.met.T.ChainTop.len_is ∙ sym c.LEN-len.ensures in
     rw (sym c.in_default.ensures.inputs, sym c.in_default.ensures.outputs)
-    (sent shapes (counts c.args.clock.now.rows) (says_of c.args.feac) (frame_count c.args.clock.now.rows) g.met.T.ChainTx.are_frames (at_top shapes c.requires.depth) _ _ c.in_ok-top.ensures.meaning long _ _ _ c.args.frames _ _ _ _ c.in_ok-top.ensures.fresh.held c.in_ok-send_clear_frames.ensures.sent)
+    (sent shapes (counts c.args.clock.now.rows) (says_of c.args.feac) (frame_count c.args.clock.now.rows) g.met.T.ChainTx.are_frames (at_top shapes c.requires.chain.few.depth) _ _ c.in_ok-top.ensures.meaning long _ _ _ c.args.frames _ _ _ _ c.in_ok-top.ensures.fresh.held c.in_ok-send_clear_frames.ensures.sent)
 
 -- ---- frames made bit by bit
 
-pub send_frames-requires-clause-lists : goal.send_frames-requires-clause-lists
-send_frames-requires-clause-lists g c =
-    leaves_held g.T.ChainTx.shapes _ (g.P.Feed.inputs c.start.new.self) c.in_ok-top.ensures.meaning
-    (λ k known. subst (λ (i : Inputs). IsTrue (i.holds k)) (sym c.in_default.ensures.inputs) (c.requires.leaves k known))
+pub send_frames-requires-clause-port : goal.send_frames-requires-clause-port
+send_frames-requires-clause-port g c = record {
+  fed = record {
+    lists = leaves_held g.T.ChainTx.shapes _ (g.P.Feed.inputs c.start.new.self) c.in_ok-top.ensures.meaning
+        (λ k known. subst (λ (i : Inputs). IsTrue (i.holds k)) (sym c.in_default.ensures.inputs) (c.requires.port.has_leaves k known));
+    nodes = nodes_held g.T.ChainTx.shapes c.args.clock.now.levels _ c.in_ok-top.ensures.meaning (at_top g.T.ChainTx.shapes c.requires.chain.few.depth) c.requires.chain.levels_are;
+  };
+  line = subst (λ (o : Outputs). IsTrue (o.holds 0)) (sym c.in_default.ensures.outputs) c.requires.port.has_line;
+}
 
-pub send_frames-requires-clause-nodes : goal.send_frames-requires-clause-nodes
-send_frames-requires-clause-nodes g c =
-    nodes_held g.T.ChainTx.shapes c.args.clock.now.levels _ c.in_ok-top.ensures.meaning (at_top g.T.ChainTx.shapes c.requires.depth) c.requires.levels
-
-pub send_frames-requires-clause-frames : goal.send_frames-requires-clause-frames
-send_frames-requires-clause-frames g c =
-    frames_held g.T.ChainTx.shapes _ _ g.met.T.ChainTx.are_frames c.in_ok-top.ensures.meaning (g.met.T.ChainTop.len_is ∙ sym c.LEN-len.ensures)
-
-pub send_frames-requires-clause-stands : goal.send_frames-requires-clause-stands
-send_frames-requires-clause-stands g c = c.in_ok-top.ensures.fresh.placed (plan_of c.args.clock.now)
+pub send_frames-requires-clause-sender : goal.send_frames-requires-clause-sender
+send_frames-requires-clause-sender g c =
+    let long : top_len g.T.ChainTx.shapes ≡ c.LEN-len.result = g.met.T.ChainTop.len_is ∙ sym c.LEN-len.ensures in
+    record {
+      running = c.in_ok-top.ensures.fresh.runs;
+      stands = c.in_ok-top.ensures.fresh.placed (plan_of c.args.clock.now);
+      frames = frames_held g.T.ChainTx.shapes _ _ g.met.T.ChainTx.are_frames c.in_ok-top.ensures.meaning long;
+    }
 
 pub returns-in-Ok-clause-reads : goal.returns-in-Ok-clause-reads
-returns-in-Ok-clause-reads g c = c.in-Ok.ensures.reads ∙ c.start.ensures.reads
+returns-in-Ok-clause-reads g c = c.in-Ok.ensures.counted.reads_are ∙ c.start.ensures.reads
 
 pub returns-in-Ok-clause-writes : goal.returns-in-Ok-clause-writes
-returns-in-Ok-clause-writes g c = c.in-Ok.ensures.writes ∙ c.in_default.ensures.cause
+returns-in-Ok-clause-writes g c = c.in-Ok.ensures.counted.writes_are ∙ c.in_default.ensures.cause
 
 pub returns-in-Ok-clause-ok : goal.returns-in-Ok-clause-ok
 returns-in-Ok-clause-ok g c =
     let shapes = g.T.ChainTx.shapes in
     let whole = g.met.T.ChainTop.len_is ∙ sym c.LEN-len.ensures in
     rw (sym c.in_default.ensures.inputs, sym c.in_default.ensures.outputs)
-    (sent shapes (counts c.args.clock.now.rows) (says_of c.args.feac) (frame_count c.args.clock.now.rows) g.met.T.ChainTx.are_frames (at_top shapes c.requires.depth) _ c.LEN-len.result c.in_ok-top.ensures.meaning whole _ _ _ c.args.frames _ _ _ _ c.in_ok-top.ensures.fresh.held c.in-Ok.ensures.sent)
+    (sent shapes (counts c.args.clock.now.rows) (says_of c.args.feac) (frame_count c.args.clock.now.rows) g.met.T.ChainTx.are_frames (at_top shapes c.requires.chain.few.depth) _ c.LEN-len.result c.in_ok-top.ensures.meaning whole _ _ _ c.args.frames _ _ _ _ c.in_ok-top.ensures.fresh.held c.in-Ok.ensures.sent)
 
 pub returns-in-Err-Sender-clause-ready : goal.returns-in-Err-Sender-clause-ready
 returns-in-Err-Sender-clause-ready g c =
@@ -128,23 +133,23 @@ returns-in-Err-Sender-clause-ready g c =
 
 pub returns-in-Err-Sender-clause-reads : goal.returns-in-Err-Sender-clause-reads
 returns-in-Err-Sender-clause-reads g c =
-    let reads = rw c.in-Err-Sender.field-0-is at c.in-Err-Sender.ensures.reads in
-    rw c.stop_of.ensures (reads_by_sender c.in-Err-Sender.stop _ _ _ reads c.start.ensures.reads)
+    let counted = rw c.in-Err-Sender.field-0-is at c.in-Err-Sender.ensures.counted in
+    rw c.stop_of.ensures (reads_by_sender c.in-Err-Sender.stop _ _ _ counted.reads_are c.start.ensures.reads)
 
 pub returns-in-Err-Sender-clause-writes : goal.returns-in-Err-Sender-clause-writes
 returns-in-Err-Sender-clause-writes g c =
-    let writes = rw c.in-Err-Sender.field-0-is at c.in-Err-Sender.ensures.writes in
-    rw c.stop_of.ensures (writes_by_sender c.in-Err-Sender.stop _ _ (writes ∙ c.in_default.ensures.cause))
+    let counted = rw c.in-Err-Sender.field-0-is at c.in-Err-Sender.ensures.counted in
+    rw c.stop_of.ensures (writes_by_sender c.in-Err-Sender.stop _ _ (counted.writes_are ∙ c.in_default.ensures.cause))
 
 pub returns-in-Err-Sender-clause-err : goal.returns-in-Err-Sender-clause-err
 returns-in-Err-Sender-clause-err g c =
     let shapes = g.T.ChainTx.shapes in
     let whole = g.met.T.ChainTop.len_is ∙ sym c.LEN-len.ensures in
     let since = g.met.P.Port.kept_counts c.args.port.now c.start.new.self c.start.ensures.kept in
-    let stops = rw c.in-Err-Sender.field-0-is at c.in-Err-Sender.ensures.stops in
+    let stops = rw c.in-Err-Sender.field-0-is at c.in-Err-Sender.ensures.err in
     rw (c.stop_of.ensures, sym c.in_default.ensures.inputs, sym c.in_default.ensures.outputs)
     (stop_since shapes (counts c.args.clock.now.rows) (says_of c.args.feac) (frame_count c.args.clock.now.rows) c.args.frames _ _ _ _ _ _ _ _ _ _ _ since.0 since.1
-    (stopped shapes (counts c.args.clock.now.rows) (says_of c.args.feac) (frame_count c.args.clock.now.rows) g.met.T.ChainTx.are_frames (at_top shapes c.requires.depth) _ c.LEN-len.result c.in_ok-top.ensures.meaning whole _ c.args.frames c.in-Err-Sender.stop _ _ _ _ _ _ _ _ c.requires.scheduled
+    (stopped shapes (counts c.args.clock.now.rows) (says_of c.args.feac) (frame_count c.args.clock.now.rows) g.met.T.ChainTx.are_frames (at_top shapes c.requires.chain.few.depth) _ c.LEN-len.result c.in_ok-top.ensures.meaning whole _ c.args.frames c.in-Err-Sender.stop _ _ _ _ _ _ _ _ c.requires.scheduled
     c.in_ok-top.ensures.fresh.held stops))
 
 pub returns-clause-ready : goal.returns-clause-ready
@@ -152,19 +157,19 @@ returns-clause-ready g c = inl (g.met.P.Port.kept_ready c.start.new.self c.send_
 
 pub returns-clause-reads : goal.returns-clause-reads
 returns-clause-reads g c =
-    let reads = rw c.in-Err-WriteFailed.field-0-is at c.in-Err-WriteFailed.ensures.reads in
-    reads ∙ c.start.ensures.reads
+    let counted = rw c.in-Err-WriteFailed.field-0-is at c.in-Err-WriteFailed.ensures.counted in
+    counted.reads_are ∙ c.start.ensures.reads
 
 pub returns-clause-writes : goal.returns-clause-writes
 returns-clause-writes g c =
-    let writes = rw c.in-Err-WriteFailed.field-0-is at c.in-Err-WriteFailed.ensures.writes in
-    writes ∙ ap one_more c.in_default.ensures.cause
+    let counted = rw c.in-Err-WriteFailed.field-0-is at c.in-Err-WriteFailed.ensures.counted in
+    counted.writes_are ∙ ap one_more c.in_default.ensures.cause
 
 pub returns-clause-err : goal.returns-clause-err
 returns-clause-err g c =
     let shapes = g.T.ChainTx.shapes in
     let whole = g.met.T.ChainTop.len_is ∙ sym c.LEN-len.ensures in
     let since = g.met.P.Port.kept_counts c.args.port.now c.start.new.self c.start.ensures.kept in
-    let fails = rw c.in-Err-WriteFailed.field-0-is at c.in-Err-WriteFailed.ensures.fails in
-    let stop = failed shapes (counts c.args.clock.now.rows) (says_of c.args.feac) (frame_count c.args.clock.now.rows) g.met.T.ChainTx.are_frames (at_top shapes c.requires.depth) _ c.LEN-len.result c.in_ok-top.ensures.meaning whole _ c.args.frames _ _ _ _ _ _ c.in_ok-top.ensures.fresh.held fails in
+    let fails = rw c.in-Err-WriteFailed.field-0-is at c.in-Err-WriteFailed.ensures.err in
+    let stop = failed shapes (counts c.args.clock.now.rows) (says_of c.args.feac) (frame_count c.args.clock.now.rows) g.met.T.ChainTx.are_frames (at_top shapes c.requires.chain.few.depth) _ c.LEN-len.result c.in_ok-top.ensures.meaning whole _ c.args.frames _ _ _ _ _ _ c.in_ok-top.ensures.fresh.held fails in
     rw (sym c.in_default.ensures.inputs, sym c.in_default.ensures.outputs) (omega (arith, stop.0, since.1), stop.1)

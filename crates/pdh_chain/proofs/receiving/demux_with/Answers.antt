@@ -1,6 +1,6 @@
 use Rattle.std.proofs.Common.{◌∷◌, map, sym, ap, ◌∙◌, inr, arith}
 use Rattle.std.proofs.lemmas.Result.{err_from_is_err_and}
-use Rattle.pdh_edge.specs.Ports.{Outputs}
+use Rattle.pdh_edge.specs.Ports.{Inputs, Outputs}
 use Rattle.pdh_edge.proofs.Runs.{rose_of}
 use Rattle.pdh_chain.specs.Faults.{reads_at_demux_stop, writes_at_demux_stop}
 use Rattle.pdh_rx.specs.Node.{node_meaning}
@@ -13,12 +13,14 @@ returns-in_err-start-clause-err g c =
     let p = err_from_is_err_and c.from_residual-in_err-start.result c.from_residual-in_err-start.ensures.1 in
     rw (p.1, p.2) (rose_of _ _ c.in_err-start.ensures.cause, nothing_received (g.S.Shape.shape ∷ g.C.ChainRx.shapes) _ c.args.bits _ _ _ _ c.in_err-start.ensures.inputs c.in_err-start.ensures.outputs (g.met.W.Watch.saw_nothing c.args.watch.now))
 
-pub receive-requires-clause-lists : goal.receive-requires-clause-lists
-receive-requires-clause-lists g c k is =
-    let s = g.S.Shape.shape in
-    let shapes = s ∷ g.C.ChainRx.shapes in
+pub receive-requires-clause-port : goal.receive-requires-clause-port
+receive-requires-clause-port g c =
+    let shapes = g.S.Shape.shape ∷ g.C.ChainRx.shapes in
     let same = c.in_ok-node.ensures.meaning in
-    ap (λ (o : Outputs). o.holds k) c.in_ok-start.ensures.outputs ∙ c.requires.leaves k (leaf_held shapes k (sym (ap (λ m. m.leaves k) same) ∙ is))
+    record {
+      lists = λ k is. ap (λ (o : Outputs). o.holds k) c.in_ok-start.ensures.outputs ∙ c.requires.port.has_leaves k (leaf_held shapes k (sym (ap (λ m. m.leaves k) same) ∙ is));
+      line = ap (λ (i : Inputs). i.holds 0) c.in_ok-start.ensures.inputs ∙ c.requires.port.has_line;
+    }
 
 pub returns-in_err-receive-clause-err : goal.returns-in_err-receive-clause-err
 returns-in_err-receive-clause-err g c =
@@ -30,10 +32,10 @@ returns-in_err-receive-clause-err g c =
     rw (p.1, p.2, sym c.in_ok-start.ensures.inputs, sym c.in_ok-start.ensures.outputs)
     (stops shapes _ (λ events. g.W.Watch.saw c.args.watch.now events c.receive.new.watch) c.args.bits _ _ _ _ _ _ _ _ _ _ c.in_err-receive.field-0.0 same (g.met.S.Shape.is_frame, g.met.S.Shape.has_tributaries, g.met.C.ChainRx.are_frames) since.0 since.1 c.in_err-receive.ensures.stops)
 
-pub returns-in_err-start-clause-ready : goal.returns-in_err-start-clause-ready
-returns-in_err-start-clause-ready g c =
+pub returns-in_err-start-clause-left : goal.returns-in_err-start-clause-left
+returns-in_err-start-clause-left g c =
     let p = err_from_is_err_and c.from_residual-in_err-start.result c.from_residual-in_err-start.ensures.1 in
-    rw (p.1, p.2) (inr c.in_err-start.ensures.err)
+    rw (p.1, p.2) (record { ready_is = inr c.in_err-start.ensures.err; unread_is = λ h. cc })
 
 pub returns-in_err-start-clause-reads : goal.returns-in_err-start-clause-reads
 returns-in_err-start-clause-reads g c =
@@ -58,8 +60,11 @@ returns-in_err-receive-clause-writes g c =
 pub returns-clause-kept : goal.returns-clause-kept
 returns-clause-kept g c = g.met.P.Port.kept_join c.args.port.now c.start.new.self c.receive.new.port c.start.ensures.kept c.receive.ensures.kept
 
-pub returns-clause-ready : goal.returns-clause-ready
-returns-clause-ready g c = g.met.P.Port.kept_ready c.start.new.self c.receive.new.port c.receive.ensures.kept c.in_ok-start.ensures.ok
+pub returns-clause-left : goal.returns-clause-left
+returns-clause-left g c = record {
+  ready_is = g.met.P.Port.kept_ready c.start.new.self c.receive.new.port c.receive.ensures.kept c.in_ok-start.ensures.ok;
+  unread_is = λ h. cc;
+}
 
 pub returns-clause-ok : goal.returns-clause-ok
 returns-clause-ok g c =
@@ -70,11 +75,14 @@ returns-clause-ok g c =
     (demuxes shapes _ _ (λ events. g.W.Watch.saw c.args.watch.now events c.receive.new.watch) c.args.bits c.frames.result _ _ _ _ same (g.met.S.Shape.is_frame, g.met.S.Shape.has_tributaries, g.met.C.ChainRx.are_frames)
     (λ line count stood. c.frames.ensures line stood ∙ frames_exact s line g.met.S.Shape.is_frame (omega (arith, count, c.requires.few))) c.in_ok-receive.ensures.received)
 
-pub returns-in_err-receive-clause-ready : goal.returns-in_err-receive-clause-ready
-returns-in_err-receive-clause-ready g c =
+pub returns-in_err-receive-clause-left : goal.returns-in_err-receive-clause-left
+returns-in_err-receive-clause-left g c =
     let p = err_from_is_err_and c.from_residual-in_err-receive.result c.from_residual-in_err-receive.ensures.1 in
     let ready = g.met.P.Port.kept_ready c.start.new.self c.receive.new.port c.receive.ensures.kept c.in_ok-start.ensures.ok in
     let meaning = node_meaning g.S.Shape.shape c.in_ok-node.node.path (map g.C.Rx.meaning c.in_ok-node.node.children) in
     rw (p.1, p.2)
-    (left meaning (λ events. g.W.Watch.saw c.args.watch.now events c.receive.new.watch) c.args.bits (g.P.Feed.inputs c.start.new.self) (g.P.Feed.inputs c.receive.new.port) (g.P.Drain.outputs c.start.new.self) (g.P.Drain.outputs c.receive.new.port) (g.P.Feed.feed_faults c.start.new.self)
-    (g.P.Feed.feed_faults c.receive.new.port) (g.P.Drain.drain_faults c.start.new.self) (g.P.Drain.drain_faults c.receive.new.port) _ _ _ c.in_err-receive.field-0.0 c.in_err-receive.ensures.stops ready)
+    (record {
+      ready_is = left meaning (λ events. g.W.Watch.saw c.args.watch.now events c.receive.new.watch) c.args.bits (g.P.Feed.inputs c.start.new.self) (g.P.Feed.inputs c.receive.new.port) (g.P.Drain.outputs c.start.new.self) (g.P.Drain.outputs c.receive.new.port) (g.P.Feed.feed_faults c.start.new.self)
+          (g.P.Feed.feed_faults c.receive.new.port) (g.P.Drain.drain_faults c.start.new.self) (g.P.Drain.drain_faults c.receive.new.port) _ _ _ c.in_err-receive.field-0.0 c.in_err-receive.ensures.stops ready;
+      unread_is = λ h. c.in_err-receive.ensures.unread (cc);
+    })

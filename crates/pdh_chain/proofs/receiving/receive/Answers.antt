@@ -24,7 +24,7 @@ loop-received-init g c = record {
 }
 
 pub bits-requires-clause-held : goal.bits-requires-clause-held
-bits-requires-clause-held g c = ap (λ h. h 0) c.loop-received.invariant.inputs ∙ c.requires.line
+bits-requires-clause-held g c = ap (λ h. h 0) c.loop-received.invariant.inputs ∙ c.requires.port.line
 
 pub returns-in_err-count-clause-stops : goal.returns-in_err-count-clause-stops
 returns-in_err-count-clause-stops g c =
@@ -74,7 +74,7 @@ pub take_watched-requires-clause-lists : goal.take_watched-requires-clause-lists
 take_watched-requires-clause-lists g c k is =
     let inv = c.loop-received.invariant in
     let fed = g.met.P.Port.fed_keeps_outputs c.loop-received.port c.bits.new.self c.bits.ensures.fed in
-    ap (λ o. o.holds k) fed.0 ∙ ap (λ h. h k) inv.outputs ∙ c.requires.lists k (ap (λ m. m.leaves k) (sym inv.same) ∙ is)
+    ap (λ o. o.holds k) fed.0 ∙ ap (λ h. h k) inv.outputs ∙ c.requires.port.lists k (ap (λ m. m.leaves k) (sym inv.same) ∙ is)
 
 pub returns-in_err-take_watched-clause-stops : goal.returns-in_err-take_watched-clause-stops
 returns-in_err-take_watched-clause-stops g c =

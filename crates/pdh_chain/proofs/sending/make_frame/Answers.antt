@@ -33,11 +33,11 @@ pub loop-made-preserved : goal.loop-made-preserved
 loop-made-preserved g c =
     let inv = c.loop-made.invariant in
     record {
-      running = c.in_ok-bit.ensures.running;
-      same_says = cc;
-      same = cc;
-      unfailed = c.in_ok-bit.ensures.unfailed ∙ inv.unfailed;
-      fed = g.met.F.Feed.fed_join c.args.feed.now c.loop-made.feed c.next.new.feed inv.fed c.next.ensures.fed;
+      running = c.in_ok-bit.ensures.stopped;
+      same_says = c.in_ok-bit.ensures.kept.same_says ∙ inv.same_says;
+      same = c.in_ok-bit.ensures.kept.same ∙ inv.same;
+      unfailed = c.in_ok-bit.ensures.fed.unfailed ∙ inv.unfailed;
+      fed = g.met.F.Feed.fed_join c.args.feed.now c.loop-made.feed c.next.new.feed inv.fed c.next.ensures.fed.fed;
       len = ap (λ (f : BoundedBits). length f.bits) c.push.ensures ∙ length-append c.loop-made.frame.bits _ ∙ omega (arith, inv.len);
       room = ap (λ f. f.capacity) c.push.ensures ∙ inv.room;
       makes = λ x says here told.

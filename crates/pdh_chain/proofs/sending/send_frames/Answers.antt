@@ -9,7 +9,7 @@ use Rattle.pdh_chain.proofs.sending.send_frames.Goals as goal
 
 pub loop-whole-init : goal.loop-whole-init
 loop-whole-init g c = record {
-  running = c.requires.running;
+  running = c.requires.sender.running;
   said = c.channel_of-channel.ensures;
   same = refl;
   room = refl;
@@ -18,11 +18,11 @@ loop-whole-init g c = record {
   kept = g.met.P.Port.kept_same c.args.port.now;
   lists = refl;
   lines = refl;
-  sending = sending_none (g.T.Tx.meaning c.args.sender.now) (says_of c.args.feac) (g.T.Tx.stands_at c.args.sender.now (plan_of c.args.clock.now)) (g.T.Tx.stands_for c.args.sender.now) (plan_of c.args.clock.now) _ _ _ (omega arith) c.requires.stands;
+  sending = sending_none (g.T.Tx.meaning c.args.sender.now) (says_of c.args.feac) (g.T.Tx.stands_at c.args.sender.now (plan_of c.args.clock.now)) (g.T.Tx.stands_for c.args.sender.now) (plan_of c.args.clock.now) _ _ _ (omega arith) c.requires.sender.stands;
 }
 
-pub returns-in-Err-clause-stops : goal.returns-in-Err-clause-stops
-returns-in-Err-clause-stops g c =
+pub returns-in-Err-clause-err : goal.returns-in-Err-clause-err
+returns-in-Err-clause-err g c =
     let plan = plan_of c.args.clock.now in
     let inv = c.loop-whole.invariant in
     let m = g.T.Tx.meaning c.args.sender.now in
@@ -30,29 +30,29 @@ returns-in-Err-clause-stops g c =
     let sending : Sending m (says_of c.args.feac) (g.T.Tx.stands_at c.set.new.self plan) (g.T.Tx.stands_for c.args.sender.now) (g.T.Tx.stands_for c.set.new.self) plan (c.loop-whole._whole * c.args.len) (g.P.Feed.inputs c.args.port.now) (g.P.Feed.inputs c.loop-whole.port) (g.P.Drain.outputs c.args.port.now) (g.P.Drain.outputs c.loop-whole.port) =
     sending_set m (says_of c.args.feac) _ _ _ _ _ plan _ _ _ _ _ (λ n. c.set.ensures.placed plan n) (λ supply n. c.set.ensures.held supply n) inv.sending in
     sending_stops m (g.T.Tx.meaning c.set.new.self) (says_of c.args.feac) _ _ _ plan c.args.len c.args.frames c.loop-whole._whole _ _ _ _ _ _ _ _ _ _ same
-    (g.met.P.Port.fed_keeps_outputs c.loop-whole.port c.make_frame.new.feed c.make_frame.ensures.fed).0 c.loop-whole-test.true inv.reads sending
+    (g.met.P.Port.fed_keeps_outputs c.loop-whole.port c.make_frame.new.feed c.make_frame.ensures.fed.fed).0 c.loop-whole-test.true inv.reads sending
     (c.in-Err.ensures.stops _ sending.makes.place)
 
-pub returns-in-Err-clause-reads : goal.returns-in-Err-clause-reads
-returns-in-Err-clause-reads g c =
+pub returns-in-Err-clause-counted : goal.returns-in-Err-clause-counted
+returns-in-Err-clause-counted g c =
     let plan = plan_of c.args.clock.now in
     let inv = c.loop-whole.invariant in
     let m = g.T.Tx.meaning c.args.sender.now in
     let sending : Sending m (says_of c.args.feac) (g.T.Tx.stands_at c.set.new.self plan) (g.T.Tx.stands_for c.args.sender.now) (g.T.Tx.stands_for c.set.new.self) plan (c.loop-whole._whole * c.args.len) (g.P.Feed.inputs c.args.port.now) (g.P.Feed.inputs c.loop-whole.port) (g.P.Drain.outputs c.args.port.now) (g.P.Drain.outputs c.loop-whole.port) =
     sending_set m (says_of c.args.feac) _ _ _ _ _ plan _ _ _ _ _ (λ n. c.set.ensures.placed plan n) (λ supply n. c.set.ensures.held supply n) inv.sending in
-    (c.in-Err.ensures.stops _ sending.makes.place).at.met.counted ∙ ap (faults_met c.in-Err.stop) inv.reads
+    record {
+      reads_are = (c.in-Err.ensures.stops _ sending.makes.place).at.met.counted ∙ ap (faults_met c.in-Err.stop) inv.reads;
+      writes_are = (g.met.P.Port.fed_keeps_outputs c.loop-whole.port c.make_frame.new.feed c.make_frame.ensures.fed.fed).1 ∙ inv.writes;
+    }
 
-pub returns-in-Err-clause-writes : goal.returns-in-Err-clause-writes
-returns-in-Err-clause-writes g c = (g.met.P.Port.fed_keeps_outputs c.loop-whole.port c.make_frame.new.feed c.make_frame.ensures.fed).1 ∙ c.loop-whole.invariant.writes
+pub returns-in-Err-put_all-clause-counted : goal.returns-in-Err-put_all-clause-counted
+returns-in-Err-put_all-clause-counted g c = record {
+  reads_are = (g.met.P.Port.drained_keeps_inputs c.make_frame.new.feed c.put_all.new.self c.put_all.ensures.drained).1 ∙ c.in_default.ensures.fed.unfailed ∙ c.loop-whole.invariant.reads;
+  writes_are = c.in-Err-put_all.ensures.cause ∙ ap one_more ((g.met.P.Port.fed_keeps_outputs c.loop-whole.port c.make_frame.new.feed c.make_frame.ensures.fed.fed).1 ∙ c.loop-whole.invariant.writes);
+}
 
-pub returns-in-Err-put_all-clause-reads : goal.returns-in-Err-put_all-clause-reads
-returns-in-Err-put_all-clause-reads g c = (g.met.P.Port.drained_keeps_inputs c.make_frame.new.feed c.put_all.new.self c.put_all.ensures.drained).1 ∙ c.in_default.ensures.unfailed ∙ c.loop-whole.invariant.reads
-
-pub returns-in-Err-put_all-clause-writes : goal.returns-in-Err-put_all-clause-writes
-returns-in-Err-put_all-clause-writes g c = c.in-Err-put_all.ensures.cause ∙ ap one_more ((g.met.P.Port.fed_keeps_outputs c.loop-whole.port c.make_frame.new.feed c.make_frame.ensures.fed).1 ∙ c.loop-whole.invariant.writes)
-
-pub returns-in-Err-put_all-clause-fails : goal.returns-in-Err-put_all-clause-fails
-returns-in-Err-put_all-clause-fails g c =
+pub returns-in-Err-put_all-clause-err : goal.returns-in-Err-put_all-clause-err
+returns-in-Err-put_all-clause-err g c =
     let plan = plan_of c.args.clock.now in
     let inv = c.loop-whole.invariant in
     let m = g.T.Tx.meaning c.args.sender.now in
@@ -60,9 +60,9 @@ returns-in-Err-put_all-clause-fails g c =
     let sending : Sending m (says_of c.args.feac) (g.T.Tx.stands_at c.set.new.self plan) (g.T.Tx.stands_for c.args.sender.now) (g.T.Tx.stands_for c.set.new.self) plan (c.loop-whole._whole * c.args.len) (g.P.Feed.inputs c.args.port.now) (g.P.Feed.inputs c.loop-whole.port) (g.P.Drain.outputs c.args.port.now) (g.P.Drain.outputs c.loop-whole.port) =
     sending_set m (says_of c.args.feac) _ _ _ _ _ plan _ _ _ _ _ (λ n. c.set.ensures.placed plan n) (λ supply n. c.set.ensures.held supply n) inv.sending in
     let told : SayInFrames (g.T.Tx.meaning c.set.new.self) (says_of c.args.feac) (g.T.Tx.says c.set.new.self) (c.loop-whole._whole * c.args.len) (c.loop-whole._whole * c.args.len + c.args.len) =
-    says_in_frame (g.T.Tx.meaning c.set.new.self) (says_of c.args.feac) (g.T.Tx.says c.set.new.self) c.args.len c.loop-whole._whole c.args.len (subst (λ (m : Meaning). HasFrames m c.args.len) (sym same) c.requires.frames) refl
+    says_in_frame (g.T.Tx.meaning c.set.new.self) (says_of c.args.feac) (g.T.Tx.says c.set.new.self) c.args.len c.loop-whole._whole c.args.len (subst (λ (m : Meaning). HasFrames m c.args.len) (sym same) c.requires.sender.frames) refl
     (sym (c.set.ensures.says ∙ c.next_service.ensures.says c.args.feac c.loop-whole._whole inv.said)) in
-    let fed = g.met.P.Port.fed_keeps_outputs c.loop-whole.port c.make_frame.new.feed c.make_frame.ensures.fed in
+    let fed = g.met.P.Port.fed_keeps_outputs c.loop-whole.port c.make_frame.new.feed c.make_frame.ensures.fed.fed in
     let counts = g.met.P.Port.kept_counts c.args.port.now c.loop-whole.port inv.kept in
     let later : g.P.Drain.drain_faults c.args.port.now ≤ g.P.Drain.drain_faults c.make_frame.new.feed = omega (arith, fed.1, counts.1) in
     sending_fails m (g.T.Tx.meaning c.set.new.self) (says_of c.args.feac) (g.T.Tx.stands_at c.set.new.self plan) (g.T.Tx.stands_at c.make_frame.new.sender plan) (g.T.Tx.stands_for c.args.sender.now)
@@ -74,7 +74,7 @@ returns-in-Err-put_all-clause-fails g c =
 
 pub returns-in-Err-put_all-clause-kept : goal.returns-in-Err-put_all-clause-kept
 returns-in-Err-put_all-clause-kept g c =
-    let kept = g.met.P.Port.kept_join c.args.port.now c.loop-whole.port c.make_frame.new.feed c.loop-whole.invariant.kept (g.met.P.Port.fed_is_kept c.loop-whole.port c.make_frame.new.feed c.make_frame.ensures.fed) in
+    let kept = g.met.P.Port.kept_join c.args.port.now c.loop-whole.port c.make_frame.new.feed c.loop-whole.invariant.kept (g.met.P.Port.fed_is_kept c.loop-whole.port c.make_frame.new.feed c.make_frame.ensures.fed.fed) in
     g.met.P.Port.kept_join c.args.port.now c.make_frame.new.feed c.put_all.new.self kept (g.met.P.Port.drained_is_kept c.make_frame.new.feed c.put_all.new.self c.put_all.ensures.drained)
 
 pub loop-whole-preserved : goal.loop-whole-preserved
@@ -86,20 +86,20 @@ loop-whole-preserved g c =
     let sending : Sending m (says_of c.args.feac) (g.T.Tx.stands_at c.set.new.self plan) (g.T.Tx.stands_for c.args.sender.now) (g.T.Tx.stands_for c.set.new.self) plan (c.loop-whole._whole * c.args.len) (g.P.Feed.inputs c.args.port.now) (g.P.Feed.inputs c.loop-whole.port) (g.P.Drain.outputs c.args.port.now) (g.P.Drain.outputs c.loop-whole.port) =
     sending_set m (says_of c.args.feac) _ _ _ _ _ plan _ _ _ _ _ (λ n. c.set.ensures.placed plan n) (λ supply n. c.set.ensures.held supply n) inv.sending in
     let told : SayInFrames (g.T.Tx.meaning c.set.new.self) (says_of c.args.feac) (g.T.Tx.says c.set.new.self) (c.loop-whole._whole * c.args.len) (c.loop-whole._whole * c.args.len + c.args.len) =
-    says_in_frame (g.T.Tx.meaning c.set.new.self) (says_of c.args.feac) (g.T.Tx.says c.set.new.self) c.args.len c.loop-whole._whole c.args.len (subst (λ (m : Meaning). HasFrames m c.args.len) (sym same) c.requires.frames) refl
+    says_in_frame (g.T.Tx.meaning c.set.new.self) (says_of c.args.feac) (g.T.Tx.says c.set.new.self) c.args.len c.loop-whole._whole c.args.len (subst (λ (m : Meaning). HasFrames m c.args.len) (sym same) c.requires.sender.frames) refl
     (sym (c.set.ensures.says ∙ c.next_service.ensures.says c.args.feac c.loop-whole._whole inv.said)) in
-    let fed = g.met.P.Port.fed_keeps_outputs c.loop-whole.port c.make_frame.new.feed c.make_frame.ensures.fed in
+    let fed = g.met.P.Port.fed_keeps_outputs c.loop-whole.port c.make_frame.new.feed c.make_frame.ensures.fed.fed in
     let drained = g.met.P.Port.drained_keeps_inputs c.make_frame.new.feed c.put_all.new.self c.put_all.ensures.drained in
-    let kept = g.met.P.Port.kept_join c.args.port.now c.loop-whole.port c.make_frame.new.feed inv.kept (g.met.P.Port.fed_is_kept c.loop-whole.port c.make_frame.new.feed c.make_frame.ensures.fed) in
+    let kept = g.met.P.Port.kept_join c.args.port.now c.loop-whole.port c.make_frame.new.feed inv.kept (g.met.P.Port.fed_is_kept c.loop-whole.port c.make_frame.new.feed c.make_frame.ensures.fed.fed) in
     record {
       running = c.in_default.ensures.running;
       said = c.next_service.ensures.said c.args.feac c.loop-whole._whole inv.said;
-      same = c.make_frame.ensures.same ∙ same;
+      same = c.make_frame.ensures.kept.same ∙ same;
       room = c.make_frame.ensures.room ∙ inv.room;
-      reads = drained.1 ∙ c.in_default.ensures.unfailed ∙ inv.reads;
+      reads = drained.1 ∙ c.in_default.ensures.fed.unfailed ∙ inv.reads;
       writes = c.in_default-put_all.ensures.cause ∙ fed.1 ∙ inv.writes;
       kept = g.met.P.Port.kept_join c.args.port.now c.make_frame.new.feed c.put_all.new.self kept (g.met.P.Port.drained_is_kept c.make_frame.new.feed c.put_all.new.self c.put_all.ensures.drained);
-      lists = ap (λ i. i.holds) drained.0 ∙ g.met.P.Feed.fed_holds c.loop-whole.port c.make_frame.new.feed c.make_frame.ensures.fed ∙ inv.lists;
+      lists = ap (λ i. i.holds) drained.0 ∙ g.met.P.Feed.fed_holds c.loop-whole.port c.make_frame.new.feed c.make_frame.ensures.fed.fed ∙ inv.lists;
       lines = g.met.P.Drain.drained_holds c.make_frame.new.feed c.put_all.new.self c.put_all.ensures.drained ∙ ap (λ o. o.holds) fed.0 ∙ inv.lines;
       sending = sending_more m (g.T.Tx.meaning c.set.new.self) (says_of c.args.feac) (g.T.Tx.stands_at c.set.new.self plan) (g.T.Tx.stands_at c.make_frame.new.sender plan) (g.T.Tx.stands_for c.args.sender.now)
           (g.T.Tx.stands_for c.set.new.self) (g.T.Tx.stands_for c.make_frame.new.sender) plan (c.loop-whole._whole * c.args.len) (c.loop-whole._whole * c.args.len + c.args.len) ((c.loop-whole._whole + 1) * c.args.len) c.make_frame.new.frame.bits

@@ -1,4 +1,4 @@
-use Rattle.std.proofs.Common.{ap, ◌∙◌}
+use Rattle.std.proofs.Common.{rules, ap, ◌∙◌}
 use Rattle.pdh_edge.specs.MemLists.{room_of}
 use Rattle.pdh_edge.proofs.InRoom.{puts_in_room}
 use Rattle.pdh_chain.specs.Chains.{leaves_of}
@@ -6,8 +6,12 @@ use Rattle.pdh_lab.proofs.Received.{lists_hold, shares_in_room, whatever_seen}
 use Rattle.pdh_lab.proofs.Sent.{none_rose}
 use Rattle.pdh_lab.proofs.receiving.deliver.Goals as goal
 
-pub demux-requires-clause-leaves : goal.demux-requires-clause-leaves
-demux-requires-clause-leaves c k low = lists_hold (leaves_of c.args.chain) k c.requires.outputs low
+pub demux-requires-clause-port : goal.demux-requires-clause-port
+demux-requires-clause-port c = record {
+  is_fresh = c.requires.fresh;
+  has_leaves = λ k low. lists_hold (leaves_of c.args.chain) k c.requires.outputs low;
+  has_line = search rules;
+}
 
 pub unreachable-requires-in-Err-WriteFailed : goal.unreachable-requires-in-Err-WriteFailed
 unreachable-requires-in-Err-WriteFailed c =

@@ -1,6 +1,6 @@
 use Rattle.std.proofs.Common.{◌%◌, ◌==◌, Bool, List, ap, ◌∙◌}
 use Rattle.pdh_shape.specs.Payload.{payload_ones}
-use Rattle.pdh_shape.specs.Sets.{e2}
+use Rattle.pdh_eframes.specs.Plans.{e2}
 use Rattle.pdh_events.specs.Duties.{is_odd}
 use Rattle.pdh_tests_of_frames.proofs.events.take.Goals as goal
 

@@ -9,7 +9,7 @@ use Rattle.pdh_tx.specs.Passing.{up_to, HoldsBits, HoldsBitsOf, HasRows, Passes}
 use Rattle.pdh_tx.specs.Locked.{locked_to}
 use Rattle.pdh_tx.proofs.Gaining.{on_err_from}
 use Rattle.pdh_tx.proofs.PassingAll.{passes_none, passes_join, holds_more, rows_more, clear_kept, stays_after}
-use Rattle.pdh_locked.specs.Children.{placed_in, held_in, meanings, columns, HaveFilled, FillOn}
+use Rattle.pdh_locked.specs.Children.{placed_in, held_in, meanings, columns, HaveFilled, FillOn, FillAll}
 use Rattle.pdh_locked.proofs.Filled.{still_fed}
 use Rattle.pdh_locked.proofs.children.Children.fill_all.Goals as goal
 
@@ -77,33 +77,24 @@ loop-trib-preserved g c =
     let P : Path → List Meaning → Type 0 = λ path ms. Passes (held_in g.C.Tx) path ms plan c.loop-trib.self.list.items after.list.items
     (up_to (locked_to s n t) (locked_to s n u) i) (up_to (locked_to s n t) (locked_to s n u) (suc i)) (up_to (locked_to s n t) (locked_to s n u) i) (up_to (locked_to s n t) (locked_to s n u) (suc i))
     (inputs c.loop-trib.feed) (inputs c.fill_one.new.feed) (λ source. HoldsBitsOf s source n t len new i) in
-    let Q : ℕ → Type 0 = λ k. FillOn c.args.self.now after plan n t u 0 k (inputs c.args.feed.now) (inputs c.fill_one.new.feed) (λ source. HoldsBits s source n t len new k) in
+    let Q : ℕ → Type 0 = λ k. FillOn c.args.self.now after c.args.clock.now n t len 0 k (inputs c.args.feed.now) (inputs c.fill_one.new.feed) (λ source. HoldsBits s source n t len new k) in
     record {
-      placed = subst (λ (k : ℕ). HaveFilled after plan n t u k) e ok.placed;
+      placed = subst (λ (k : ℕ). HaveFilled after c.args.clock.now n t len k) e ok.ok.placed;
       fills = subst Q e
           (λ path. passes_join (placed_in g.C.Tx) (held_in g.C.Tx) g.C.Tx.meaning path plan ms _ _ _ _ _ _ _ _ _ _ _ _
           (λ source. HoldsBits s source n t len old i) (λ source. HoldsBitsOf s source n t len new i) (λ source. HoldsBits s source n t len new (suc i))
-          (λ supply is was now. holds_more s (source_of path ms supply) n t len i old new ok.earlier was now) (inv.fills path) (subst (P path) inv.same (ok.fills path)));
-      rows = subst (λ (k : ℕ). HasRows s t len new k) e (rows_more s t len i old new ok.earlier inv.rows ok.rows);
-      unfailed = ok.cause ∙ inv.unfailed;
-      fed = g.met.F.Feed.fed_join _ _ _ inv.fed ok.fed;
-      same = ok.same ∙ inv.same;
-      overhead = ok.overhead ∙ inv.overhead;
+          (λ supply is was now. holds_more s (source_of path ms supply) n t len i old new ok.kept.earlier was now) (inv.fills path) (subst (P path) inv.same (ok.ok.fills path)));
+      rows = subst (λ (k : ℕ). HasRows s t len new k) e (rows_more s t len i old new ok.kept.earlier inv.rows ok.ok.rows);
+      unfailed = ok.fed.cause ∙ inv.unfailed;
+      fed = g.met.F.Feed.fed_join _ _ _ inv.fed ok.fed.fed;
+      same = ok.kept.all.same ∙ inv.same;
+      overhead = ok.kept.all.overhead ∙ inv.overhead;
     }
 
-pub returns-clause-placed : goal.returns-clause-placed
-returns-clause-placed g c =
+pub returns-clause-ok : goal.returns-clause-ok
+returns-clause-ok g c =
+    let inv = c.loop-trib.invariant in
+    let P : ℕ → Type 0 = λ k. FillAll c.args.self.now c.loop-trib.self c.args.clock.now c.args.frame c.args.slot c.args.len k (g.F.Feed.inputs c.args.feed.now) (g.F.Feed.inputs c.loop-trib.feed) in
+    let all : P c.loop-trib.trib = record { placed = inv.placed; fills = inv.fills; rows = inv.rows } in
     let end : c.loop-trib.trib ≡ g.S.Shape.TRIBS = omega (arith, c.loop-trib.auto.trib-end, c.loop-trib-test.false, c.TRIBS-trib-end.ensures) in
-    subst (λ (k : ℕ). HaveFilled c.loop-trib.self (plan_of c.args.clock.now) c.args.frame c.args.slot (c.args.slot + c.args.len) k) end c.loop-trib.invariant.placed
-
-pub returns-clause-rows : goal.returns-clause-rows
-returns-clause-rows g c =
-    let end : c.loop-trib.trib ≡ g.S.Shape.TRIBS = omega (arith, c.loop-trib.auto.trib-end, c.loop-trib-test.false, c.TRIBS-trib-end.ensures) in
-    subst (λ (k : ℕ). HasRows g.S.Shape.shape c.args.slot c.args.len (columns c.loop-trib.self) k) end c.loop-trib.invariant.rows
-
-pub returns-clause-fills : goal.returns-clause-fills
-returns-clause-fills g c =
-    let end : c.loop-trib.trib ≡ g.S.Shape.TRIBS = omega (arith, c.loop-trib.auto.trib-end, c.loop-trib-test.false, c.TRIBS-trib-end.ensures) in
-    let P : ℕ → Type 0 = λ k. FillOn c.args.self.now c.loop-trib.self (plan_of c.args.clock.now) c.args.frame c.args.slot (c.args.slot + c.args.len) 0 k (g.F.Feed.inputs c.args.feed.now) (g.F.Feed.inputs c.loop-trib.feed)
-    (λ source. HoldsBits g.S.Shape.shape source c.args.frame c.args.slot c.args.len (columns c.loop-trib.self) k) in
-    subst P end c.loop-trib.invariant.fills
+    subst P end all

@@ -20,64 +20,47 @@ use Rattle.pdh_tx.specs.Node.{IsDisjoint, below}
 use Rattle.pdh_tx.specs.Passing.{up_to, carried_in, HoldsBitsOf}
 use Rattle.pdh_tx.specs.Locked.{locked_to}
 use Rattle.pdh_tx.specs.laws.Growing.{given_more}
-use Rattle.pdh_tx.proofs.Moving.{leaf_of, stays_one}
+use Rattle.pdh_tx.proofs.Moving.{stays_one}
 use Rattle.pdh_tx.proofs.Advancing.{upto_here, upto_most}
 use Rattle.pdh_tx.proofs.Passing.{carried_is}
 use Rattle.pdh_tx.proofs.PassingAll.{placed_one, passes_one, holds_from, column_same, column_other}
 use Rattle.pdh_locked.specs.Children.{Stands, placed_in, held_in, filled_in}
 use Rattle.pdh_locked.specs.laws.LockedLaws.{below_grows}
 use Rattle.pdh_locked.proofs.OneSlot.{read_locked}
-use Rattle.pdh_locked.proofs.Filled.{next_one}
+use Rattle.pdh_locked.proofs.Filled.{next_one, fed_one}
 use Rattle.pdh_locked.proofs.children.Children.fill_one.Goals as goal
 
-pub fill-requires-clause-lists : goal.fill-requires-clause-lists
-fill-requires-clause-lists g c k leaf =
+pub fill-requires-clause-fed : goal.fill-requires-clause-fed
+fill-requires-clause-fed g c =
     let here = slice_get_read _ _ c.args.trib _ refl (omega (arith, c.requires.trib, c.args.self.now.count)) c.index_mut.ensures.value in
-    let one = next_one g.C.Tx g.S.Shape.shape c.args.self.now.list.items (plan_of c.args.clock.now) c.args.frame c.args.slot _ c.args.trib _ (c.args.len) here refl c.requires.placed in
-    c.requires.fed.lists k (leaf_of _ c.args.trib k _ one.maker leaf)
-
-pub fill-requires-clause-nodes : goal.fill-requires-clause-nodes
-fill-requires-clause-nodes g c =
-    let here = slice_get_read _ _ c.args.trib _ refl (omega (arith, c.requires.trib, c.args.self.now.count)) c.index_mut.ensures.value in
-    let one = next_one g.C.Tx g.S.Shape.shape c.args.self.now.list.items (plan_of c.args.clock.now) c.args.frame c.args.slot _ c.args.trib _ (c.args.len) here refl c.requires.placed in
-    c.requires.fed.nodes c.args.trib _ one.maker
+    let one = next_one g.C.Tx g.S.Shape.shape c.args.self.now.list.items (plan_of c.args.clock.now) c.args.frame c.args.slot _ c.args.trib _ c.args.len here refl c.requires.placed in
+    fed_one c.args.self.now c.args.clock.now (g.F.Feed.inputs c.args.feed.now) c.args.trib _ one.maker c.requires.fed
 
 pub fill-requires-clause-room : goal.fill-requires-clause-room
 fill-requires-clause-room g c =
     let s : FrameShape = g.S.Shape.shape in
     let most = before_most (λ t. reads_from c.args.trib false (s.role t)) (c.args.slot + c.args.len) in
-    omega (arith, most, c.requires.inside, c.args.self.now.room.queue)
+    let P : BoundedBits → Type 0 = λ column. g.S.Shape.LOW + 1 ≤ column.capacity in
+    record {
+      queue_room = omega (arith, most, c.requires.inside, c.args.self.now.room.queue);
+      column_room = subst P (sym c.index_mut-2.ensures.value) (c.args.self.now.room.columns c.args.trib _ (omega (arith, c.requires.trib, c.args.self.now.room.count)));
+    }
 
 pub fill-requires-clause-clear : goal.fill-requires-clause-clear
 fill-requires-clause-clear g c =
     let plan : Plan = plan_of c.args.clock.now in
-    let s : FrameShape = g.S.Shape.shape in
     let here = slice_get_read _ _ c.args.trib _ refl (omega (arith, c.requires.trib, c.args.self.now.count)) c.index_mut.ensures.value in
-    let one = next_one g.C.Tx s c.args.self.now.list.items plan c.args.frame c.args.slot _ c.args.trib _ (c.args.len) here refl c.requires.placed in
-    let f : ℕ = locked_to s c.args.frame c.args.slot c.args.trib in
+    let one = next_one g.C.Tx g.S.Shape.shape c.args.self.now.list.items (plan_of c.args.clock.now) c.args.frame c.args.slot _ c.args.trib _ c.args.len here refl c.requires.placed in
+    let f : ℕ = locked_to g.S.Shape.shape c.args.frame c.args.slot c.args.trib in
     let K : ℕ → Type 0 = λ k. IsClear (g.C.Tx.meaning c.index_mut.result.now) plan f k (g.F.Feed.inputs c.args.feed.now) in
-    (f, one.was, subst K (sym one.left) (c.requires.clear _ one.maker))
+    record { made = f; stands = one.was; clear = subst K (sym one.left) (c.requires.clear _ one.maker) }
 
 -- the path of no node, where none matters
 no_path : Path
 no_path = record { depth = 0; first = 0; second = 0 }
 
-pub returns-clause-placed : goal.returns-clause-placed
-returns-clause-placed g c =
-    let s : FrameShape = g.S.Shape.shape in
-    let plan : Plan = plan_of c.args.clock.now in
-    let i : ℕ = c.args.trib in
-    let cs = c.args.self.now.list.items in
-    let here = slice_get_read _ _ i _ refl (omega (arith, c.requires.trib, c.args.self.now.count)) c.index_mut.ensures.value in
-    let f : ℕ → ℕ = locked_to s c.args.frame c.args.slot in
-    let f' : ℕ → ℕ = locked_to s c.args.frame (c.args.slot + c.args.len) in
-    let one = next_one g.C.Tx s cs plan c.args.frame c.args.slot _ i _ (c.args.len) here refl c.requires.placed in
-    on_ok_weaker c.fill.result
-    (λ now. placed_one (placed_in g.C.Tx) (held_in g.C.Tx) g.C.Tx.meaning no_path plan cs i c.fill.new.child f f' f f' c.requires.placed (subst (Stands g.C.Tx c.fill.new.child plan) one.left (now (f i) one.was)))
-    c.fill.ensures.placed
-
-pub returns-clause-fills : goal.returns-clause-fills
-returns-clause-fills g c =
+pub returns-clause-ok : goal.returns-clause-ok
+returns-clause-ok g c =
     let s : FrameShape = g.S.Shape.shape in
     let plan : Plan = plan_of c.args.clock.now in
     let i : ℕ = c.args.trib in
@@ -97,23 +80,20 @@ returns-clause-fills g c =
     let new : Supply → ℕ → ℕ → Type 0 = filled_in g.C.Tx s i t len (f i) w w' column in
     let X : ℕ → Type 0 = λ v. Gains (g.C.Tx.meaning w) plan (held_in g.C.Tx w) new (f i) v (f i) (g.F.Feed.inputs c.args.feed.now) (g.F.Feed.inputs c.fill.new.feed) in
     on_ok_weaker c.fill.result
-    (λ gains path. passes_one (placed_in g.C.Tx) (held_in g.C.Tx) g.C.Tx.meaning path plan cs i w w' f f' f f' new (λ source. HoldsBitsOf s source n t len after i) _ _ c.args.self.now.disjoint here
-    (subst X one.left (gains (f i) one.was))
-    (λ supply is both.
-    let Y : ℕ → Type 0 = λ v. FillsColumn s i false t len (map ((g.C.Tx.meaning w).line (below supply)) (range_with_len v (carried_in s i false t len))) column in (
-      both.0,
-      holds_from s path (map g.C.Tx.meaning cs) plan supply n t len i (carried_in s i false t len) false (g.C.Tx.meaning w) after column is (sym (sends_more-locked s (plan.counts path i) n c.args.self.now.locked)) one.maker own (carried_is s i false t len)
-          (subst Y (sym (read_locked s c.args.self.now.locked (plan.counts path i) n t i)) both.1),
-    )))
-    c.fill.ensures.gains
-
-pub returns-clause-rows : goal.returns-clause-rows
-returns-clause-rows g c =
-    let own = column_same c.args.self.now.scratch.columns.items c.args.trib c.fill.new.column (omega (arith, c.requires.trib, c.args.self.now.room.count)) in
-    on_ok_weaker c.fill.result (λ long. ap length own ∙ long) c.fill.ensures.rows
-
-pub returns-clause-earlier : goal.returns-clause-earlier
-returns-clause-earlier g c j less = column_other c.args.self.now.scratch.columns.items c.args.trib j c.fill.new.column (omega (arith, less))
+    (λ ok.
+    let now = ok.bits (f i) one.was in
+    record {
+      placed = placed_one (placed_in g.C.Tx) (held_in g.C.Tx) g.C.Tx.meaning no_path plan cs i w' f f' f f' c.requires.placed (subst (Stands g.C.Tx w' plan) one.left now.placed);
+      fills = λ path. passes_one (placed_in g.C.Tx) (held_in g.C.Tx) g.C.Tx.meaning path plan cs i w w' f f' f f' new (λ source. HoldsBitsOf s source n t len after i) _ _ c.args.self.now.disjoint here (subst X one.left now.gains)
+          (λ supply is both.
+          let Y : ℕ → Type 0 = λ v. FillsColumn s i false t len (map ((g.C.Tx.meaning w).line (below supply)) (range_with_len v (carried_in s i false t len))) column in (
+            both.0,
+            holds_from s path (map g.C.Tx.meaning cs) plan supply n t len i (carried_in s i false t len) false (g.C.Tx.meaning w) after column is (sym (sends_more-locked s (plan.counts path i) n c.args.self.now.locked)) one.maker own (carried_is s i false t len)
+                (subst Y (sym (read_locked s c.args.self.now.locked (plan.counts path i) n t i)) both.1),
+          ));
+      rows = ap length own ∙ ok.rows;
+    })
+    c.fill.ensures.ok
 
 pub returns-clause-halts : goal.returns-clause-halts
 returns-clause-halts g c =
@@ -138,8 +118,14 @@ returns-clause-halts g c =
     (subst Y (sym (upto_here f f' i)) (subst X one.left (halts (f i) one.was))))
     c.fill.ensures.halts
 
-pub returns-clause-same : goal.returns-clause-same
-returns-clause-same g c = map-set_same g.C.Tx.meaning c.args.self.now.list.items c.args.trib c.fill.new.child c.index_mut.result.now (c.fill.ensures.same ∙ ap g.C.Tx.meaning c.index_mut.ensures.value)
+pub returns-clause-kept : goal.returns-clause-kept
+returns-clause-kept g c = record {
+  all = record {
+    same = map-set_same g.C.Tx.meaning c.args.self.now.list.items c.args.trib c.fill.new.child c.index_mut.result.now (c.fill.ensures.same ∙ ap g.C.Tx.meaning c.index_mut.ensures.value);
+    overhead = refl;
+  };
+  earlier = λ j less. column_other c.args.self.now.scratch.columns.items c.args.trib j c.fill.new.column (omega (arith, less));
+}
 
 pub invariant_of-self-clause-count : goal.invariant_of-self-clause-count
 invariant_of-self-clause-count g c = length-set c.args.self.now.list.items c.args.trib c.fill.new.child ∙ c.args.self.now.count
@@ -154,9 +140,9 @@ invariant_of-self-clause-room g c =
     let P : BoundedBits → Type 0 = λ column. g.S.Shape.LOW + 1 ≤ column.capacity in
     let was : P c.index_mut-2.result.now = subst P (sym c.index_mut-2.ensures.value) (c.args.self.now.room.columns c.args.trib _ (omega (arith, c.requires.trib, c.args.self.now.room.count))) in
     record {
-      queue = omega (arith, c.args.self.now.room.queue, c.fill.ensures.queue_room);
+      queue = omega (arith, c.args.self.now.room.queue, c.fill.ensures.room.queue_room);
       count = length-set columns c.args.trib c.fill.new.column ∙ c.args.self.now.room.count;
-      columns = All-set P columns c.args.trib c.fill.new.column (omega (arith, was, c.fill.ensures.column_room)) c.args.self.now.room.columns;
+      columns = All-set P columns c.args.trib c.fill.new.column (omega (arith, was, c.fill.ensures.room.column_room)) c.args.self.now.room.columns;
       overhead = c.args.self.now.room.overhead;
       payload = c.args.self.now.room.payload;
     }

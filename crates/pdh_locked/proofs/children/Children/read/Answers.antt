@@ -6,7 +6,7 @@ use Rattle.pdh_shape.specs.Tributary.{turned}
 use Rattle.pdh_tx.specs.Meaning.{plan_of}
 use Rattle.pdh_tx.specs.Node.{IsDisjoint}
 use Rattle.pdh_tx.proofs.Gaining.{if_err_from}
-use Rattle.pdh_tx.proofs.Moving.{leaf_of}
+use Rattle.pdh_locked.proofs.Filled.{fed_one}
 use Rattle.pdh_locked.proofs.OneSlot.{xor_turned}
 use Rattle.pdh_locked.proofs.Reading.{maker, reads_one, reads_stops}
 use Rattle.pdh_locked.proofs.children.Children.read.Goals as goal
@@ -16,15 +16,10 @@ next-requires-clause-running g c =
     let here = slice_get_read _ _ c.args.trib _ refl (omega (arith, c.requires.trib, c.args.self.now.count)) c.index_mut.ensures.value in
     (c.requires.placed.1 c.args.trib _ here).runs
 
-pub next-requires-clause-lists : goal.next-requires-clause-lists
-next-requires-clause-lists g c k leaf =
+pub next-requires-clause-fed : goal.next-requires-clause-fed
+next-requires-clause-fed g c =
     let here = slice_get_read _ _ c.args.trib _ refl (omega (arith, c.requires.trib, c.args.self.now.count)) c.index_mut.ensures.value in
-    c.requires.fed.lists k (leaf_of _ c.args.trib k _ (maker g.C.Tx (plan_of c.args.clock.now) c.args.self.now.list.items c.args.trib _ c.requires.placed.0 c.args.self.now.disjoint here) leaf)
-
-pub next-requires-clause-nodes : goal.next-requires-clause-nodes
-next-requires-clause-nodes g c =
-    let here = slice_get_read _ _ c.args.trib _ refl (omega (arith, c.requires.trib, c.args.self.now.count)) c.index_mut.ensures.value in
-    c.requires.fed.nodes c.args.trib _ (maker g.C.Tx (plan_of c.args.clock.now) c.args.self.now.list.items c.args.trib _ c.requires.placed.0 c.args.self.now.disjoint here)
+    fed_one c.args.self.now c.args.clock.now (g.F.Feed.inputs c.args.feed.now) c.args.trib _ (maker g.C.Tx (plan_of c.args.clock.now) c.args.self.now.list.items c.args.trib _ c.requires.placed.0 c.args.self.now.disjoint here) c.requires.fed
 
 pub next-requires-clause-stands : goal.next-requires-clause-stands
 next-requires-clause-stands g c =
@@ -36,19 +31,19 @@ invariant_of-self-clause-count g c = length-set c.args.self.now.list.items c.arg
 
 pub invariant_of-self-clause-disjoint : goal.invariant_of-self-clause-disjoint
 invariant_of-self-clause-disjoint g c =
-    subst IsDisjoint (sym (map-set_same g.C.Tx.meaning c.args.self.now.list.items c.args.trib c.next.new.self c.index_mut.result.now (c.next.ensures.same ∙ ap g.C.Tx.meaning c.index_mut.ensures.value))) c.args.self.now.disjoint
+    subst IsDisjoint (sym (map-set_same g.C.Tx.meaning c.args.self.now.list.items c.args.trib c.next.new.self c.index_mut.result.now (c.next.ensures.kept.same ∙ ap g.C.Tx.meaning c.index_mut.ensures.value))) c.args.self.now.disjoint
 
 pub returns-clause-same : goal.returns-clause-same
-returns-clause-same g c = map-set_same g.C.Tx.meaning c.args.self.now.list.items c.args.trib c.next.new.self c.index_mut.result.now (c.next.ensures.same ∙ ap g.C.Tx.meaning c.index_mut.ensures.value)
+returns-clause-same g c = map-set_same g.C.Tx.meaning c.args.self.now.list.items c.args.trib c.next.new.self c.index_mut.result.now (c.next.ensures.kept.same ∙ ap g.C.Tx.meaning c.index_mut.ensures.value)
 
 pub returns-in_err-bit-clause-same : goal.returns-in_err-bit-clause-same
-returns-in_err-bit-clause-same g c = map-set_same g.C.Tx.meaning c.args.self.now.list.items c.args.trib c.next.new.self c.index_mut.result.now (c.next.ensures.same ∙ ap g.C.Tx.meaning c.index_mut.ensures.value)
+returns-in_err-bit-clause-same g c = map-set_same g.C.Tx.meaning c.args.self.now.list.items c.args.trib c.next.new.self c.index_mut.result.now (c.next.ensures.kept.same ∙ ap g.C.Tx.meaning c.index_mut.ensures.value)
 
 pub returns-clause-read : goal.returns-clause-read
 returns-clause-read g c made each =
     let i : ℕ = c.args.trib in
     let here = slice_get_read _ _ i _ refl (omega (arith, c.requires.trib, c.args.self.now.count)) c.index_mut.ensures.value in
-    reads_one g.C.Tx (plan_of c.args.clock.now) c.args.self.now.list.items i _ made c.args.self.now.disjoint here g.S.Shape.shape c.next.new.self c.in_ok-bit.bit _ _ _ each c.next.ensures.same_says c.in_ok-bit.ensures.running
+    reads_one g.C.Tx (plan_of c.args.clock.now) c.args.self.now.list.items i _ made c.args.self.now.disjoint here g.S.Shape.shape c.next.new.self c.in_ok-bit.bit _ _ _ each c.next.ensures.kept.same_says c.in_ok-bit.ensures.stopped
     (xor_turned c.in_ok-bit.bit c.inverted.result ∙ ap (λ b. turned b c.in_ok-bit.bit) c.inverted.ensures)
     (c.in_ok-bit.ensures.made (made i) (each i _ here).place)
 

@@ -1,4 +1,4 @@
-use Rattle.pdh_ops.proofs.PortEnds.{files_kept}
+use Rattle.pdh_ops.proofs.Finished.{files_kept}
 use Rattle.pdh_ops.proofs.port.PortFiles.finish.Goals as goal
 
 pub stop-requires-clause-files : goal.stop-requires-clause-files

@@ -5,4 +5,4 @@ use Rattle.pdh_tx.proofs.leaf.LeafTx.make_clear.Goals as goal
 
 pub returns-in-Ok-clause-made : goal.returns-in-Ok-clause-made
 returns-in-Ok-clause-made g c x u =
-    leaf_makes c.args.self.now.leaf _ _ _ _ x (x + c.args.count) (gained c.args.into.now c.take_bits.new.into) _ _ tt (λ supply. tt) (ap (λ n. x + n) c.in-Ok.ensures.grown.count) c.in-Ok.ensures.ok
+    leaf_makes c.args.self.now.leaf _ _ _ _ x (x + c.args.count) (gained c.args.into.now c.take_bits.new.into) _ _ tt (λ supply. tt) (ap (λ n. x + n) c.in-Ok.ensures.appended.grown.count) c.in-Ok.ensures.ok

@@ -6,7 +6,7 @@ use Rattle.pdh_tx.specs.Meaning.{plan_of, Plan, Meaning}
 use Rattle.pdh_tx.specs.Tributary.{placed_in, held_in, meaning_in, share_in}
 use Rattle.pdh_tx.specs.Node.{source_of, IsShare, Stays, came_at}
 use Rattle.pdh_tx.specs.Passing.{made_through, read_through, HoldsBits, HoldsBitsOf, HasRows, Passes}
-use Rattle.pdh_tx.specs.Tributaries.{meanings, columns, HavePassed, PassOn}
+use Rattle.pdh_tx.specs.Tributaries.{meanings, columns, HavePassed, PassOn, PassAll}
 use Rattle.pdh_tx.proofs.Feeding.{still_fed}
 use Rattle.pdh_tx.proofs.Lists.{transfer_one}
 use Rattle.pdh_tx.proofs.Gaining.{on_err_from}
@@ -66,33 +66,23 @@ loop-trib-preserved g c =
     let inputs = g.F.Feed.inputs in
     let P : List Meaning → Type 0 = λ ms. Passes (held_in g.C.Tx) at.path ms plan c.loop-trib.self.list.items after.list.items (made_through s plan at i) (made_through s plan at (suc i)) (read_through s plan at i) (read_through s plan at (suc i))
     (inputs c.loop-trib.feed) (inputs c.pass_one.new.feed) (λ source. HoldsBitsOf s source at.frame at.slot at.len new i) in
-    let Q : ℕ → Type 0 = λ k. PassOn c.args.self.now after plan at 0 k (inputs c.args.feed.now) (inputs c.pass_one.new.feed) (λ source. HoldsBits s source at.frame at.slot at.len new k) in
+    let Q : ℕ → Type 0 = λ k. PassOn c.args.self.now after c.args.clock.now at 0 k (inputs c.args.feed.now) (inputs c.pass_one.new.feed) (λ source. HoldsBits s source at.frame at.slot at.len new k) in
     record {
-      placed = subst (λ (k : ℕ). HavePassed after plan at k) e ok.placed;
+      placed = subst (λ (k : ℕ). HavePassed after c.args.clock.now at k) e ok.ok.placed;
       passes = subst Q e (passes_join (placed_in g.C.Tx) (held_in g.C.Tx) (meaning_in g.C.Tx) at.path plan (meanings c.args.self.now) _ _ _ _ _ _ _ _ _ _ _ _
           (λ source. HoldsBits s source at.frame at.slot at.len old i) (λ source. HoldsBitsOf s source at.frame at.slot at.len new i) (λ source. HoldsBits s source at.frame at.slot at.len new (suc i))
-          (λ supply is was now. holds_more s (source_of at.path (meanings c.args.self.now) supply) at.frame at.slot at.len i old new ok.earlier was now) inv.passes (subst P inv.same ok.passes));
-      rows = subst (λ (k : ℕ). HasRows s at.slot at.len new k) e (rows_more s at.slot at.len i old new ok.earlier inv.rows ok.rows);
-      unfailed = ok.cause ∙ inv.unfailed;
-      fed = g.met.F.Feed.fed_join _ _ _ inv.fed ok.fed;
-      same = ok.same ∙ inv.same;
-      shares = ok.shares ∙ inv.shares;
-      overhead = ok.overhead ∙ inv.overhead;
+          (λ supply is was now. holds_more s (source_of at.path (meanings c.args.self.now) supply) at.frame at.slot at.len i old new ok.kept.earlier was now) inv.passes (subst P inv.same ok.ok.passes));
+      rows = subst (λ (k : ℕ). HasRows s at.slot at.len new k) e (rows_more s at.slot at.len i old new ok.kept.earlier inv.rows ok.ok.rows);
+      unfailed = ok.fed.cause ∙ inv.unfailed;
+      fed = g.met.F.Feed.fed_join _ _ _ inv.fed ok.fed.fed;
+      same = ok.kept.all.same ∙ inv.same;
+      shares = ok.kept.all.same_shares ∙ inv.shares;
+      overhead = ok.kept.all.overhead ∙ inv.overhead;
     }
 
-pub returns-clause-placed : goal.returns-clause-placed
-returns-clause-placed g c =
+pub returns-clause-ok : goal.returns-clause-ok
+returns-clause-ok g c =
+    let inv = c.loop-trib.invariant in
+    let all : PassAll c.args.self.now c.loop-trib.self c.args.clock.now c.args.at c.loop-trib.trib (g.F.Feed.inputs c.args.feed.now) (g.F.Feed.inputs c.loop-trib.feed) = record { placed = inv.placed; passes = inv.passes; rows = inv.rows } in
     let end : c.loop-trib.trib ≡ g.S.Shape.TRIBS = omega (arith, c.loop-trib.auto.trib-end, c.loop-trib-test.false, c.TRIBS-trib-end.ensures) in
-    subst (λ (k : ℕ). HavePassed c.loop-trib.self (plan_of c.args.clock.now) c.args.at k) end c.loop-trib.invariant.placed
-
-pub returns-clause-passes : goal.returns-clause-passes
-returns-clause-passes g c =
-    let at = c.args.at in
-    let end : c.loop-trib.trib ≡ g.S.Shape.TRIBS = omega (arith, c.loop-trib.auto.trib-end, c.loop-trib-test.false, c.TRIBS-trib-end.ensures) in
-    let P : ℕ → Type 0 = λ k. PassOn c.args.self.now c.loop-trib.self (plan_of c.args.clock.now) at 0 k (g.F.Feed.inputs c.args.feed.now) (g.F.Feed.inputs c.loop-trib.feed) (λ source. HoldsBits g.S.Shape.shape source at.frame at.slot at.len (columns c.loop-trib.self) k) in
-    subst P end c.loop-trib.invariant.passes
-
-pub returns-clause-rows : goal.returns-clause-rows
-returns-clause-rows g c =
-    let end : c.loop-trib.trib ≡ g.S.Shape.TRIBS = omega (arith, c.loop-trib.auto.trib-end, c.loop-trib-test.false, c.TRIBS-trib-end.ensures) in
-    subst (λ (k : ℕ). HasRows g.S.Shape.shape c.args.at.slot c.args.at.len (columns c.loop-trib.self) k) end c.loop-trib.invariant.rows
+    subst (λ (k : ℕ). PassAll c.args.self.now c.loop-trib.self c.args.clock.now c.args.at k (g.F.Feed.inputs c.args.feed.now) (g.F.Feed.inputs c.loop-trib.feed)) end all

@@ -14,76 +14,48 @@ use Rattle.pdh_tx.specs.Tributary.{placed_in, held_in, meaning_in, share_in}
 use Rattle.pdh_tx.specs.Node.{IsDisjoint, below, read_to, came_at}
 use Rattle.pdh_tx.specs.Passing.{carried_in, passed_in, made_through, HoldsBitsOf}
 use Rattle.pdh_tx.specs.laws.Growing.{given_more}
-use Rattle.pdh_tx.proofs.Moving.{leaf_of, stays_one}
+use Rattle.pdh_tx.proofs.Feeding.{fed_one}
+use Rattle.pdh_tx.proofs.Moving.{stays_one}
 use Rattle.pdh_tx.proofs.Advancing.{upto_here, upto_most}
 use Rattle.pdh_tx.proofs.Passing.{carried_is}
 use Rattle.pdh_tx.proofs.PassingAll.{placed_one, passes_one, holds_from, came_grows, column_same, column_other}
 use Rattle.pdh_tx.proofs.OnePasses.{next_one}
 use Rattle.pdh_tx.proofs.tributaries.Tributaries.pass_one.Goals as goal
 
-pub pass-requires-clause-lists : goal.pass-requires-clause-lists
-pass-requires-clause-lists g c k leaf =
+pub pass-requires-clause-fed : goal.pass-requires-clause-fed
+pass-requires-clause-fed g c =
     let here = slice_get_read _ _ c.args.trib _ refl (omega (arith, c.requires.trib, c.args.self.now.count)) c.index_mut-tributary.ensures.value in
-    let one = next_one g.met.S.Shape.is_frame c.args.self.now (plan_of c.args.clock.now) c.args.at c.args.trib _ c.arriving-arriving.result here (omega (arith, c.requires.inside, g.met.S.Shape.len_is)) c.requires.decided c.requires.placed c.arriving-arriving.ensures in
-    c.requires.fed.lists k (leaf_of _ c.args.trib k _ one.maker leaf)
-
-pub pass-requires-clause-nodes : goal.pass-requires-clause-nodes
-pass-requires-clause-nodes g c =
-    let here = slice_get_read _ _ c.args.trib _ refl (omega (arith, c.requires.trib, c.args.self.now.count)) c.index_mut-tributary.ensures.value in
-    let one = next_one g.met.S.Shape.is_frame c.args.self.now (plan_of c.args.clock.now) c.args.at c.args.trib _ c.arriving-arriving.result here (omega (arith, c.requires.inside, g.met.S.Shape.len_is)) c.requires.decided c.requires.placed c.arriving-arriving.ensures in
-    c.requires.fed.nodes c.args.trib _ one.maker
+    fed_one c.args.self.now c.args.at.path c.args.clock.now (g.F.Feed.inputs c.args.feed.now) c.args.trib _ here c.requires.fed
 
 pub pass-requires-clause-room : goal.pass-requires-clause-room
 pass-requires-clause-room g c =
     let here = slice_get_read _ _ c.args.trib _ refl (omega (arith, c.requires.trib, c.args.self.now.count)) c.index_mut-tributary.ensures.value in
-    let one = next_one g.met.S.Shape.is_frame c.args.self.now (plan_of c.args.clock.now) c.args.at c.args.trib _ c.arriving-arriving.result here (omega (arith, c.requires.inside, g.met.S.Shape.len_is)) c.requires.decided c.requires.placed c.arriving-arriving.ensures in
-    omega (arith, c.args.self.now.room.queue, one.few, g.met.S.Shape.len_is)
+    let one = next_one g.met.S.Shape.is_frame c.args.self.now c.args.clock.now c.args.at c.args.trib _ c.arriving-arriving.result here (omega (arith, c.requires.inside, g.met.S.Shape.len_is)) c.requires.decided c.requires.placed c.arriving-arriving.ensures in
+    let P : BoundedBits → Type 0 = λ column. g.S.Shape.LOW + 1 ≤ column.capacity in
+    record {
+      queue_room = omega (arith, c.args.self.now.room.queue, one.few, g.met.S.Shape.len_is);
+      column_room = subst P (sym c.index_mut.ensures.value) (c.args.self.now.room.columns c.args.trib _ (omega (arith, c.requires.trib, c.args.self.now.room.count)));
+    }
 
 pub pass-requires-clause-clear : goal.pass-requires-clause-clear
 pass-requires-clause-clear g c =
     let plan : Plan = plan_of c.args.clock.now in
     let here = slice_get_read _ _ c.args.trib _ refl (omega (arith, c.requires.trib, c.args.self.now.count)) c.index_mut-tributary.ensures.value in
-    let one = next_one g.met.S.Shape.is_frame c.args.self.now plan c.args.at c.args.trib _ c.arriving-arriving.result here (omega (arith, c.requires.inside, g.met.S.Shape.len_is)) c.requires.decided c.requires.placed c.arriving-arriving.ensures in
+    let one = next_one g.met.S.Shape.is_frame c.args.self.now c.args.clock.now c.args.at c.args.trib _ c.arriving-arriving.result here (omega (arith, c.requires.inside, g.met.S.Shape.len_is)) c.requires.decided c.requires.placed c.arriving-arriving.ensures in
     let f : ℕ = came_at g.S.Shape.shape c.args.at.path plan c.args.at.frame c.args.at.slot c.args.trib in
+    let can = c.requires.clear _ one.maker in
     let K : ℕ → Type 0 = λ k. IsClear (meaning_in g.C.Tx c.index_mut-tributary.result.now) plan f k (g.F.Feed.inputs c.args.feed.now) in
-    (f, _, one.was, subst K (sym one.came) (c.requires.clear _ one.maker).clear)
+    record {
+      made = f;
+      read = read_to g.S.Shape.shape c.args.at.path plan c.args.at.frame c.args.at.slot c.args.trib;
+      placed = one.was;
+      clear = subst K (sym one.came) can.clear;
+      enough = omega (arith, can.enough, one.was.count, one.came, one.left);
+      few = λ held. (let few = can.few (omega (arith, one.was.count, held)) in omega (arith, few, one.was.count, one.came, one.left));
+    }
 
-pub pass-requires-clause-enough : goal.pass-requires-clause-enough
-pass-requires-clause-enough g c =
-    let here = slice_get_read _ _ c.args.trib _ refl (omega (arith, c.requires.trib, c.args.self.now.count)) c.index_mut-tributary.ensures.value in
-    let one = next_one g.met.S.Shape.is_frame c.args.self.now (plan_of c.args.clock.now) c.args.at c.args.trib _ c.arriving-arriving.result here (omega (arith, c.requires.inside, g.met.S.Shape.len_is)) c.requires.decided c.requires.placed c.arriving-arriving.ensures in
-    omega (arith, (c.requires.clear _ one.maker).enough, one.was.count, one.came, one.left)
-
-pub pass-requires-clause-few : goal.pass-requires-clause-few
-pass-requires-clause-few g c held =
-    let here = slice_get_read _ _ c.args.trib _ refl (omega (arith, c.requires.trib, c.args.self.now.count)) c.index_mut-tributary.ensures.value in
-    let one = next_one g.met.S.Shape.is_frame c.args.self.now (plan_of c.args.clock.now) c.args.at c.args.trib _ c.arriving-arriving.result here (omega (arith, c.requires.inside, g.met.S.Shape.len_is)) c.requires.decided c.requires.placed c.arriving-arriving.ensures in
-    let few = (c.requires.clear _ one.maker).few (omega (arith, one.was.count, held)) in
-    omega (arith, few, one.was.count, one.came, one.left)
-
-pub returns-clause-placed : goal.returns-clause-placed
-returns-clause-placed g c =
-    let s : FrameShape = g.S.Shape.shape in
-    let plan : Plan = plan_of c.args.clock.now in
-    let at = c.args.at in
-    let i : ℕ = c.args.trib in
-    let w = c.index_mut-tributary.result.now in
-    let w' = c.pass.new.self in
-    let here = slice_get_read _ _ i _ refl (omega (arith, c.requires.trib, c.args.self.now.count)) c.index_mut-tributary.ensures.value in
-    let one = next_one g.met.S.Shape.is_frame c.args.self.now plan at i w c.arriving-arriving.result here (omega (arith, c.requires.inside, g.met.S.Shape.len_is)) c.requires.decided c.requires.placed c.arriving-arriving.ensures in
-    let u : ℕ = at.slot + at.len in
-    let f : ℕ → ℕ = came_at s at.path plan at.frame at.slot in
-    let f' : ℕ → ℕ = came_at s at.path plan at.frame u in
-    let h : ℕ → ℕ = read_to s at.path plan at.frame at.slot in
-    let h' : ℕ → ℕ = read_to s at.path plan at.frame u in
-    let X : ℕ → Type 0 = λ v. placed_in g.C.Tx w' plan v (h i + carried_in s i w.share.more at.slot at.len) in
-    let Y : ℕ → Type 0 = λ v. placed_in g.C.Tx w' plan (f' i) v in
-    on_ok_weaker c.pass.result
-    (λ now. placed_one (placed_in g.C.Tx) (held_in g.C.Tx) (meaning_in g.C.Tx) at.path plan c.args.self.now.list.items i w' f f' h h' c.requires.placed (subst Y one.left (subst X one.came (now (f i) (h i) one.was))))
-    c.pass.ensures.placed
-
-pub returns-clause-passes : goal.returns-clause-passes
-returns-clause-passes g c =
+pub returns-clause-ok : goal.returns-clause-ok
+returns-clause-ok g c =
     let s : FrameShape = g.S.Shape.shape in
     let plan : Plan = plan_of c.args.clock.now in
     let at = c.args.at in
@@ -92,7 +64,7 @@ returns-clause-passes g c =
     let w = c.index_mut-tributary.result.now in
     let w' = c.pass.new.self in
     let here = slice_get_read _ _ i _ refl (omega (arith, c.requires.trib, c.args.self.now.count)) c.index_mut-tributary.ensures.value in
-    let one = next_one g.met.S.Shape.is_frame c.args.self.now plan at i w c.arriving-arriving.result here (omega (arith, c.requires.inside, g.met.S.Shape.len_is)) c.requires.decided c.requires.placed c.arriving-arriving.ensures in
+    let one = next_one g.met.S.Shape.is_frame c.args.self.now c.args.clock.now at i w c.arriving-arriving.result here (omega (arith, c.requires.inside, g.met.S.Shape.len_is)) c.requires.decided c.requires.placed c.arriving-arriving.ensures in
     let u : ℕ = at.slot + at.len in
     let f : ℕ → ℕ = came_at s at.path plan at.frame at.slot in
     let f' : ℕ → ℕ = came_at s at.path plan at.frame u in
@@ -103,25 +75,24 @@ returns-clause-passes g c =
     let own = column_same c.args.self.now.scratch.columns.items i column (omega (arith, c.requires.trib, c.args.self.now.room.count)) in
     let gone : ℕ = carried_in s i w.share.more at.slot at.len in
     let new : Supply → ℕ → ℕ → Type 0 = passed_in g.C.Tx s i at.slot at.len w w' column.bits in
-    let X : ℕ → Type 0 = λ v. Gains (meaning_in g.C.Tx w) plan (held_in g.C.Tx w) new (f i) v (h i) (g.F.Feed.inputs c.args.feed.now) (g.F.Feed.inputs c.pass.new.feed) in
+    let X : ℕ → Type 0 = λ v. placed_in g.C.Tx w' plan v (h i + gone) in
+    let Y : ℕ → Type 0 = λ v. placed_in g.C.Tx w' plan (f' i) v in
+    let Z : ℕ → Type 0 = λ v. Gains (meaning_in g.C.Tx w) plan (held_in g.C.Tx w) new (f i) v (h i) (g.F.Feed.inputs c.args.feed.now) (g.F.Feed.inputs c.pass.new.feed) in
+    let same : meaning_in g.C.Tx w' ≡ meaning_in g.C.Tx w = c.pass.ensures.kept.same in
     on_ok_weaker c.pass.result
-    (λ gains. passes_one (placed_in g.C.Tx) (held_in g.C.Tx) (meaning_in g.C.Tx) at.path plan ws i w w' f f' h h' new (λ source. HoldsBitsOf s source at.frame at.slot at.len after i) _ _ c.args.self.now.disjoint here
-    (subst X one.came (gains (f i) (h i) one.was))
-    (λ supply is both.
-    let Y : ℕ → Type 0 = λ v. held_in g.C.Tx w' (below supply) (f' i) v in
-    let same : meaning_in g.C.Tx w' ≡ meaning_in g.C.Tx w = c.pass.ensures.same in (
-      subst Y one.left both.0,
-      holds_from s at.path (map (meaning_in g.C.Tx) ws) plan supply at.frame at.slot at.len i gone w.share.more (meaning_in g.C.Tx w') after column.bits is one.share.more (one.maker ∙ ap Some (sym same)) own (carried_is s i w.share.more at.slot at.len) both.1,
-    )))
-    c.pass.ensures.gains
-
-pub returns-clause-rows : goal.returns-clause-rows
-returns-clause-rows g c =
-    let own = column_same c.args.self.now.scratch.columns.items c.args.trib c.pass.new.column (omega (arith, c.requires.trib, c.args.self.now.room.count)) in
-    on_ok_weaker c.pass.result (λ long. ap length own ∙ long) c.pass.ensures.rows
-
-pub returns-clause-earlier : goal.returns-clause-earlier
-returns-clause-earlier g c j less = column_other c.args.self.now.scratch.columns.items c.args.trib j c.pass.new.column (omega (arith, less))
+    (λ ok.
+    let now = ok.bits (f i) (h i) one.was in
+    record {
+      placed = placed_one (placed_in g.C.Tx) (held_in g.C.Tx) (meaning_in g.C.Tx) at.path plan ws i w' f f' h h' c.requires.placed (subst Y one.left (subst X one.came now.placed));
+      passes = passes_one (placed_in g.C.Tx) (held_in g.C.Tx) (meaning_in g.C.Tx) at.path plan ws i w w' f f' h h' new (λ source. HoldsBitsOf s source at.frame at.slot at.len after i) _ _ c.args.self.now.disjoint here (subst Z one.came now.gains)
+          (λ supply is both.
+          let V : ℕ → Type 0 = λ v. held_in g.C.Tx w' (below supply) (f' i) v in (
+            subst V one.left both.0,
+            holds_from s at.path (map (meaning_in g.C.Tx) ws) plan supply at.frame at.slot at.len i gone w.share.more (meaning_in g.C.Tx w') after column.bits is one.share.more (one.maker ∙ ap Some (sym same)) own (carried_is s i w.share.more at.slot at.len) both.1,
+          ));
+      rows = ap length own ∙ ok.rows;
+    })
+    c.pass.ensures.ok
 
 pub returns-clause-halts : goal.returns-clause-halts
 returns-clause-halts g c =
@@ -132,7 +103,7 @@ returns-clause-halts g c =
     let ws = c.args.self.now.list.items in
     let w = c.index_mut-tributary.result.now in
     let here = slice_get_read _ _ i _ refl (omega (arith, c.requires.trib, c.args.self.now.count)) c.index_mut-tributary.ensures.value in
-    let one = next_one g.met.S.Shape.is_frame c.args.self.now plan at i w c.arriving-arriving.result here (omega (arith, c.requires.inside, g.met.S.Shape.len_is)) c.requires.decided c.requires.placed c.arriving-arriving.ensures in
+    let one = next_one g.met.S.Shape.is_frame c.args.self.now c.args.clock.now at i w c.arriving-arriving.result here (omega (arith, c.requires.inside, g.met.S.Shape.len_is)) c.requires.decided c.requires.placed c.arriving-arriving.ensures in
     let u : ℕ = at.slot + at.len in
     let f : ℕ → ℕ = came_at s at.path plan at.frame at.slot in
     let f' : ℕ → ℕ = came_at s at.path plan at.frame u in
@@ -145,20 +116,22 @@ returns-clause-halts g c =
     (subst Y (sym (upto_here f f' i)) (subst X one.came (halts (f i) (read_to s at.path plan at.frame at.slot i) one.was))))
     c.pass.ensures.halts
 
-pub returns-clause-same : goal.returns-clause-same
-returns-clause-same g c =
-    map-set_same (meaning_in g.C.Tx) c.args.self.now.list.items c.args.trib c.pass.new.self c.index_mut-tributary.result.now (c.pass.ensures.same ∙ ap (meaning_in g.C.Tx) c.index_mut-tributary.ensures.value)
-
-pub returns-clause-shares : goal.returns-clause-shares
-returns-clause-shares g c =
-    map-set_same share_in c.args.self.now.list.items c.args.trib c.pass.new.self c.index_mut-tributary.result.now (c.pass.ensures.share ∙ ap share_in c.index_mut-tributary.ensures.value)
+pub returns-clause-kept : goal.returns-clause-kept
+returns-clause-kept g c = record {
+  all = record {
+    same = map-set_same (meaning_in g.C.Tx) c.args.self.now.list.items c.args.trib c.pass.new.self c.index_mut-tributary.result.now (c.pass.ensures.kept.same ∙ ap (meaning_in g.C.Tx) c.index_mut-tributary.ensures.value);
+    same_shares = map-set_same share_in c.args.self.now.list.items c.args.trib c.pass.new.self c.index_mut-tributary.result.now (c.pass.ensures.kept.share ∙ ap share_in c.index_mut-tributary.ensures.value);
+    overhead = refl;
+  };
+  earlier = λ j less. column_other c.args.self.now.scratch.columns.items c.args.trib j c.pass.new.column (omega (arith, less));
+}
 
 pub invariant_of-self-clause-count : goal.invariant_of-self-clause-count
 invariant_of-self-clause-count g c = length-set c.args.self.now.list.items c.args.trib c.pass.new.self ∙ c.args.self.now.count
 
 pub invariant_of-self-clause-disjoint : goal.invariant_of-self-clause-disjoint
 invariant_of-self-clause-disjoint g c =
-    subst IsDisjoint (sym (map-set_same (meaning_in g.C.Tx) c.args.self.now.list.items c.args.trib c.pass.new.self c.index_mut-tributary.result.now (c.pass.ensures.same ∙ ap (meaning_in g.C.Tx) c.index_mut-tributary.ensures.value))) c.args.self.now.disjoint
+    subst IsDisjoint (sym (map-set_same (meaning_in g.C.Tx) c.args.self.now.list.items c.args.trib c.pass.new.self c.index_mut-tributary.result.now (c.pass.ensures.kept.same ∙ ap (meaning_in g.C.Tx) c.index_mut-tributary.ensures.value))) c.args.self.now.disjoint
 
 pub invariant_of-self-clause-room : goal.invariant_of-self-clause-room
 invariant_of-self-clause-room g c =
@@ -166,9 +139,9 @@ invariant_of-self-clause-room g c =
     let P : BoundedBits → Type 0 = λ column. g.S.Shape.LOW + 1 ≤ column.capacity in
     let was : P c.index_mut.result.now = subst P (sym c.index_mut.ensures.value) (c.args.self.now.room.columns c.args.trib _ (omega (arith, c.requires.trib, c.args.self.now.room.count))) in
     record {
-      queue = omega (arith, c.args.self.now.room.queue, c.pass.ensures.queue_room);
+      queue = omega (arith, c.args.self.now.room.queue, c.pass.ensures.room.queue_room);
       count = length-set columns c.args.trib c.pass.new.column ∙ c.args.self.now.room.count;
-      columns = All-set P columns c.args.trib c.pass.new.column (omega (arith, was, c.pass.ensures.column_room)) c.args.self.now.room.columns;
+      columns = All-set P columns c.args.trib c.pass.new.column (omega (arith, was, c.pass.ensures.room.column_room)) c.args.self.now.room.columns;
       overhead = c.args.self.now.room.overhead;
       payload = c.args.self.now.room.payload;
     }

@@ -108,6 +108,6 @@ returns-in-None-clause-bit g c supply decided said parity each =
     let long : length ws ≡ s.tribs = c.args.self.now.count ∙ sym g.met.S.Shape.tribs_is in
     let within : t < s.len = omega (arith, c.requires, g.met.S.Shape.len_is) in
     let none = carried_none share_in s g.met.S.Shape.has_tributaries c.args.path supply.plan n ws long decided t (s.role t) within refl (sym c.in-None.ensures.carried) in (
-      c.overhead.ensures ∙ overhead_is share_in s g.met.S.Shape.has_tributaries c.args.path supply.plan n ws long decided (map (meaning_in g.C.Tx) ws) supply.lists supply.says c.args.say.now c.args.odd t (s.role t) within refl (sym c.in-None.ensures.carried) said parity,
+      c.overhead_of.ensures ∙ overhead_is share_in s g.met.S.Shape.has_tributaries c.args.path supply.plan n ws long decided (map (meaning_in g.C.Tx) ws) supply.lists supply.says c.args.say.now c.args.odd t (s.role t) within refl (sym c.in-None.ensures.carried) said parity,
       λ j w e. subst (λ k. held_in g.C.Tx w (below supply) (came_before s (supply.plan.counts c.args.path j) n (suc t)) k) (read_same s c.args.path supply.plan n t none j) (each j w e),
     )

@@ -1,6 +1,7 @@
 use Rattle.std.proofs.Common.{rules, ◌≡◌, ◌<◌, ℕ, suc, length, map, true, false, refl, sym, ap, ◌∙◌, subst, arith, Some, slice_get}
 use Rattle.std.proofs.lemmas.Option.{slice_get_read, slice_get-map}
 use Rattle.std.proofs.lemmas.List.{length-map, length-set}
+use Rattle.std.proofs.lemmas.Result.{on_ok_weaker, IfErr-weaker}
 use Rattle.std.proofs.Math.Seq.{map-set_same}
 use Rattle.pdh_shape.specs.Frame.{FrameShape}
 use Rattle.pdh_line.specs.Sending.{arrives_at, came_before}
@@ -9,9 +10,7 @@ use Rattle.pdh_tx.specs.Meaning.{plan_of, Plan}
 use Rattle.pdh_tx.specs.Held.{Gains, Halts}
 use Rattle.pdh_tx.specs.Tributary.{placed_in, held_in, meaning_in, share_in}
 use Rattle.pdh_tx.specs.Node.{read_to, IsDisjoint}
-use Rattle.pdh_tx.specs.Node.{IsDisjoint}
-use Rattle.pdh_tx.proofs.Gaining.{on_ok_three, if_err_two}
-use Rattle.pdh_tx.proofs.Moving.{leaf_of}
+use Rattle.pdh_tx.proofs.Feeding.{fed_one}
 use Rattle.pdh_tx.proofs.Advancing.{upto_here, advance_one, advance_idle, blocked_one}
 use Rattle.pdh_tx.proofs.Arriving.{came_arrives, came_same, no_arrival, arrival_same}
 use Rattle.pdh_tx.proofs.tributaries.Tributaries.take_arrival.Goals as goal
@@ -38,17 +37,11 @@ arrives-requires-clause-fits g c =
     let share = c.requires.decided c.args.trib _ at in
     omega (arith, share.fits, share.arriving, g.met.S.Shape.len_is)
 
-pub arrive-requires-clause-lists : goal.arrive-requires-clause-lists
-arrive-requires-clause-lists g c k leaf =
+pub arrive-requires-clause-fed : goal.arrive-requires-clause-fed
+arrive-requires-clause-fed g c =
     let within : c.args.trib < length c.args.self.now.list.items = omega (arith, c.requires.trib, c.args.self.now.count) in
     let at : slice_get c.args.self.now.list.items c.args.trib ≡ Some c.index_mut.result.now = slice_get_read _ _ c.args.trib _ refl within c.index_mut.ensures.value in
-    c.requires.fed.lists k (leaf_of _ c.args.trib k (meaning_in g.C.Tx c.index_mut.result.now) (slice_get-map (meaning_in g.C.Tx) c.args.self.now.list.items c.args.trib ∙ rw at refl) leaf)
-
-pub arrive-requires-clause-nodes : goal.arrive-requires-clause-nodes
-arrive-requires-clause-nodes g c =
-    let within : c.args.trib < length c.args.self.now.list.items = omega (arith, c.requires.trib, c.args.self.now.count) in
-    let at : slice_get c.args.self.now.list.items c.args.trib ≡ Some c.index_mut.result.now = slice_get_read _ _ c.args.trib _ refl within c.index_mut.ensures.value in
-    c.requires.fed.nodes c.args.trib (meaning_in g.C.Tx c.index_mut.result.now) (slice_get-map (meaning_in g.C.Tx) c.args.self.now.list.items c.args.trib ∙ rw at refl)
+    fed_one c.args.self.now c.args.path c.args.clock.now (g.F.Feed.inputs c.args.feed.now) c.args.trib c.index_mut.result.now at c.requires.fed
 
 pub arrive-requires-clause-placed : goal.arrive-requires-clause-placed
 arrive-requires-clause-placed g c =
@@ -81,12 +74,14 @@ returns-clause-ok g c =
     let was : placed w plan (f i) (read_to s c.args.path plan n t i) = subst P (upto_here f h i) (c.requires.placed i w at) in
     let Q : ℕ → Type 0 = λ v. placed w' plan v (read_to s c.args.path plan n t i) in
     let R : ℕ → Type 0 = λ v. Gains (meaning_in g.C.Tx w) plan (held w) (held w') (f i) v (read_to s c.args.path plan n t i) (g.F.Feed.inputs c.args.feed.now) (g.F.Feed.inputs c.arrive.new.feed) in
-    on_ok_three c.arrive.result c.arrive.ensures.placed c.arrive.ensures.gains c.arrive.ensures.free
-    (λ place gains free.
+    on_ok_weaker c.arrive.result
+    (λ took.
+    let one = took (f i) _ was in
     advance_one placed held (meaning_in g.C.Tx) plan ws i w w' f h _ _ _ _ c.args.self.now.disjoint at (length-set ws i w') c.requires.placed
-    (subst Q step (place (f i) _ was)) (subst R step (gains (f i) _ was))
+    (subst Q step one.placed) (subst R step one.gains)
     (λ size fit. arrival_same s c.args.path plan (map (meaning_in g.C.Tx) ws) size n t i (length w.store) (g.C.Tx.meaning w.child) is
-    (slice_get-map (meaning_in g.C.Tx) ws i ∙ rw at refl) was.count ∙ free (f i) _ was size fit))
+    (slice_get-map (meaning_in g.C.Tx) ws i ∙ rw at refl) was.count ∙ one.free size fit))
+    c.arrive.ensures.ok
 
 pub returns-clause-err : goal.returns-clause-err
 returns-clause-err g c =
@@ -110,23 +105,25 @@ returns-clause-err g c =
     let step : suc (f i) ≡ h i = came_arrives s (counts i) n t g.met.S.Shape.is_frame share.fits is in
     let P : ℕ → Type 0 = λ v. placed w plan v (read_to s c.args.path plan n t i) in
     let was : placed w plan (f i) (read_to s c.args.path plan n t i) = subst P (upto_here f h i) (c.requires.placed i w at) in
-    if_err_two c.arrive.result _ _ _ c.arrive.ensures.halts c.arrive.ensures.met
-    (λ stop halts met.
+    IfErr-weaker c.arrive.result _ _
+    (λ stop stops.
+    let one = stops (f i) _ was in
     let R : ℕ → Type 0 = λ v. Halts (meaning_in g.C.Tx w) plan (f i) v stop (g.F.Feed.inputs c.args.feed.now) (g.F.Feed.inputs c.arrive.new.feed) in
     blocked_one placed held (meaning_in g.C.Tx) plan ws i w f h _ _ stop _ _ _ _ c.args.self.now.disjoint at (λ v n k. g.met.C.Tx.grows v.child plan n k) (λ j. came_before_grows s (counts j) n t g.met.S.Shape.is_frame)
-    (subst R step (halts (f i) _ was)) (met (f i) _ was)
+    (subst R step one.halts) one.met
     (λ size. arrival_same s c.args.path plan (map (meaning_in g.C.Tx) ws) size n t i (length w.store) (g.C.Tx.meaning w.child) is
     (slice_get-map (meaning_in g.C.Tx) ws i ∙ rw at refl) was.count))
+    c.arrive.ensures.err
 
 pub returns-clause-same : goal.returns-clause-same
-returns-clause-same g c = map-set_same (meaning_in g.C.Tx) c.args.self.now.list.items c.args.trib c.arrive.new.self c.index_mut.result.now (c.arrive.ensures.same ∙ ap (meaning_in g.C.Tx) c.index_mut.ensures.value)
+returns-clause-same g c = map-set_same (meaning_in g.C.Tx) c.args.self.now.list.items c.args.trib c.arrive.new.self c.index_mut.result.now (c.arrive.ensures.kept.same ∙ ap (meaning_in g.C.Tx) c.index_mut.ensures.value)
 
 pub returns-clause-shares : goal.returns-clause-shares
-returns-clause-shares g c = map-set_same share_in c.args.self.now.list.items c.args.trib c.arrive.new.self c.index_mut.result.now (c.arrive.ensures.share ∙ ap share_in c.index_mut.ensures.value)
+returns-clause-shares g c = map-set_same share_in c.args.self.now.list.items c.args.trib c.arrive.new.self c.index_mut.result.now (c.arrive.ensures.kept.share ∙ ap share_in c.index_mut.ensures.value)
 
 pub invariant_of-self-clause-count : goal.invariant_of-self-clause-count
 invariant_of-self-clause-count g c = length-set c.args.self.now.list.items c.args.trib c.arrive.new.self ∙ c.args.self.now.count
 
 pub invariant_of-self-clause-disjoint : goal.invariant_of-self-clause-disjoint
 invariant_of-self-clause-disjoint g c =
-    subst IsDisjoint (sym (map-set_same (meaning_in g.C.Tx) c.args.self.now.list.items c.args.trib c.arrive.new.self c.index_mut.result.now (c.arrive.ensures.same ∙ ap (meaning_in g.C.Tx) c.index_mut.ensures.value))) c.args.self.now.disjoint
+    subst IsDisjoint (sym (map-set_same (meaning_in g.C.Tx) c.args.self.now.list.items c.args.trib c.arrive.new.self c.index_mut.result.now (c.arrive.ensures.kept.same ∙ ap (meaning_in g.C.Tx) c.index_mut.ensures.value))) c.args.self.now.disjoint

@@ -60,8 +60,8 @@ loop-trib-preserved g c =
     (λ size. flat_map (f size) (range_with_len 0 k)) (g.F.Feed.inputs c.args.feed.now) (g.F.Feed.inputs c.take_arrival.new.feed) in
     record {
       advance = subst Q e (loop_step placed held (meaning_in g.C.Tx) plan ms _ _ _ (came_to s c.args.path plan n t 0) (came_to s c.args.path plan n t i) (came_to s c.args.path plan n t (suc i)) _ f i _ _ _ inv.advance (subst P inv.same ok.ok));
-      unfailed = ok.unfailed ∙ inv.unfailed;
-      fed = g.met.F.Feed.fed_join _ _ _ inv.fed ok.fed;
+      unfailed = ok.fed.unfailed ∙ inv.unfailed;
+      fed = g.met.F.Feed.fed_join _ _ _ inv.fed ok.fed.fed;
       same = ok.same ∙ inv.same;
       shares = ok.shares ∙ inv.shares;
     }

@@ -4,22 +4,21 @@ use Rattle.pdh_tx.specs.Held.{Placed, Held, Gains}
 use Rattle.pdh_tx.proofs.TributarySteps.{arrival_gains, arrival_free, arrival_placed}
 use Rattle.pdh_tx.proofs.tributary.Tributary.arrive.Goals as goal
 
-pub returns-in-Ok-clause-placed : goal.returns-in-Ok-clause-placed
-returns-in-Ok-clause-placed g c made read was =
-    let P : List Bool → Type 0 = λ store. Placed g.C.Tx.stands_at g.C.Tx.says g.C.Tx.is_stopped c.next.new.self store (plan_of c.args.clock.now) (suc made) read in
-    subst P (sym c.in-Ok.ensures.ok) (arrival_placed g.C.Tx.stands_at g.C.Tx.stands_for g.C.Tx.meaning g.C.Tx.says g.C.Tx.is_stopped c.args.self.now.child c.next.new.self _ c.in_ok-bit.bit
-    c.args.self.now.store made read _ _ c.in_ok-bit.ensures.same_says c.in_ok-bit.ensures.running was (c.in_ok-bit.ensures.made made was.place))
-
-pub returns-in-Ok-clause-gains : goal.returns-in-Ok-clause-gains
-returns-in-Ok-clause-gains g c made read was =
-    let held : g.row.C.Denot → List Bool → _ = Held g.C.Tx.stands_for g.C.Tx.meaning in
-    let P : List Bool → Type 0 = λ store.
-    Gains (g.C.Tx.meaning c.args.self.now.child) (plan_of c.args.clock.now) (held c.args.self.now.child c.args.self.now.store) (held c.next.new.self store)
-    made (suc made) read (g.F.Feed.inputs c.args.feed.now) (g.F.Feed.inputs c.next.new.feed) in
-    subst P (sym c.in-Ok.ensures.ok) (arrival_gains g.C.Tx.stands_at g.C.Tx.stands_for g.C.Tx.meaning g.C.Tx.says g.C.Tx.is_stopped c.args.self.now.child c.next.new.self _ c.in_ok-bit.bit
-    c.args.self.now.store made read _ _ c.in_ok-bit.ensures.same was (c.in_ok-bit.ensures.made made was.place))
-
-pub returns-in-Ok-clause-free : goal.returns-in-Ok-clause-free
-returns-in-Ok-clause-free g c made read was size fits =
-    arrival_free g.C.Tx.stands_at g.C.Tx.stands_for g.C.Tx.meaning g.C.Tx.says g.C.Tx.is_stopped c.args.self.now.child c.next.new.self _ c.args.place _ c.in_ok-bit.bit c.args.self.now.store made _ _ size
-    c.in-Ok.ensures.room (c.in_ok-bit.ensures.made made was.place) fits
+pub returns-in-Ok-clause-ok : goal.returns-in-Ok-clause-ok
+returns-in-Ok-clause-ok g c made read was =
+    let tx = g.C.Tx in
+    let old = c.args.self.now.child in
+    let new = c.next.new.self in
+    let store : List Bool = c.args.self.now.store in
+    let plan = plan_of c.args.clock.now in
+    let bit = c.in_ok-bit.bit in
+    let ok = c.in_ok-bit.ensures in
+    let makes = ok.made made was.place in
+    let held : g.row.C.Denot → List Bool → _ = Held tx.stands_for tx.meaning in
+    let P : List Bool → Type 0 = λ now. Placed tx.stands_at tx.says tx.is_stopped new now plan (suc made) read in
+    let Q : List Bool → Type 0 = λ now. Gains (tx.meaning old) plan (held old store) (held new now) made (suc made) read (g.F.Feed.inputs c.args.feed.now) (g.F.Feed.inputs c.next.new.feed) in
+    record {
+      placed = subst P (sym c.in-Ok.ensures.ok) (arrival_placed tx.stands_at tx.stands_for tx.meaning tx.says tx.is_stopped old new _ bit store made read _ _ ok.kept.same_says ok.stopped was makes);
+      gains = subst Q (sym c.in-Ok.ensures.ok) (arrival_gains tx.stands_at tx.stands_for tx.meaning tx.says tx.is_stopped old new _ bit store made read _ _ ok.kept.same was makes);
+      free = λ size fits. arrival_free tx.stands_at tx.stands_for tx.meaning tx.says tx.is_stopped old new _ c.args.place _ bit store made _ _ size c.in-Ok.ensures.room makes fits;
+    }

@@ -16,33 +16,24 @@ loop-taken-init g c = record {
   share = refl;
 }
 
-pub returns-in_err-arrive-clause-halts : goal.returns-in_err-arrive-clause-halts
-returns-in_err-arrive-clause-halts g c =
+pub returns-in_err-arrive-clause-err : goal.returns-in_err-arrive-clause-err
+returns-in_err-arrive-clause-err g c =
     let inv = c.loop-taken.invariant in
     let i : ℕ = c.loop-taken._taken in
     let plan = plan_of c.args.clock.now in
     let m : Meaning = g.C.Tx.meaning c.args.self.now.child in
-    let P : Meaning → Type 0 = λ v. Halts v plan i (suc i) c.in_err-arrive.field-0.0 (g.F.Feed.inputs c.loop-taken.feed) (g.F.Feed.inputs c.arrive.new.feed) in
-    let e : c.from_residual.result ≡ Err c.in_err-arrive.field-0.0 = search rules in
-    if_err_from c.from_residual.result _ c.in_err-arrive.field-0.0 e
-    (halts_more m plan 0 (suc i) 24 _ _ _ (λ n k. g.met.C.Tx.grows c.args.self.now.child plan n k) (omega arith)
-    (halts_join m plan _ _ 0 i (suc i) 0 _ _ _ _ inv.gains (subst P inv.same (c.in_err-arrive.ensures.halts i 0 inv.placed))))
-
-pub returns-in_err-arrive-clause-met : goal.returns-in_err-arrive-clause-met
-returns-in_err-arrive-clause-met g c =
-    let inv = c.loop-taken.invariant in
-    let i : ℕ = c.loop-taken._taken in
-    let plan = plan_of c.args.clock.now in
-    let m : Meaning = g.C.Tx.meaning c.args.self.now.child in
-    let e : c.from_residual.result ≡ Err c.in_err-arrive.field-0.0 = search rules in
+    let stop = c.in_err-arrive.field-0.0 in
+    let stops = c.in_err-arrive.ensures.err i 0 inv.placed in
+    let e : c.from_residual.result ≡ Err stop = search rules in
     let few : length c.loop-taken.self.store < 48 = (let n = inv.placed.count in omega arith) in
-    let P : Meaning → Type 0 = λ v.
-    Met (Fits v plan i (g.F.Feed.inputs c.loop-taken.feed)) (λ size. first_some (arrival v plan c.args.place size i (length c.loop-taken.self.store))) c.in_err-arrive.field-0.0
+    let P : Meaning → Type 0 = λ v. Halts v plan i (suc i) stop (g.F.Feed.inputs c.loop-taken.feed) (g.F.Feed.inputs c.arrive.new.feed) in
+    let Q : Meaning → Type 0 = λ v.
+    Met (Fits v plan i (g.F.Feed.inputs c.loop-taken.feed)) (λ size. first_some (arrival v plan c.args.place size i (length c.loop-taken.self.store))) stop
     (g.F.Feed.feed_faults c.loop-taken.feed) (g.F.Feed.feed_faults c.arrive.new.feed) in
-    if_err_from c.from_residual.result _ c.in_err-arrive.field-0.0 e
-    (lead_met m plan c.args.place _ _ i _ c.in_err-arrive.field-0.0 _ _ _ (omega arith) few inv.unfailed
-    (λ size fits. gains_fit m plan _ _ 0 i 0 _ _ size inv.gains fits) inv.free
-    (subst P inv.same (c.in_err-arrive.ensures.met i 0 inv.placed)))
+    if_err_from c.from_residual.result _ stop e (record {
+      halts = halts_more m plan 0 (suc i) 24 _ _ _ (λ n k. g.met.C.Tx.grows c.args.self.now.child plan n k) (omega arith) (halts_join m plan _ _ 0 i (suc i) 0 _ _ _ _ inv.gains (subst P inv.same stops.halts));
+      met = lead_met m plan c.args.place _ _ i _ stop _ _ _ (omega arith) few inv.unfailed (λ size fits. gains_fit m plan _ _ 0 i 0 _ _ size inv.gains fits) inv.free (subst Q inv.same stops.met);
+    })
 
 pub loop-taken-preserved : goal.loop-taken-preserved
 loop-taken-preserved g c =
@@ -52,23 +43,24 @@ loop-taken-preserved g c =
     let plan = plan_of c.args.clock.now in
     let m : Meaning = g.C.Tx.meaning c.args.self.now.child in
     let ok = c.in_ok-arrive.ensures in
+    let took = ok.ok i 0 inv.placed in
     let held : _ → _ → _ = Held g.C.Tx.stands_for g.C.Tx.meaning in
     let P : Meaning → Type 0 = λ v. Gains v plan (held c.loop-taken.self.child c.loop-taken.self.store) (held c.arrive.new.self.child c.arrive.new.self.store) i (suc i) 0 (g.F.Feed.inputs c.loop-taken.feed) (g.F.Feed.inputs c.arrive.new.feed) in
     let Q : ℕ → Type 0 = λ n. Gains m plan (held c.args.self.now.child c.args.self.now.store) (held c.arrive.new.self.child c.arrive.new.self.store) 0 n 0 (g.F.Feed.inputs c.args.feed.now) (g.F.Feed.inputs c.arrive.new.feed) in
     let R : ℕ → Type 0 = λ n. Placed g.C.Tx.stands_at g.C.Tx.says g.C.Tx.is_stopped c.arrive.new.self.child c.arrive.new.self.store plan n 0 in
     record {
-      placed = subst R e (ok.placed i 0 inv.placed);
-      gains = subst Q e (gains_join m plan _ _ _ 0 i (suc i) 0 _ _ _ inv.gains (subst P inv.same (ok.gains i 0 inv.placed)));
+      placed = subst R e took.placed;
+      gains = subst Q e (gains_join m plan _ _ _ 0 i (suc i) 0 _ _ _ inv.gains (subst P inv.same took.gains));
       free = λ size fits k h. elim (cases_lt k i) [
         | inl before ↦ inv.free size fits k before
         | inr here ↦
             let same : i ≡ k = omega arith in
-            let now : (g.C.Tx.meaning c.loop-taken.self.child).obstacle plan size i ≡ None = arrival_none (g.C.Tx.meaning c.loop-taken.self.child) plan c.args.place size i (length c.loop-taken.self.store) (ok.free i 0 inv.placed size
+            let now : (g.C.Tx.meaning c.loop-taken.self.child).obstacle plan size i ≡ None = arrival_none (g.C.Tx.meaning c.loop-taken.self.child) plan c.args.place size i (length c.loop-taken.self.store) (took.free size
             (let S : Meaning → Type 0 = λ v. Fits v plan i (g.F.Feed.inputs c.loop-taken.feed) size in subst S (sym inv.same) (gains_fit m plan _ _ 0 i 0 _ _ size inv.gains fits))) in
             ap (m.obstacle plan size) (sym same) ∙ ap (λ v. v.obstacle plan size i) (sym inv.same) ∙ now
       ];
-      unfailed = ok.unfailed ∙ inv.unfailed;
-      fed = g.met.F.Feed.fed_join _ _ _ inv.fed ok.fed;
-      same = ok.same ∙ inv.same;
-      share = ok.share ∙ inv.share;
+      unfailed = ok.fed.unfailed ∙ inv.unfailed;
+      fed = g.met.F.Feed.fed_join _ _ _ inv.fed ok.fed.fed;
+      same = ok.kept.same ∙ inv.same;
+      share = ok.kept.share ∙ inv.share;
     }

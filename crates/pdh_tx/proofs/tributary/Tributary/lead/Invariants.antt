@@ -1,4 +1,4 @@
-use Rattle.std.proofs.Common.{◌≡◌, ◌<◌, ◌≤◌, ℕ, None}
+use Rattle.std.proofs.Common.{◌≡◌, ◌<◌, ℕ, None}
 use Rattle.pdh_tx.specs.Meaning.{plan_of, Fits}
 use Rattle.pdh_tx.specs.Held.{Placed, Held, Gains}
 use Rattle.pdh_tx.proofs.tributary.Tributary.lead.Given as goal

@@ -1,0 +1,157 @@
+-- What the calls of this crate want of a port and leave of it, in words that their contracts share. `feeds` and `drains` are what
+-- is told of the port's kind as a feed and as an output, `old` and `new` the port before and after the call.
+use Rattle.std.specs.Prelude.{◌≡◌, ℕ, ◌+◌, ◌^◌, ◌<◌, ◌≤◌, Bool, false, List, length, Option, Result, OnOk, IsErrOf, IsTrue}
+use Rattle.pdh_edge.specs.declared.port.Feed as feed
+use Rattle.pdh_edge.specs.declared.port.Drain as drain
+use Rattle.pdh_edge.specs.MemLists.{bits_held}
+use Rattle.pdh_edge.specs.Ports.{Inputs, Outputs}
+use Rattle.pdh_shape.specs.declared.role.Service.{Service}
+use Rattle.pdh_shape.specs.declared.place.Level.{Level}
+use Rattle.pdh_shape.specs.Frame.{FrameShape}
+use Rattle.pdh_nesting.specs.Chains.{width}
+use Rattle.pdh_levels.specs.Levels.{AreLevels}
+use Rattle.pdh_clock.specs.Contents.{Contents, frame_count, counts}
+use Rattle.pdh_watch.specs.declared.event.Event.{Event}
+use Rattle.pdh_tx.specs.declared.tx.Tx as tx
+use Rattle.pdh_tx.specs.declared.tx.TxStop.{TxStop}
+use Rattle.pdh_tx.specs.Meaning.{plan_of, Meaning}
+use Rattle.pdh_tx.specs.Calls.{IsFed}
+use Rattle.pdh_rx.specs.Meaning.{Meaning as Receiving, HoldsAll}
+use Rattle.pdh_chain.specs.Trees.{AreLevelsOf}
+use Rattle.pdh_chain.specs.Saying.{says_of}
+use Rattle.pdh_chain.specs.Muxing.{HasFrames, SayInFrames, IsFree, MakesBits, StopsMaking, Sends, IsSendStop, IsCallStop}
+use Rattle.pdh_chain.specs.Demuxing.{Receives, IsReceiveStop}
+use Rattle.pdh_chain.specs.Muxes.{Muxes, IsMuxStop}
+use Rattle.pdh_chain.specs.Demuxes.{Demuxes, IsDemuxStop, IsDemuxLeft}
+use Rattle.pdh_chain.specs.declared.sending.SendStop.{SendStop}
+use Rattle.pdh_chain.specs.declared.clear_sending.CallStop.{CallStop}
+use Rattle.pdh_chain.specs.declared.stop.MuxStop.{MuxStop}
+use Rattle.pdh_chain.specs.declared.stop.DemuxStop.{DemuxStop}
+use Rattle.pdh_chain.specs.declared.stop.DemuxStop.TheVariants.{ReadFailed}
+
+-- ---- whole chains
+
+-- The port is fresh. On one side it has a list for each leaf, and on the other list 0, which is the line's: `leaf_lists` and
+-- `lines` tell which lists there are on each.
+pub record IsPortFor (fresh : Type 0) (leaves : ℕ) (leaf_lists lines : ℕ → Bool) : Type 0 where
+  pub is_fresh : fresh
+  pub has_leaves : (k : ℕ) → k < leaves → IsTrue (leaf_lists k)
+  pub has_line : IsTrue (lines 0)
+
+-- a chain with these frames has at most three levels, and numbers for its leaves
+pub record AreFew (shapes : List FrameShape) : Type 0 where
+  pub depth : length shapes ≤ 3
+  pub numbered : width shapes < 2 ^ 32
+
+-- such a chain, whose nodes are of the kind of their frames, has these levels, and the schedule is one of it
+pub record IsChainOf (shapes : List FrameShape) (fits : Type 0) (levels : List Level) (schedule : Contents) : Type 0 where
+  pub sound : AreLevels levels
+  pub same : schedule.levels ≡ levels
+  pub few : AreFew shapes
+  pub kinds : fits
+  pub levels_are : AreLevelsOf shapes schedule.levels
+
+-- so many frames of the chain's line were made by this schedule and put, with this code in them
+abbrev pub MuxesBy : {P : Type 0} → feed.Ghosts P → drain.Ghosts P → List FrameShape → Contents → Option ℕ → ℕ → P → P → Type 0
+MuxesBy feeds drains shapes schedule feac frames old new =
+    Muxes shapes (counts schedule.rows) (says_of feac) (frame_count schedule.rows) frames (feeds.inputs old) (feeds.inputs new) (drains.outputs old) (drains.outputs new)
+
+-- or this is why they weren't
+abbrev pub MuxStopsBy : {P : Type 0} → feed.Ghosts P → drain.Ghosts P → List FrameShape → Contents → Option ℕ → ℕ → P → P → MuxStop → Type 0
+MuxStopsBy feeds drains shapes schedule feac frames old new =
+    IsMuxStop shapes (counts schedule.rows) (says_of feac) (frame_count schedule.rows) frames (feeds.inputs old) (feeds.inputs new) (drains.outputs old) (drains.outputs new)
+    (feeds.feed_faults old) (feeds.feed_faults new) (drains.drain_faults old) (drains.drain_faults new)
+
+-- so many bits of a chain's line were taken apart, of which these frames were delivered, and their events seen
+abbrev pub DemuxesBy : {P : Type 0} → feed.Ghosts P → drain.Ghosts P → List FrameShape → (List Event → Type 0) → ℕ → P → P → ℕ → Type 0
+DemuxesBy feeds drains shapes sees bits old new frames = Demuxes shapes sees bits frames (feeds.inputs old) (feeds.inputs new) (drains.outputs old) (drains.outputs new)
+
+-- or this is why they weren't
+abbrev pub DemuxStopsBy : {P : Type 0} → feed.Ghosts P → drain.Ghosts P → List FrameShape → (List Event → Type 0) → ℕ → P → P → DemuxStop → Type 0
+DemuxStopsBy feeds drains shapes sees bits old new =
+    IsDemuxStop shapes sees bits (feeds.inputs old) (feeds.inputs new) (drains.outputs old) (drains.outputs new)
+    (feeds.feed_faults old) (feeds.feed_faults new) (drains.drain_faults old) (drains.drain_faults new)
+
+-- how `demux` leaves its port: fresh, ready or refused, and where a read failed, with no call since
+pub record IsLeft (fresh ready refused unread : Type 0) (result : Result ℕ DemuxStop) : Type 0 where
+  pub ready_is : IsDemuxLeft fresh ready refused result
+  pub unread_is : IsErrOf result ReadFailed → unread
+
+-- whatever a call took of its lists and put to them by this, no list took more than so many bits
+abbrev pub PutsAtMost : (Inputs → Inputs → Outputs → Outputs → Type 0) → ℕ → Type 0
+PutsAtMost call most =
+    (inputs inputs_now : Inputs) (outputs outputs_now : Outputs) → call inputs inputs_now outputs outputs_now
+    → (k : ℕ) → bits_held outputs_now k ≤ bits_held outputs k + most
+
+-- ---- senders
+
+-- the sender runs, has made no bit by this schedule, and its frames have so many bits
+pub record IsAtStart {T : Type 0} (sender : tx.Ghosts T) (t : T) (schedule : Contents) (len : ℕ) : Type 0 where
+  pub running : sender.is_stopped t ≡ false
+  pub stands : sender.stands_at t (plan_of schedule) 0
+  pub frames : HasFrames (sender.meaning t) len
+
+-- each leaf has a list, as the line has, and the nodes are nodes of this schedule's chain
+pub record IsLinked (m : Meaning) (schedule : Contents) (inputs : Inputs) (outputs : Outputs) : Type 0 where
+  pub fed : IsFed m schedule inputs
+  pub line : IsTrue (outputs.holds 0)
+
+-- after a call the sender means the same, and runs still where the call made what it was asked for
+pub record RunsOn {T X E : Type 0} (sender : tx.Ghosts T) (old new : T) (result : Result X E) : Type 0 where
+  pub same : sender.meaning new ≡ sender.meaning old
+  pub running : OnOk result (sender.is_stopped new ≡ false)
+
+-- the port's failed reads and failed writes were counted
+pub record HasCounted (reads reads_now writes writes_now : ℕ) : Type 0 where
+  pub reads_are : reads_now ≡ reads
+  pub writes_are : writes_now ≡ writes
+
+-- it made the bits of a frame, so many, whatever its frames say, as long as the one that they begin says what it says now
+abbrev pub MakesFrame : {T : Type 0} → tx.Ghosts T → T → T → Contents → ℕ → List Bool → Inputs → Inputs → Type 0
+MakesFrame sender old new schedule len bits before after =
+    (x : ℕ) (says : ℕ → Service) → sender.stands_at old (plan_of schedule) x → SayInFrames (sender.meaning old) says (sender.says old) x (x + len)
+    → MakesBits (sender.meaning old) says (sender.stands_at new (plan_of schedule)) (sender.stands_for old) (sender.stands_for new) (plan_of schedule) x (x + len) bits before after
+
+-- or it stopped on the way
+abbrev pub StopsInFrame : {T : Type 0} → tx.Ghosts T → T → Contents → ℕ → TxStop → Inputs → Inputs → ℕ → ℕ → Type 0
+StopsInFrame sender t schedule len stop before after faults now =
+    (x : ℕ) → sender.stands_at t (plan_of schedule) x → StopsMaking (sender.meaning t) (plan_of schedule) x (x + len) stop before after faults now
+
+-- nothing stands in the way of its first bits, so many
+abbrev pub StartsFree : {T : Type 0} → tx.Ghosts T → T → Contents → ℕ → Inputs → Type 0
+StartsFree sender t schedule = IsFree (sender.meaning t) (plan_of schedule) 0
+
+-- its first bits, so many, were sent, with this code in its frames
+abbrev pub SendsBy : {T P : Type 0} → tx.Ghosts T → feed.Ghosts P → drain.Ghosts P → T → T → Contents → Option ℕ → ℕ → P → P → Type 0
+SendsBy sender feeds drains t t_now schedule feac bits old new =
+    Sends (sender.meaning t) (says_of feac) (sender.stands_at t_now (plan_of schedule)) (sender.stands_for t) (sender.stands_for t_now) (plan_of schedule) bits
+    (feeds.inputs old) (feeds.inputs new) (drains.outputs old) (drains.outputs new)
+
+-- or this is why they weren't, where frames of so many bits are made bit by bit
+abbrev pub SendStopsBy : {T P : Type 0} → tx.Ghosts T → feed.Ghosts P → drain.Ghosts P → T → Contents → Option ℕ → ℕ → ℕ → P → P → SendStop → Type 0
+SendStopsBy sender feeds drains t schedule feac len frames old new =
+    IsSendStop (sender.meaning t) (says_of feac) (sender.stands_for t) (plan_of schedule) len frames (feeds.inputs old) (feeds.inputs new) (drains.outputs old) (drains.outputs new)
+    (feeds.feed_faults old) (feeds.feed_faults new) (drains.drain_faults old) (drains.drain_faults new)
+
+-- and where they are made at once
+abbrev pub CallStopsBy : {T P : Type 0} → tx.Ghosts T → feed.Ghosts P → drain.Ghosts P → T → Contents → Option ℕ → ℕ → ℕ → P → P → CallStop → Type 0
+CallStopsBy sender feeds drains t schedule feac len frames old new =
+    IsCallStop (sender.meaning t) (says_of feac) (sender.stands_for t) (plan_of schedule) len frames (feeds.inputs old) (feeds.inputs new) (drains.outputs old) (drains.outputs new)
+    (feeds.feed_faults old) (feeds.feed_faults new) (drains.drain_faults old) (drains.drain_faults new)
+
+-- ---- receivers
+
+-- each leaf has a list to put to, and the line one to take of
+pub record IsLinkedTo (m : Receiving) (inputs : Inputs) (outputs : Outputs) : Type 0 where
+  pub lists : HoldsAll m.leaves outputs
+  pub line : IsTrue (inputs.holds 0)
+
+-- a receiver got so many bits of the line, and their events were seen; `stands` tells for which bits it stands
+abbrev pub ReceivesBy : {P : Type 0} → feed.Ghosts P → drain.Ghosts P → Receiving → (List Bool → Type 0) → (List Event → Type 0) → ℕ → P → P → Type 0
+ReceivesBy feeds drains m stands sees bits old new = Receives m stands sees bits (feeds.inputs old) (feeds.inputs new) (drains.outputs old) (drains.outputs new)
+
+-- or this is why it didn't get them
+abbrev pub ReceiveStopsBy : {P : Type 0} → feed.Ghosts P → drain.Ghosts P → Receiving → (List Event → Type 0) → ℕ → P → P → DemuxStop → Type 0
+ReceiveStopsBy feeds drains m sees bits old new =
+    IsReceiveStop m sees bits (feeds.inputs old) (feeds.inputs new) (drains.outputs old) (drains.outputs new)
+    (feeds.feed_faults old) (feeds.feed_faults new) (drains.drain_faults old) (drains.drain_faults new)

@@ -1,0 +1,89 @@
+//! Tributaries without stores, as the body of a multiplexer.
+
+ghost use Rattle.pdh_locked.specs.Children.{meanings as meanings_of, locked_kind, StandBefore, StandThrough, HoldsTo};
+ghost use Rattle.pdh_locked.specs.laws.LockedLaws.{locked_grows, locked_is_kind, locked_next, locked_holds, locked_count};
+ghost use Rattle.pdh_tx.specs.laws.StoredLaws.{stored_long};
+
+use crate::beginning::begin;
+use crate::children::Children;
+use pdh_clock::Schedule;
+use pdh_edge::{Failed, Feed};
+use pdh_packed::Packed;
+use pdh_shape::{Path, Service, Shape};
+use pdh_tx::{Body, Piece, Tx, TxStop, carried, overhead_of, write_overhead};
+
+impl<S: Shape, C: Tx> Body<S> for Children<S, C> {
+    ghost kind = { locked_kind S.shape };
+
+    ghost meanings = { λ b. meanings_of b };
+
+    ghost stands = { λ b. StandBefore b };
+
+    ghost stood = { λ b. StandThrough b };
+
+    ghost holds = { λ b. HoldsTo b };
+
+    ghost held = { λ b. HoldsTo b };
+
+    fn bit<F: Feed>(
+        &mut self,
+        path: Path,
+        frame: u64,
+        slot: u32,
+        say: &Service,
+        odd: bool,
+        clock: &Schedule,
+        feed: &mut F,
+    ) -> Result<bool, TxStop> {
+        begin(path, frame, slot, clock)?;
+        match carried::<S, ()>(slot, &()) {
+            Some(trib) => self.read(trib, clock, feed),
+            None => Ok(overhead_of::<S, ()>(slot, say, odd, &())),
+        }
+    }
+
+    fn piece<F: Feed>(
+        &mut self,
+        at: Piece,
+        say: &Service,
+        odd: bool,
+        clock: &Schedule,
+        feed: &mut F,
+        into: &mut Packed,
+    ) -> Result<bool, Failed> {
+        match begin(at.path, at.frame, at.slot, clock) {
+            Ok(()) => {
+                write_overhead::<S, ()>(
+                    &self.layout,
+                    at,
+                    say,
+                    odd,
+                    &(),
+                    &mut self.scratch.overhead,
+                );
+                self.fill_all(at.frame, at.slot, at.len, clock, feed)?;
+                Ok(
+                    self.layout.assemble(
+                        at.slot,
+                        at.len,
+                        &self.scratch.overhead,
+                        &self.scratch.columns,
+                        &mut self.scratch.payload,
+                        into,
+                    ),
+                )
+            }
+            Err(_stop) => unreachable!(),
+        }
+    }
+
+    ghost is_kind = { λ b. locked_is_kind S.shape S.has_tributaries b.locked };
+
+    ghost count = { λ b. locked_count C.Tx.own S.shape b.list.items S.TRIBS S.tribs_is b.count };
+
+    ghost stands_next = { λ b path plan n t n' t'. locked_next C.Tx.own S.shape S.has_tributaries path plan b.list.items (stored_long b.list.items S.shape.tribs S.TRIBS S.tribs_is b.count) n t n' t' };
+
+    ghost holds_next = { λ b path plan supply n t n' t' follows. locked_holds C.Tx.own S.shape S.has_tributaries path plan b.list.items (stored_long b.list.items S.shape.tribs S.TRIBS S.tribs_is b.count) n t n' t' follows supply };
+
+    ghost grows = { λ b path. locked_grows C.Tx.own C.grows S.shape S.is_frame S.has_tributaries b.locked path b.list.items };
+}

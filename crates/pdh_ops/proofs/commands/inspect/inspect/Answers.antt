@@ -1,0 +1,23 @@
+use Rattle.std.proofs.Common.{◌∙◌}
+use Rattle.pdh_answers.specs.Names.{line_file}
+use Rattle.pdh_ops.specs.Commands.Inspect.{inspected, inspecting}
+use Rattle.pdh_ops.proofs.LineStops.{line_refuses}
+use Rattle.pdh_ops.proofs.Refusing.{refuses_performs}
+use Rattle.pdh_ops.proofs.InspectFiles.{inspect_begins}
+use Rattle.pdh_ops.proofs.commands.inspect.inspect.Goals as goal
+
+pub run_over-requires : goal.run_over-requires
+run_over-requires g c = (c.in-Ok.ensures.file ∙ c.of_line.ensures, c.in-Ok.ensures.ok)
+
+pub returns-in-Ok-clause-performs : goal.returns-in-Ok-clause-performs
+returns-in-Ok-clause-performs g c = c.run_over.ensures.performs _ c.line_of.ensures.looks c.in-Ok.ensures.counted
+
+pub returns-in-Ok-clause-watches : goal.returns-in-Ok-clause-watches
+returns-in-Ok-clause-watches g c = c.run_over.ensures.watches _ c.line_of.ensures.looks c.in-Ok.ensures.counted
+
+pub returns-in-Err-clause-performs : goal.returns-in-Err-clause-performs
+returns-in-Err-clause-performs g c =
+    let stop = c.in-Err.ensures in
+    rw (c.new.ensures.back, c.new.ensures.answer)
+    (refuses_performs (inspecting c.args.chain c.args.bits) _ _ _ c.line_of.ensures.looks
+    (line_refuses (line_file c.args.bits) c.args.chain (inspecting c.args.chain c.args.bits) (inspected c.args.chain) _ _ _ (inspect_begins c.args.chain c.args.bits) (rw c.of_line.ensures at stop.err)) stop.counted)

@@ -1,0 +1,7 @@
+use Rattle.pdh_ops.proofs.commands.show.show.Goals as goal
+
+pub returns-in-Ok-clause-performs : goal.returns-in-Ok-clause-performs
+returns-in-Ok-clause-performs g c = c.run_over.ensures.performs _ c.judge.ensures.looks c.in-Ok.ensures.counted
+
+pub returns-in-Ok-clause-watches : goal.returns-in-Ok-clause-watches
+returns-in-Ok-clause-watches g c = c.run_over.ensures.watches _ c.judge.ensures.looks c.in-Ok.ensures.counted

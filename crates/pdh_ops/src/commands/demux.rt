@@ -1,0 +1,122 @@
+//! `demux`: a line's file to a file for each leaf.
+
+ghost use Rattle.std.specs.Prelude.{◌≡◌, ◌∷◌, [], ℕ, map, IfOk};
+ghost use Rattle.pdh_edge.specs.Files.{ShelfState};
+ghost use Rattle.pdh_blocks.specs.State.{over};
+ghost use Rattle.pdh_blocks.specs.Kept.{Keeps};
+ghost use Rattle.pdh_chain.specs.Chains.{leaves_of};
+ghost use Rattle.pdh_answers.specs.Names.{line_file};
+ghost use Rattle.pdh_ops.specs.Commands.Demux.{demux_says, demuxing};
+ghost use Rattle.pdh_ops.specs.Run.{Performs, IsWatched};
+ghost use Rattle.pdh_ops.specs.Running.{ComesOut, IsCountedBy};
+ghost use Rattle.pdh_ops.specs.Steps.{IsLine, AreLeafOutputs, CanReceive, IsDemuxPort};
+
+use crate::leaf::leaf_count;
+use crate::line::line_of;
+use crate::port::{Ended, Input, PortFiles};
+use crate::running::{Outcome, Work, Worked, run_over};
+use crate::texts::chain_counted;
+use pdh_answers::{Done, File, Stop};
+use pdh_blocks::ShelfPort;
+use pdh_chain::{Chain, DemuxStop};
+use pdh_edge::Shelf;
+use pdh_watch::{Monitor, Quiet};
+use pdh_words::Bits;
+use std::alloc::{AllocError, Global};
+
+// The line that is taken apart.
+#[derive(Drop)]
+struct DemuxPlan {
+    chain: Chain,
+    bits: Bits,
+    line: Input,
+}
+
+// The files of the port: the line, and what each leaf receives.
+fn port_files(alloc: Global, chain: Chain, line: Input) -> Result<PortFiles, AllocError>
+    ensures inputs { IfOk result (λ files. files.inputs.items ≡ line ∷ []) }
+    ensures outputs { IfOk result (λ files. AreLeafOutputs chain files.outputs.items) }
+{
+    let mut inputs = Vec::with_capacity(alloc, 1)?;
+    inputs.push(line)?;
+    let mut outputs = Vec::with_capacity(alloc, usize::from(leaf_count(chain)))?;
+    for leaf in 0..leaf_count(chain) {
+        outputs.push(File::Output(leaf))?;
+    }
+    Ok(PortFiles { inputs, outputs })
+}
+
+// What it says of so many frames.
+fn says(chain: Chain, frames: u64) -> Done
+    ensures { result ≡ demux_says chain frames }
+{
+    Done::Line(chain_counted("demux ", chain, ": frames ", frames))
+}
+
+impl DemuxPlan {
+    // Gives the receivers of the chain the line's bits.
+    fn receive<S: Shelf>(&self, alloc: Global, port: &mut ShelfPort<S>) -> Outcome
+        requires { CanReceive self.now.chain self.now.line.bits (over (S.state port.old.shelf) port.old.blocks) }
+        ensures kept { Keeps (over (S.state port.old.shelf) port.old.blocks) (over (S.state port.new.shelf) port.new.blocks) }
+        ensures counted { IsCountedBy (over (S.state port.new.shelf) port.new.blocks) result }
+        ensures comes { (begun : ShelfState) → IsDemuxPort self.now.chain self.now.bits self.now.line begun (over (S.state port.old.shelf) port.old.blocks)
+            → ComesOut (demuxing self.now.chain self.now.bits) begun (over (S.state port.old.shelf) port.old.blocks) (over (S.state port.new.shelf) port.new.blocks) result }
+    {
+        let bits = self.line.bits;
+        match pdh_chain::demux(alloc, self.chain, bits, port, &mut Quiet) {
+            Ok(frames) => {
+                if frames == 0 {
+                    return Outcome::Whole(Err(Stop::NoAlignment(bits)));
+                }
+                Outcome::Whole(Ok(says(self.chain, frames)))
+            }
+            Err(DemuxStop::Memory) => Outcome::Memory,
+            Err(DemuxStop::ReadFailed) => Outcome::Failed,
+            Err(DemuxStop::WriteFailed) => Outcome::Failed,
+            // The line has its bits.
+            Err(DemuxStop::Ended) => unreachable!(),
+        }
+    }
+}
+
+impl Work for DemuxPlan {
+    ghost operation = { λ p. demuxing p.chain p.bits };
+
+    ghost planned = { λ p state. (p.line.file ≡ line_file p.bits) × IsLine p.chain p.line state };
+
+    ghost opened = { λ p port. CanReceive p.chain p.line.bits port };
+
+    ghost gives = { λ p begun port. IsDemuxPort p.chain p.bits p.line begun port };
+
+    fn files(&self, alloc: Global) -> Result<PortFiles, AllocError> {
+        port_files(alloc, self.chain, self.line)
+    }
+
+    fn work<S: Shelf>(
+        &self,
+        alloc: Global,
+        mut port: ShelfPort<S>,
+        _monitors: &mut Vec<Box<dyn Monitor>>,
+    ) -> Worked<S> {
+        let outcome = self.receive(alloc, &mut port);
+        Worked { port, outcome }
+    }
+}
+
+/// Reads the line, writes each leaf's bits, and answers the number of frames that were delivered,
+/// or that none was.
+pub fn demux<S: Shelf>(
+    alloc: Global,
+    chain: Chain,
+    bits: Bits,
+    mut shelf: S,
+    monitors: &mut Vec<Box<dyn Monitor>>,
+) -> Ended<S>
+    ensures performs { Performs (demuxing chain bits) (S.state shelf) (S.state result.shelf) result.answer }
+    ensures watches { IsWatched (demuxing chain bits) (S.state shelf) (S.state result.shelf) result.answer (map ⟦<Box<dyn Monitor> as Monitor>⟧.state monitors.old.items) (map ⟦<Box<dyn Monitor> as Monitor>⟧.state monitors.new.items) }
+{
+    match line_of(chain, File::of_line(bits), &mut shelf) {
+        Ok(line) => run_over(alloc, &DemuxPlan { chain, bits, line }, shelf, monitors),
+        Err(stop) => Ended::new(shelf, Err(stop)),
+    }
+}

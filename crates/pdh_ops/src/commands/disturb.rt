@@ -1,0 +1,175 @@
+//! `disturb`: a line's file changed by a script.
+
+ghost use Rattle.std.specs.Prelude.{◌≡◌, ◌*◌, map, IfOk, IfErr, Ok};
+ghost use Rattle.pdh_edge.specs.Files.{ShelfState, Looks};
+ghost use Rattle.pdh_blocks.specs.State.{over};
+ghost use Rattle.pdh_blocks.specs.Kept.{Keeps};
+ghost use Rattle.pdh_script.specs.Scripts.{FitIn};
+ghost use Rattle.pdh_ops.specs.Commands.Disturb.{disturb_says, disturbing};
+ghost use Rattle.pdh_ops.specs.DisturbSteps.{HasSizes, ScriptIs, IsBendPlan, CanBend, IsBendPort};
+ghost use Rattle.pdh_ops.specs.Running.{ComesOut, IsCountedBy};
+ghost use Rattle.pdh_ops.specs.Refusing.{Refuses};
+ghost use Rattle.pdh_ops.specs.Run.{IsCounted, Performs, IsWatched};
+
+use crate::files::{read, size};
+use crate::port::{Ended, Input, PortFiles};
+use crate::running::{Outcome, Work, Worked, run_over};
+use crate::texts::chain_counted;
+use pdh_answers::{Done, File, Stop};
+use pdh_blocks::ShelfPort;
+use pdh_chain::{Chain, frame_bytes};
+use pdh_edge::Shelf;
+use pdh_packed::Packed;
+use pdh_script::{ApplyStop, MOST_SCRIPT_BYTES, Script};
+use pdh_shape::MOST_FRAMES;
+use pdh_watch::Monitor;
+use std::alloc::{AllocError, Global};
+
+// The sizes of the inputs, in bytes.
+#[derive(Clone, Copy)]
+struct Sizes {
+    line: u64,
+    script: u64,
+}
+
+// What a line is disturbed by, and how many bits the line has.
+#[derive(Drop)]
+struct Plan {
+    script: Script,
+    bits: u64,
+}
+
+// What is disturbed: the chain's line, by this plan.
+#[derive(Drop)]
+struct DisturbPlan {
+    chain: Chain,
+    plan: Plan,
+}
+
+// The sizes of the inputs, in order, if the line has no more frames than a line may have.
+fn read_sizes<S: Shelf>(chain: Chain, shelf: &mut S) -> Result<Sizes, Stop>
+    ensures looks { Looks (S.state shelf.old) (S.state shelf.new) }
+    ensures ok { IfOk result (λ sizes. HasSizes chain sizes (S.state shelf.new)) }
+    ensures err { IfErr result (Refuses (disturbing chain) (S.state shelf.old) (S.state shelf.new)) }
+    ensures counted { IsCounted (S.state shelf.old) (S.state shelf.new) result }
+{
+    let line = size(shelf, File::Line)?;
+    let script = size(shelf, File::Script)?;
+    let frames = line / u64::from(frame_bytes(chain));
+    if frames > MOST_FRAMES {
+        return Err(Stop::ManyFrames(frames));
+    }
+    Ok(Sizes { line, script })
+}
+
+// The script of its file.
+fn read_script<S: Shelf>(
+    alloc: Global,
+    chain: Chain,
+    shelf: &mut S,
+    sizes: Sizes,
+) -> Result<Script, Stop>
+    requires { HasSizes chain sizes (S.state shelf.old) }
+    ensures looks { Looks (S.state shelf.old) (S.state shelf.new) }
+    ensures rows { IfOk result (λ script. ScriptIs sizes.line (S.state shelf.old) (Ok script)) }
+    ensures fit { IfOk result (FitIn (8 * sizes.line)) }
+    ensures err { IfErr result (Refuses (disturbing chain) (S.state shelf.old) (S.state shelf.new)) }
+    ensures counted { IsCounted (S.state shelf.old) (S.state shelf.new) result }
+{
+    if sizes.script > MOST_SCRIPT_BYTES as u64 {
+        return Err(Stop::LongScript);
+    }
+    let text = read(alloc, shelf, File::Script, sizes.script)?;
+    Ok(Script::read(alloc, &text, 8 * sizes.line)?)
+}
+
+// What a line is disturbed by, where no step refuses the inputs: the script, and the line's bits.
+fn read_plan<S: Shelf>(alloc: Global, chain: Chain, shelf: &mut S) -> Result<Plan, Stop>
+    ensures looks { Looks (S.state shelf.old) (S.state shelf.new) }
+    ensures ok { IfOk result (λ plan. IsBendPlan chain plan (S.state shelf.new)) }
+    ensures err { IfErr result (Refuses (disturbing chain) (S.state shelf.old) (S.state shelf.new)) }
+    ensures counted { IsCounted (S.state shelf.old) (S.state shelf.new) result }
+{
+    let sizes = read_sizes(chain, shelf)?;
+    let script = read_script(alloc, chain, shelf, sizes)?;
+    Ok(Plan {
+        script,
+        bits: 8 * sizes.line,
+    })
+}
+
+// What it says of so many bits.
+fn says(chain: Chain, bits: u64) -> Done
+    ensures { result ≡ disturb_says chain bits }
+{
+    Done::Line(chain_counted("disturb ", chain, ": bits ", bits))
+}
+
+impl DisturbPlan {
+    // Puts the disturbed line to the port.
+    fn apply<S: Shelf>(&self, alloc: Global, port: &mut ShelfPort<S>) -> Outcome
+        requires { CanBend self.now.plan (over (S.state port.old.shelf) port.old.blocks) }
+        ensures kept { Keeps (over (S.state port.old.shelf) port.old.blocks) (over (S.state port.new.shelf) port.new.blocks) }
+        ensures counted { IsCountedBy (over (S.state port.new.shelf) port.new.blocks) result }
+        ensures comes { (begun : ShelfState) → IsBendPort self.now.chain self.now.plan.script begun (over (S.state port.old.shelf) port.old.blocks)
+            → ComesOut (disturbing self.now.chain) begun (over (S.state port.old.shelf) port.old.blocks) (over (S.state port.new.shelf) port.new.blocks) result }
+    {
+        let mut buffer = Packed::short(alloc);
+        let bits = self.plan.bits;
+        match self.plan.script.apply(bits, &mut buffer, port) {
+            Ok(()) => {
+                let bent = self.plan.script.bits_of(bits);
+                Outcome::Whole(Ok(says(self.chain, bent)))
+            }
+            Err(ApplyStop::ReadFailed) => Outcome::Failed,
+            Err(ApplyStop::WriteFailed) => Outcome::Failed,
+            // The line has its bits.
+            Err(ApplyStop::Ended) => unreachable!(),
+        }
+    }
+}
+
+impl Work for DisturbPlan {
+    ghost operation = { λ p. disturbing p.chain };
+
+    ghost planned = { λ p state. IsBendPlan p.chain p.plan state };
+
+    ghost opened = { λ p port. CanBend p.plan port };
+
+    ghost gives = { λ p begun port. IsBendPort p.chain p.plan.script begun port };
+
+    fn files(&self, alloc: Global) -> Result<PortFiles, AllocError> {
+        let line = Input {
+            file: File::Line,
+            bits: self.plan.bits,
+        };
+        PortFiles::line_to_line(alloc, line, File::Bent)
+    }
+
+    fn work<S: Shelf>(
+        &self,
+        alloc: Global,
+        mut port: ShelfPort<S>,
+        _monitors: &mut Vec<Box<dyn Monitor>>,
+    ) -> Worked<S> {
+        let outcome = self.apply(alloc, &mut port);
+        Worked { port, outcome }
+    }
+}
+
+/// Reads the line and the script, writes the disturbed line, and answers how many bits it has, of which the file holds the
+/// whole bytes.
+pub fn disturb<S: Shelf>(
+    alloc: Global,
+    chain: Chain,
+    mut shelf: S,
+    monitors: &mut Vec<Box<dyn Monitor>>,
+) -> Ended<S>
+    ensures performs { Performs (disturbing chain) (S.state shelf) (S.state result.shelf) result.answer }
+    ensures watches { IsWatched (disturbing chain) (S.state shelf) (S.state result.shelf) result.answer (map ⟦<Box<dyn Monitor> as Monitor>⟧.state monitors.old.items) (map ⟦<Box<dyn Monitor> as Monitor>⟧.state monitors.new.items) }
+{
+    match read_plan(alloc, chain, &mut shelf) {
+        Ok(plan) => run_over(alloc, &DisturbPlan { chain, plan }, shelf, monitors),
+        Err(stop) => Ended::new(shelf, Err(stop)),
+    }
+}

@@ -1,0 +1,170 @@
+//! `inspect`: the events of a line's file, shown to the monitors.
+
+ghost use Rattle.std.specs.Prelude.{◌≡◌, map};
+ghost use Rattle.pdh_answers.specs.Names.{line_file};
+ghost use Rattle.pdh_answers.specs.declared.file.File.TheVariants.{E1Line};
+ghost use Rattle.pdh_ops.specs.Commands.Inspect.{inspect_says, inspect_e1_says, inspecting, inspecting_e1, inspected, e1_inspected};
+ghost use Rattle.pdh_ops.specs.Run.{Performs, IsWatched};
+ghost use Rattle.pdh_ops.specs.Steps.{IsLine};
+ghost use Rattle.pdh_ops.specs.E1Steps.{IsFramedLine};
+ghost use Rattle.pdh_ops.specs.LineSteps.{CanRead, IsLinePort};
+
+use crate::commands::e1::framed_line;
+use crate::line::line_of;
+use crate::port::{Ended, Input, PortFiles};
+use crate::running::{Outcome, Work, Worked, run_over};
+use pdh_answers::{Done, File, Stop};
+use pdh_blocks::ShelfPort;
+use pdh_chain::Chain;
+use pdh_edge::Shelf;
+use pdh_inspect::{LineStop, inspect_framed, inspect_line};
+use pdh_watch::Monitor;
+use pdh_words::{Bits, Text};
+use std::alloc::{AllocError, Global};
+
+// The line that is inspected.
+#[derive(Drop)]
+struct InspectPlan {
+    chain: Chain,
+    bits: Bits,
+    line: Input,
+}
+
+// The framed line that is inspected.
+#[derive(Drop)]
+struct FramedPlan {
+    line: Input,
+}
+
+// The line of what an inspection of a chain's line found.
+#[tactic(auto, using(pdh_text::proofs::Lengths::digits))]
+fn says(chain: Chain, frames: u64, events: u64) -> Done
+    ensures { result ≡ inspect_says chain frames events }
+{
+    let mut text = Text::new();
+    text.text("inspect ");
+    text.text(chain.name());
+    text.text(": frames ");
+    text.number(frames);
+    text.text(" events ");
+    text.number(events);
+    text.text("\n");
+    Done::Watched(text)
+}
+
+// The line of what an inspection of a framed 2048 kbit/s line found.
+#[tactic(auto, using(pdh_text::proofs::Lengths::digits))]
+fn says_of_e1(multiframes: u64, events: u64) -> Done
+    ensures { result ≡ inspect_e1_says multiframes events }
+{
+    let mut text = Text::new();
+    text.text("inspect e1: multiframes ");
+    text.number(multiframes);
+    text.text(" events ");
+    text.number(events);
+    text.text("\n");
+    Done::Watched(text)
+}
+
+impl Work for InspectPlan {
+    ghost operation = { λ p. inspecting p.chain p.bits };
+
+    ghost planned = { λ p state. (p.line.file ≡ line_file p.bits) × IsLine p.chain p.line state };
+
+    ghost opened = { λ p port. CanRead p.line.bits port };
+
+    ghost gives = { λ p begun port. IsLinePort (inspecting p.chain p.bits) (line_file p.bits) (inspected p.chain) p.line begun port };
+
+    fn files(&self, alloc: Global) -> Result<PortFiles, AllocError> {
+        PortFiles::line(alloc, self.line)
+    }
+
+    fn work<S: Shelf>(
+        &self,
+        alloc: Global,
+        port: ShelfPort<S>,
+        monitors: &mut Vec<Box<dyn Monitor>>,
+    ) -> Worked<S> {
+        let seen = inspect_line(alloc, self.chain, self.line.bits, port, monitors);
+        let outcome = match seen.result {
+            Ok(found) => {
+                let done = says(self.chain, found.frames, found.events);
+                Outcome::Whole(Ok(done))
+            }
+            Err(LineStop::Memory) => Outcome::Memory,
+            Err(LineStop::Failed) => Outcome::Failed,
+        };
+        Worked {
+            port: seen.feed,
+            outcome,
+        }
+    }
+}
+
+/// Reads the line, shows its events to the monitors, and answers the numbers of its delivered frames and of its events.
+pub fn inspect<S: Shelf>(
+    alloc: Global,
+    chain: Chain,
+    bits: Bits,
+    mut shelf: S,
+    monitors: &mut Vec<Box<dyn Monitor>>,
+) -> Ended<S>
+    ensures performs { Performs (inspecting chain bits) (S.state shelf) (S.state result.shelf) result.answer }
+    ensures watches { IsWatched (inspecting chain bits) (S.state shelf) (S.state result.shelf) result.answer (map ⟦<Box<dyn Monitor> as Monitor>⟧.state monitors.old.items) (map ⟦<Box<dyn Monitor> as Monitor>⟧.state monitors.new.items) }
+{
+    match line_of(chain, File::of_line(bits), &mut shelf) {
+        Ok(line) => run_over(alloc, &InspectPlan { chain, bits, line }, shelf, monitors),
+        Err(stop) => Ended::new(shelf, Err(stop)),
+    }
+}
+
+impl Work for FramedPlan {
+    ghost operation = { λ p. inspecting_e1 };
+
+    ghost planned = { λ p state. IsFramedLine p.line state };
+
+    ghost opened = { λ p port. CanRead p.line.bits port };
+
+    ghost gives = { λ p begun port. IsLinePort inspecting_e1 E1Line e1_inspected p.line begun port };
+
+    fn files(&self, alloc: Global) -> Result<PortFiles, AllocError> {
+        PortFiles::line(alloc, self.line)
+    }
+
+    fn work<S: Shelf>(
+        &self,
+        alloc: Global,
+        port: ShelfPort<S>,
+        monitors: &mut Vec<Box<dyn Monitor>>,
+    ) -> Worked<S> {
+        let seen = inspect_framed(alloc, self.line.bits, port, monitors);
+        let outcome = match seen.result {
+            Ok(found) => {
+                let done = says_of_e1(found.multiframes, found.events);
+                Outcome::Whole(Ok(done))
+            }
+            Err(LineStop::Memory) => Outcome::Memory,
+            Err(LineStop::Failed) => Outcome::Failed,
+        };
+        Worked {
+            port: seen.feed,
+            outcome,
+        }
+    }
+}
+
+/// Reads the framed line, shows its events to the monitors, and answers the numbers of its delivered multiframes and of its
+/// events.
+pub fn inspect_e1<S: Shelf>(
+    alloc: Global,
+    mut shelf: S,
+    monitors: &mut Vec<Box<dyn Monitor>>,
+) -> Ended<S>
+    ensures performs { Performs inspecting_e1 (S.state shelf) (S.state result.shelf) result.answer }
+    ensures watches { IsWatched inspecting_e1 (S.state shelf) (S.state result.shelf) result.answer (map ⟦<Box<dyn Monitor> as Monitor>⟧.state monitors.old.items) (map ⟦<Box<dyn Monitor> as Monitor>⟧.state monitors.new.items) }
+{
+    match framed_line(&mut shelf) {
+        Ok(line) => run_over(alloc, &FramedPlan { line }, shelf, monitors),
+        Err(stop) => Ended::new(shelf, Err(stop)),
+    }
+}

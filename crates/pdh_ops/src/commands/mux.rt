@@ -1,0 +1,209 @@
+//! `mux`: a schedule and a file for each leaf to a line's file.
+
+ghost use Rattle.std.specs.Prelude.{if◌then◌else◌, ◌≡◌, ℕ, [], ◌∷◌, ◌<◌, IfOk, OnOk, IfErr, IfSome, All, Option, map};
+ghost use Rattle.pdh_edge.specs.Files.{ShelfState, Looks};
+ghost use Rattle.pdh_blocks.specs.State.{over};
+ghost use Rattle.pdh_blocks.specs.Kept.{Keeps};
+ghost use Rattle.pdh_clock.specs.Contents.{IsRowOf};
+ghost use Rattle.pdh_chain.specs.Chains.{levels_of};
+ghost use Rattle.pdh_ops.specs.Running.{ComesOut, IsCountedBy};
+ghost use Rattle.pdh_ops.specs.Run.{Performs, IsCounted, IsWatched};
+ghost use Rattle.pdh_ops.specs.Refusing.{Refuses};
+ghost use Rattle.pdh_answers.specs.declared.answer.Stop.TheVariants.{Overflow, Underflow};
+ghost use Rattle.pdh_answers.specs.declared.file.File.TheVariants.{Line};
+ghost use Rattle.pdh_ops.specs.MuxSteps.{AreSizes, AllHeld, AreEnough, IsEnoughStop, IsScheduled, IsPlanned, AreLeafInputs, CanMake, IsMuxPort};
+ghost use Rattle.pdh_ops.specs.Commands.Mux.{mux_says, muxing};
+
+use crate::files::size;
+use crate::leaf::leaf_count;
+use crate::port::{Ended, Input, PortFiles};
+use crate::running::{Outcome, Work, Worked, run_over};
+use crate::schedule::read_schedule;
+use crate::texts::chain_counted;
+use pdh_answers::{Done, File, Stop};
+use pdh_blocks::ShelfPort;
+use pdh_chain::{Chain, MuxStop};
+use pdh_clock::Schedule;
+use pdh_edge::Shelf;
+use pdh_shape::{MOST_FRAMES, Place, TOP};
+use pdh_watch::Monitor;
+use std::alloc::{AllocError, Global};
+
+// The sizes of the inputs, in bytes. Where a chain has fewer leaves than 64, the rest is 0.
+#[derive(Clone, Copy)]
+struct InputSizes {
+    schedule: u64,
+    leaves: [u64; 64],
+}
+
+// What a line is made by: the schedule, and how many frames it has.
+#[derive(Drop)]
+struct Plan {
+    clock: Schedule,
+    frames: u64,
+}
+
+// What is made: the chain's line by this plan, and the code that it sends.
+#[derive(Drop)]
+struct MuxPlan {
+    chain: Chain,
+    feac: Option<u8>,
+    plan: Plan,
+}
+
+// The sizes of the inputs, in order.
+fn read_sizes<S: Shelf>(chain: Chain, shelf: &mut S) -> Result<InputSizes, Stop>
+    ensures looks { Looks (S.state shelf.old) (S.state shelf.new) }
+    ensures ok { IfOk result (λ sizes. AreSizes chain sizes (S.state shelf.new)) }
+    ensures held { OnOk result (AllHeld chain (S.state shelf.new)) }
+    ensures err { IfErr result (λ stop. (feac : Option ℕ) → Refuses (muxing chain feac) (S.state shelf.old) (S.state shelf.new) stop) }
+    ensures counted { IsCounted (S.state shelf.old) (S.state shelf.new) result }
+{
+    let schedule = size(shelf, File::Schedule)?;
+    let mut leaves = [0u64; 64];
+    for leaf in 0..leaf_count(chain) {
+        leaves[leaf as usize] = size(shelf, File::Leaf(leaf))?;
+    }
+    Ok(InputSizes { schedule, leaves })
+}
+
+// The frames of the line, if they are few enough, each node has the frames that it begins, and each
+// leaf has the bits that enter by their end.
+fn frames(chain: Chain, clock: &Schedule, sizes: &InputSizes) -> Result<u64, Stop>
+    requires levels { clock.now.levels ≡ levels_of chain }
+    requires rows { All (IsRowOf (levels_of chain)) clock.now.rows }
+    ensures ok { IfOk result (AreEnough chain clock.now.rows sizes.now) }
+    ensures err { IfErr result (IsEnoughStop chain clock.now.rows sizes.now) }
+{
+    let frames = clock.frames(&TOP);
+    if frames > MOST_FRAMES {
+        return Err(Stop::ManyFrames(frames));
+    }
+    if let Some(short) = clock.short(frames) {
+        return Err(Stop::ShortNode(short.node, short.have, short.need));
+    }
+    for leaf in 0..leaf_count(chain) {
+        let need = clock.entered(u32::from(leaf), frames) as u64;
+        let have = sizes.leaves[leaf as usize];
+        if have < (need + 7) / 8 {
+            return Err(Stop::Short(File::Leaf(leaf), 8 * have, need));
+        }
+    }
+    Ok(frames)
+}
+
+// What the line is made by, where no step refuses the inputs.
+fn read_plan<S: Shelf>(alloc: Global, chain: Chain, shelf: &mut S) -> Result<Plan, Stop>
+    ensures looks { Looks (S.state shelf.old) (S.state shelf.new) }
+    ensures ok { IfOk result (λ plan. IsPlanned chain plan (S.state shelf.new)) }
+    ensures err { IfErr result (λ stop. (feac : Option ℕ) → Refuses (muxing chain feac) (S.state shelf.old) (S.state shelf.new) stop) }
+    ensures counted { IsCounted (S.state shelf.old) (S.state shelf.new) result }
+{
+    let sizes = read_sizes(chain, shelf)?;
+    let clock = read_schedule(alloc, chain, shelf, sizes.schedule)?;
+    let frames = frames(chain, &clock, &sizes)?;
+    Ok(Plan { clock, frames })
+}
+
+// The files of the port: of each leaf the bits that enter, and the line.
+fn port_files(alloc: Global, chain: Chain, plan: &Plan) -> Result<PortFiles, AllocError>
+    requires { IsScheduled chain plan.now }
+    ensures inputs { IfOk result (λ files. AreLeafInputs chain plan.now.clock.rows files.inputs.items) }
+    ensures outputs { IfOk result (λ files. files.outputs.items ≡ Line ∷ []) }
+{
+    let mut inputs = Vec::with_capacity(alloc, usize::from(leaf_count(chain)))?;
+    for leaf in 0..leaf_count(chain) {
+        inputs.push(Input {
+            file: File::Leaf(leaf),
+            bits: plan.clock.entered(u32::from(leaf), plan.frames) as u64,
+        })?;
+    }
+    let mut outputs = Vec::with_capacity(alloc, 1)?;
+    outputs.push(File::Line)?;
+    Ok(PortFiles { inputs, outputs })
+}
+
+// How an event ends the command.
+fn stop_of(over: bool, place: Place) -> Stop
+    ensures { result ≡ (if over then Overflow place else Underflow place) }
+{
+    if over {
+        Stop::Overflow(place)
+    } else {
+        Stop::Underflow(place)
+    }
+}
+
+// What it says of so many frames.
+fn says(chain: Chain, frames: u64) -> Done
+    ensures { result ≡ mux_says chain frames }
+{
+    Done::Line(chain_counted("mux ", chain, ": frames ", frames))
+}
+
+impl MuxPlan {
+    // Makes the line into the port, whole frames up to the first event.
+    fn send<S: Shelf>(&self, alloc: Global, port: &mut ShelfPort<S>) -> Outcome
+        requires { CanMake self.now.chain self.now.feac self.now.plan (over (S.state port.old.shelf) port.old.blocks) }
+        ensures kept { Keeps (over (S.state port.old.shelf) port.old.blocks) (over (S.state port.new.shelf) port.new.blocks) }
+        ensures counted { IsCountedBy (over (S.state port.new.shelf) port.new.blocks) result }
+        ensures comes { (begun : ShelfState) → IsMuxPort self.now.chain self.now.feac self.now.plan.clock.rows begun (over (S.state port.old.shelf) port.old.blocks)
+            → ComesOut (muxing self.now.chain self.now.feac) begun (over (S.state port.old.shelf) port.old.blocks) (over (S.state port.new.shelf) port.new.blocks) result }
+    {
+        let frames = self.plan.frames;
+        match pdh_chain::mux(alloc, self.chain, &self.plan.clock, frames, self.feac, port) {
+            Ok(()) => Outcome::Whole(Ok(says(self.chain, frames))),
+            Err(MuxStop::Event { over, place }) => Outcome::Whole(Err(stop_of(over, place))),
+            Err(MuxStop::Memory) => Outcome::Memory,
+            Err(MuxStop::ReadFailed) => Outcome::Failed,
+            Err(MuxStop::WriteFailed) => Outcome::Failed,
+            // The schedule and the leaves are long enough.
+            Err(MuxStop::NoFrame { .. }) => unreachable!(),
+            Err(MuxStop::Ended { .. }) => unreachable!(),
+        }
+    }
+}
+
+impl Work for MuxPlan {
+    ghost operation = { λ p. muxing p.chain p.feac };
+
+    ghost planned = { λ p state. IsPlanned p.chain p.plan state × IfSome p.feac (λ code. code < 64) };
+
+    ghost opened = { λ p port. CanMake p.chain p.feac p.plan port };
+
+    ghost gives = { λ p begun port. IsMuxPort p.chain p.feac p.plan.clock.rows begun port };
+
+    fn files(&self, alloc: Global) -> Result<PortFiles, AllocError> {
+        port_files(alloc, self.chain, &self.plan)
+    }
+
+    fn work<S: Shelf>(
+        &self,
+        alloc: Global,
+        mut port: ShelfPort<S>,
+        _monitors: &mut Vec<Box<dyn Monitor>>,
+    ) -> Worked<S> {
+        let outcome = self.send(alloc, &mut port);
+        Worked { port, outcome }
+    }
+}
+
+/// Reads the schedule and the leaves, makes the line, writes its whole frames up to the first event,
+/// and answers the number of frames. The line sends a code over the far end alarm and control channel
+/// of its top, where one is asked for.
+pub fn mux<S: Shelf>(
+    alloc: Global,
+    chain: Chain,
+    feac: Option<u8>,
+    mut shelf: S,
+    monitors: &mut Vec<Box<dyn Monitor>>,
+) -> Ended<S>
+    requires code { IfSome feac (λ code. code < 64) }
+    ensures performs { Performs (muxing chain feac) (S.state shelf) (S.state result.shelf) result.answer }
+    ensures watches { IsWatched (muxing chain feac) (S.state shelf) (S.state result.shelf) result.answer (map ⟦<Box<dyn Monitor> as Monitor>⟧.state monitors.old.items) (map ⟦<Box<dyn Monitor> as Monitor>⟧.state monitors.new.items) }
+{
+    match read_plan(alloc, chain, &mut shelf) {
+        Ok(plan) => run_over(alloc, &MuxPlan { chain, feac, plan }, shelf, monitors),
+        Err(stop) => Ended::new(shelf, Err(stop)),
+    }
+}

@@ -1,0 +1,115 @@
+//! `show`: one frame of a line's file as text.
+
+ghost use Rattle.std.specs.Prelude.{◌≡◌, ◌≤◌, map, OnOk, IfErr};
+ghost use Rattle.pdh_edge.specs.Files.{ShelfState, Looks};
+ghost use Rattle.pdh_blocks.specs.State.{over};
+ghost use Rattle.pdh_blocks.specs.Kept.{Keeps};
+ghost use Rattle.pdh_ops.specs.Commands.Inspect.{showing};
+ghost use Rattle.pdh_ops.specs.ShowSteps.{HasFrame, CanShow, IsShowPort};
+ghost use Rattle.pdh_ops.specs.Running.{ComesOut, IsCountedBy};
+ghost use Rattle.pdh_ops.specs.Refusing.{Refuses};
+ghost use Rattle.pdh_ops.specs.Run.{IsCounted, Performs, IsWatched};
+
+use crate::files::size;
+use crate::port::{Ended, Input, PortFiles};
+use crate::running::{Outcome, Work, Worked, run_over};
+use pdh_answers::{Done, File, FrameText, Stop};
+use pdh_blocks::ShelfPort;
+use pdh_chain::{Chain, frame_bytes};
+use pdh_edge::Shelf;
+use pdh_shape::MOST_FRAMES;
+use pdh_show::ShowStop;
+use pdh_watch::Monitor;
+use std::alloc::{AllocError, Global};
+
+// The frame that is shown.
+#[derive(Drop)]
+struct ShowPlan {
+    chain: Chain,
+    frame: u64,
+}
+
+// Checks that the line has no more frames than a line may have, and this frame whole.
+fn judge<S: Shelf>(chain: Chain, frame: u64, shelf: &mut S) -> Result<(), Stop>
+    requires { frame ≤ 999999999 }
+    ensures looks { Looks (S.state shelf.old) (S.state shelf.new) }
+    ensures ok { OnOk result (HasFrame chain frame (S.state shelf.new)) }
+    ensures err { IfErr result (Refuses (showing chain frame) (S.state shelf.old) (S.state shelf.new)) }
+    ensures counted { IsCounted (S.state shelf.old) (S.state shelf.new) result }
+{
+    let bytes = size(shelf, File::Line)?;
+    let frame_bytes = u64::from(frame_bytes(chain));
+    let frames = bytes / frame_bytes;
+    if frames > MOST_FRAMES {
+        return Err(Stop::ManyFrames(frames));
+    }
+    let need = (frame + 1) * frame_bytes;
+    if bytes < need {
+        return Err(Stop::Short(File::Line, 8 * bytes, 8 * need));
+    }
+    Ok(())
+}
+
+impl ShowPlan {
+    // Shows the frame behind so many frames of the line.
+    fn text<S: Shelf>(&self, alloc: Global, port: &mut ShelfPort<S>) -> Outcome
+        requires { CanShow self.now.chain self.now.frame (over (S.state port.old.shelf) port.old.blocks) }
+        ensures kept { Keeps (over (S.state port.old.shelf) port.old.blocks) (over (S.state port.new.shelf) port.new.blocks) }
+        ensures counted { IsCountedBy (over (S.state port.new.shelf) port.new.blocks) result }
+        ensures comes { (begun : ShelfState) → IsShowPort self.now.chain self.now.frame begun (over (S.state port.old.shelf) port.old.blocks)
+            → ComesOut (showing self.now.chain self.now.frame) begun (over (S.state port.old.shelf) port.old.blocks) (over (S.state port.new.shelf) port.new.blocks) result }
+    {
+        match pdh_show::show(alloc, self.chain, self.frame as u32, port) {
+            Ok(text) => Outcome::Whole(Ok(Done::Frame(FrameText::new(text)))),
+            Err(ShowStop::Memory) => Outcome::Memory,
+            Err(ShowStop::Failed) => Outcome::Failed,
+        }
+    }
+}
+
+impl Work for ShowPlan {
+    ghost operation = { λ p. showing p.chain p.frame };
+
+    ghost planned = { λ p state. (p.frame ≤ 999999999) × HasFrame p.chain p.frame state };
+
+    ghost opened = { λ p port. CanShow p.chain p.frame port };
+
+    ghost gives = { λ p begun port. IsShowPort p.chain p.frame begun port };
+
+    fn files(&self, alloc: Global) -> Result<PortFiles, AllocError> {
+        let bytes = (self.frame + 1) * u64::from(frame_bytes(self.chain));
+        let line = Input {
+            file: File::Line,
+            bits: 8 * bytes,
+        };
+        PortFiles::line(alloc, line)
+    }
+
+    fn work<S: Shelf>(
+        &self,
+        alloc: Global,
+        mut port: ShelfPort<S>,
+        _monitors: &mut Vec<Box<dyn Monitor>>,
+    ) -> Worked<S> {
+        let outcome = self.text(alloc, &mut port);
+        Worked { port, outcome }
+    }
+}
+
+/// Reads the line up to the end of one of its frames, and answers the text of that frame, whatever the alignment.
+pub fn show<S: Shelf>(
+    alloc: Global,
+    chain: Chain,
+    frame: u64,
+    mut shelf: S,
+    monitors: &mut Vec<Box<dyn Monitor>>,
+) -> Ended<S>
+    requires known { frame ≤ 999999999 }
+    ensures performs { Performs (showing chain frame) (S.state shelf) (S.state result.shelf) result.answer }
+    ensures watches { IsWatched (showing chain frame) (S.state shelf) (S.state result.shelf) result.answer (map ⟦<Box<dyn Monitor> as Monitor>⟧.state monitors.old.items) (map ⟦<Box<dyn Monitor> as Monitor>⟧.state monitors.new.items) }
+{
+    match judge(chain, frame, &mut shelf) {
+        Ok(()) => run_over(alloc, &ShowPlan { chain, frame }, shelf, monitors),
+        Err(stop) => Ended::new(shelf, Err(stop)),
+    }
+}

@@ -1,0 +1,104 @@
+//! The tributaries of a multiplexer as a trait, of which there are two kinds: with elastic stores, and without.
+
+ghost use Rattle.std.specs.Prelude.{◌≡◌, ◌+◌, ◌<◌, ◌≤◌, ℕ, suc, List, length, IfOk, IfErr, OnErr};
+ghost use Rattle.pdh_packed.specs.Gaining.{gained};
+ghost use Rattle.pdh_shape.specs.declared.place.Path.{Path};
+ghost use Rattle.pdh_tx.specs.Meaning.{Plan, Supply, Meaning, plan_of};
+ghost use Rattle.pdh_tx.specs.Calls.{Draws, DrawsClear, Appends, IsPieceOf};
+ghost use Rattle.pdh_tx.specs.Follows.{Follows};
+ghost use Rattle.pdh_tx.specs.Body.{Kind, IsKind, sender_meaning, AreFedBelow, GivesBit, StopsAtSlot, IsPieceClear, GivesPiece, HaltsInPiece};
+
+use crate::TxStop;
+use crate::pieces::Piece;
+use pdh_clock::Schedule;
+use pdh_edge::{Failed, Feed};
+use pdh_packed::Packed;
+use pdh_shape::{Path, Service, Shape};
+
+/// The tributaries of a multiplexer, of one kind: with stores, or without.
+pub trait Body<S: Shape>: Drop {
+    /// How they are taken.
+    ghost kind: { Kind };
+
+    /// What each makes, takes and meets.
+    ghost meanings: { Self → List Meaning };
+
+    /// They have made all bits before slot t of frame n of their node, which is at this path.
+    ghost stands: { Self → Path → Plan → ℕ → ℕ → Type 0 };
+
+    /// They have made the bits of the slots of frame n below slot t.
+    ghost stood: { Self → Path → Plan → ℕ → ℕ → Type 0 };
+
+    /// What they hold, where they stand there, is what this supply gives.
+    ghost holds: { Self → Path → Plan → Supply → ℕ → ℕ → Type 0 };
+
+    /// The same, where they have made those slots.
+    ghost held: { Self → Path → Plan → Supply → ℕ → ℕ → Type 0 };
+
+    /// Makes the bit of a slot, with all its steps, where the frame says `say` and `odd` is whether
+    /// the information and justifiable slots of the frame before hold an odd number of ones.
+    fn bit<F: Feed>(
+        &mut self,
+        path: Path,
+        frame: u64,
+        slot: u32,
+        say: &Service,
+        odd: bool,
+        clock: &Schedule,
+        feed: &mut F,
+    ) -> Result<bool, TxStop>
+        requires slot { slot < S.LEN }
+        requires fed { AreFedBelow S.shape path (meanings self.old) clock.now (F.inputs feed.old) }
+        requires placed { stands self.old path (plan_of clock.now) frame slot }
+        ensures made { IfOk result (λ bit.
+            GivesBit kind meanings stood holds held S.shape self.old self.new path clock.now frame slot say.now odd bit
+            (F.inputs feed.old) (F.inputs feed.new)) }
+        ensures err { IfErr result (λ stop. StopsAtSlot kind (meanings self.old) path clock.now frame slot stop
+            (F.inputs feed.old) (F.inputs feed.new) (F.feed_faults feed.old) (F.feed_faults feed.new)) }
+        ensures fed { Draws F.Feed feed.old feed.new result }
+        ensures same { meanings self.new ≡ meanings self.old };
+
+    /// Makes the bits of a piece of a frame, with all their steps, in whose way nothing stands,
+    /// appends them to `into`, and answers whether its information and justifiable slots hold an odd
+    /// number of ones.
+    fn piece<F: Feed>(
+        &mut self,
+        at: Piece,
+        say: &Service,
+        odd: bool,
+        clock: &Schedule,
+        feed: &mut F,
+        into: &mut Packed,
+    ) -> Result<bool, Failed>
+        requires piece { IsPieceOf S.LEN at.slot at.len }
+        requires room { length into.old.bits + at.len ≤ into.old.capacity }
+        requires fed { AreFedBelow S.shape at.path (meanings self.old) clock.now (F.inputs feed.old) }
+        requires placed { stands self.old at.path (plan_of clock.now) at.frame at.slot }
+        requires clear { IsPieceClear kind (meanings self.old) clock.now at (F.inputs feed.old) }
+        ensures appended { Appends into.old into.new at.len result }
+        ensures made { IfOk result (λ is_odd.
+            GivesPiece kind meanings stood holds held S.shape self.old self.new clock.now at say.now odd is_odd
+            (gained into.old into.new) (F.inputs feed.old) (F.inputs feed.new)) }
+        ensures halts { OnErr result (HaltsInPiece kind (meanings self.old) clock.now at
+            (F.inputs feed.old) (F.inputs feed.new)) }
+        ensures fed { DrawsClear F.Feed feed.old feed.new result }
+        ensures same { meanings self.new ≡ meanings self.old };
+
+    /// The kind's numbers agree.
+    ghost is_kind: { (b : Self) → IsKind S.shape kind };
+
+    /// There is one for each tributary of the shape.
+    ghost count: { (b : Self) → length (meanings b) ≡ S.shape.tribs };
+
+    /// The slot that follows a slot is made next.
+    ghost stands_next: { (b : Self) (path : Path) (plan : Plan) (n t n' t' : ℕ) → Follows S.shape n t n' t'
+        → stood b path plan n (suc t) → stands b path plan n' t' };
+
+    /// And what is held is held before it.
+    ghost holds_next: { (b : Self) (path : Path) (plan : Plan) (supply : Supply) (n t n' t' : ℕ) → Follows S.shape n t n' t'
+        → held b path plan supply n (suc t) → holds b path plan supply n' t' };
+
+    /// A longer line takes no fewer bits.
+    ghost grows: { (b : Self) (path : Path) (plan : Plan) (x k : ℕ) → (sender_meaning S.shape kind path (meanings b)).given plan x k
+        ≤ (sender_meaning S.shape kind path (meanings b)).given plan (suc x) k };
+}

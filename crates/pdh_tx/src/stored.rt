@@ -1,0 +1,92 @@
+//! Tributaries with elastic stores, as the body of a multiplexer.
+
+ghost use Rattle.pdh_tx.specs.Stored.{stored_kind};
+ghost use Rattle.pdh_tx.specs.Tributary.{placed_in, held_in, share_in};
+ghost use Rattle.pdh_tx.specs.Tributaries.{meanings as meanings_of, StandBefore, StandThrough, HoldToHere, HoldToThere};
+ghost use Rattle.pdh_tx.specs.laws.NodeLaws.{node_grows};
+ghost use Rattle.pdh_tx.specs.laws.StoredLaws.{stored_is, stored_next, stored_holds, stored_count, stored_long};
+
+use crate::body::Body;
+use crate::decisions::write_overhead;
+use crate::pieces::Piece;
+use crate::tributaries::Tributaries;
+use crate::tributary::Tributary;
+use crate::{Tx, TxStop};
+use pdh_clock::Schedule;
+use pdh_edge::{Failed, Feed};
+use pdh_packed::Packed;
+use pdh_shape::{Path, Service, Shape};
+
+impl<S: Shape, C: Tx> Body<S> for Tributaries<S, C> {
+    ghost kind = { stored_kind S.shape };
+
+    ghost meanings = { λ b. meanings_of b };
+
+    ghost stands = { λ b. StandBefore b };
+
+    ghost stood = { λ b. StandThrough b };
+
+    ghost holds = { λ b. HoldToHere b };
+
+    ghost held = { λ b. HoldToThere b };
+
+    fn bit<F: Feed>(
+        &mut self,
+        path: Path,
+        frame: u64,
+        slot: u32,
+        say: &Service,
+        odd: bool,
+        clock: &Schedule,
+        feed: &mut F,
+    ) -> Result<bool, TxStop> {
+        self.begin(path, frame, slot, clock, feed)?;
+        self.take_arrivals(path, frame, slot, clock, feed)?;
+        self.slot_bit(path, frame, slot, say, odd)
+    }
+
+    fn piece<F: Feed>(
+        &mut self,
+        at: Piece,
+        say: &Service,
+        odd: bool,
+        clock: &Schedule,
+        feed: &mut F,
+        into: &mut Packed,
+    ) -> Result<bool, Failed> {
+        match self.begin(at.path, at.frame, at.slot, clock, feed) {
+            Ok(()) => {
+                write_overhead::<S, Vec<Tributary<C>>>(
+                    &self.layout,
+                    at,
+                    say,
+                    odd,
+                    &self.list,
+                    &mut self.scratch.overhead,
+                );
+                self.pass_all(at, clock, feed)?;
+                Ok(
+                    self.layout.assemble(
+                        at.slot,
+                        at.len,
+                        &self.scratch.overhead,
+                        &self.scratch.columns,
+                        &mut self.scratch.payload,
+                        into,
+                    ),
+                )
+            }
+            Err(_stop) => Err(Failed),
+        }
+    }
+
+    ghost is_kind = { λ b. stored_is S.shape S.is_frame };
+
+    ghost count = { λ b. stored_count C.Tx.own S.shape b.list.items S.TRIBS S.tribs_is b.count };
+
+    ghost stands_next = { λ b path plan n t n' t'. stored_next (placed_in C.Tx.own) (held_in C.Tx.own) share_in S.shape S.is_frame S.has_tributaries path plan b.list.items (stored_long b.list.items S.shape.tribs S.TRIBS S.tribs_is b.count) n t n' t' };
+
+    ghost holds_next = { λ b path plan supply n t n' t' follows. stored_holds (placed_in C.Tx.own) (held_in C.Tx.own) share_in S.shape S.is_frame S.has_tributaries path plan b.list.items (stored_long b.list.items S.shape.tribs S.TRIBS S.tribs_is b.count) n t n' t' follows supply };
+
+    ghost grows = { λ b path. node_grows C.Tx.own C.grows S.shape S.is_frame path b.list.items };
+}
