@@ -39,7 +39,7 @@ back_are len n bits back some h lt =
     let read : get_or (map f (range_with_len 0 n)) k [] ≡ f k = get_or-map-range_with_len f 0 n k k [] (omega arith) (omega arith) in
     (omega arith, ap (λ r. frame_back r back) ready ∙ ap (λ m. get_or (map f (range_with_len 0 n)) (m - suc back) []) count ∙ read ∙ ap (λ m. take len (drop m bits)) (sym from))
 
-pub ready_back : (len : ℕ) (fresh : Bool) (bits : List Bool) (back : ℕ) → 0 < len → (fresh ≡ true → (length bits ≡ len) ⊎ (length bits ≡ 3 * len)) → back < length (ready_of len fresh bits)
+ready_back : (len : ℕ) (fresh : Bool) (bits : List Bool) (back : ℕ) → 0 < len → (fresh ≡ true → (length bits ≡ len) ⊎ (length bits ≡ 3 * len)) → back < length (ready_of len fresh bits)
     → ((back + 1) * len ≤ length bits) × (frame_back (ready_of len fresh bits) back ≡ take len (drop (length bits - (back + 1) * len) bits))
 ready_back len true bits back some whole lt =
     elim (whole refl) [
@@ -48,16 +48,23 @@ ready_back len true bits back some whole lt =
     ]
 ready_back len false bits back some whole lt = absurd (omega arith)
 
--- a ready frame lies within what is held
-pub ready_within : (len : ℕ) (fresh : Bool) (bits : List Bool) (back : ℕ) → 0 < len → (fresh ≡ true → (length bits ≡ len) ⊎ (length bits ≡ 3 * len)) → back < length (ready_of len fresh bits)
-    → (back + 1) * len ≤ length bits
-ready_within len fresh bits back some whole lt = (ready_back len fresh bits back some whole lt).0
+-- a ready frame that is told lies within what is held
+pub ready_told : (len : ℕ) (fresh : Bool) (bits : List Bool) (ready : List (List Bool)) (back : ℕ) → 0 < len → (fresh ≡ true → (length bits ≡ len) ⊎ (length bits ≡ 3 * len)) → ready_of len fresh bits ≡ ready → back < length ready
+    → ((back + 1) * len ≤ length bits) × (frame_back ready back ≡ take len (drop (length bits - (back + 1) * len) bits))
+ready_told len fresh bits ready back some whole told lt =
+    let found = ready_back len fresh bits back some whole (rw told lt) in
+    (found.0, ap (λ (r : List (List Bool)). frame_back r back) (sym told) ∙ found.1)
 
--- a bit of a ready frame
-pub ready_bit : (len : ℕ) (fresh : Bool) (bits : List Bool) (back slot : ℕ) → 0 < len → (fresh ≡ true → (length bits ≡ len) ⊎ (length bits ≡ 3 * len)) → back < length (ready_of len fresh bits)
-    → slot < len → slice_index_or bits (length bits - (back + 1) * len + slot) false ≡ slice_index_or (frame_back (ready_of len fresh bits) back) slot false
-ready_bit len fresh bits back slot some whole lt in_frame =
-    sym (bit_in_frame bits (length bits - (back + 1) * len) len slot in_frame) ∙ ap (λ x. slice_index_or x slot false) (sym (ready_back len fresh bits back some whole lt).1)
+-- and so does a bit of it
+pub ready_bit : (len : ℕ) (fresh : Bool) (bits : List Bool) (ready : List (List Bool)) (back slot : ℕ) → 0 < len → (fresh ≡ true → (length bits ≡ len) ⊎ (length bits ≡ 3 * len)) → ready_of len fresh bits ≡ ready → back < length ready
+    → slot < len → slice_index_or bits (length bits - (back + 1) * len + slot) false ≡ slice_index_or (frame_back ready back) slot false
+ready_bit len fresh bits ready back slot some whole told lt in_frame =
+    sym (bit_in_frame bits (length bits - (back + 1) * len) len slot in_frame) ∙ ap (λ x. slice_index_or x slot false) (sym (ready_told len fresh bits ready back some whole told lt).1)
+
+-- where it begins, by the numbers as the code has them
+pub same_start : (held held' back back' len len' : ℕ) → held ≡ held' → back ≡ back' → len ≡ len' → held - (back + 1) * len ≡ held' - (back' + 1) * len'
+same_start held held' back back' len len' count place size =
+    ap (λ n. n - (back + 1) * len) count ∙ ap (λ n. held' - (n + 1) * len) place ∙ ap (λ n. held' - (back' + 1) * n) size
 
 -- ---- what a push leaves
 

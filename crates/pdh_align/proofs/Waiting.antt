@@ -1,6 +1,6 @@
 -- Bits of the line at which no frame ends.
-use Rattle.std.proofs.Common.{◌≡◌, ℕ, ◌*◌, ◌<◌, ◌≤◌, Bool, true, false, cond, List, [], ◌∷◌, ◌++◌, length, sym, ap, ◌∙◌, subst, arith, append_assoc, get_or, length-append, refl, take, drop}
-use Rattle.std.proofs.lemmas.List.{append-nil, take-append-drop}
+use Rattle.std.proofs.Common.{◌≡◌, ℕ, ◌+◌, ◌*◌, ◌<◌, ◌≤◌, Bool, true, false, cond, List, [], ◌∷◌, ◌++◌, length, sym, ap, ◌∙◌, subst, arith, append_assoc, get_or, length-append, refl, take, drop}
+use Rattle.std.proofs.lemmas.List.{append-nil, take-append-drop, length-take-le}
 use Rattle.pdh_shape.specs.declared.role.Marks.{Marks}
 use Rattle.pdh_shape.specs.Frame.{FrameShape, IsFrame, clean}
 use Rattle.pdh_bits.specs.BitOut.{BoundedBits}
@@ -103,6 +103,14 @@ below_end s len true false signals before held search end some h e = omega (arit
 below_end s len true true signals before held search end some h e = no (sym (h.idle refl))
 below_end s len false false signals before held search end some h e = omega (arith, h.part refl refl, e)
 below_end s len false true signals before held search end some h e = omega (arith, some, e)
+
+-- so bits are added for which there is room before it
+pub adds : (s : FrameShape) (len : ℕ) (searching fresh : Bool) (signals : Signals) (before : List Marks) (held cleared now : BoundedBits) (rest : List Bool) (search : Sought) (n end : ℕ) → 0 < len → HoldsEnough s len searching fresh signals held search before
+    → end ≡ cond searching (3 * len) len → cleared.bits ≡ cond fresh [] held.bits → now.bits ≡ cleared.bits ++ take n rest → n ≤ length rest → (length cleared.bits < end → length cleared.bits + n < end)
+    → Added len searching fresh held.bits now.bits (take n rest) end
+adds s len searching fresh signals before held cleared now rest search n end some holds end_is was is few room =
+    let fits : length cleared.bits + n < end = room (omega (arith, below_end s len searching fresh signals before held search end some holds end_is, ap length was)) in
+    record { idle = holds.idle; end_is = end_is; now_is = is ∙ ap (λ x. x ++ take n rest) was; less = omega (arith, fits, ap length is, length-append cleared.bits (take n rest), length-take-le n rest few) }
 
 -- the fields, once bits were added, none of which ends a frame
 pub holds_wait : (s : FrameShape) (len : ℕ) (searching fresh fresh' : Bool) (signals : Signals) (before : List Marks) (held now : BoundedBits) (more : List Bool) (end : ℕ) (search after : Sought) → fresh' ≡ false

@@ -19,6 +19,7 @@ use std::alloc::{AllocError, Global};
 use std::marker::{Model, PhantomData};
 
 /// Finds frame alignment in a line, and loses it (ITU-T G.742, 4). Only `open` takes memory.
+#[derive(Drop)]
 pub struct Aligner<S: Shape> {
     searching: bool,
     // the bits that are held are the frames that the last step made ready
@@ -29,20 +30,6 @@ pub struct Aligner<S: Shape> {
     held: BitRing,
     search: Search<S>,
     of: PhantomData<S>,
-}
-
-impl<S: Shape> Drop for Aligner<S> {
-    fn drop(self) {
-        let Self {
-            searching: _,
-            fresh: _,
-            before: _,
-            signals: _,
-            held: _,
-            search: _,
-            of: _,
-        } = self;
-    }
 }
 
 impl<S: Shape> Model for Aligner<S> {

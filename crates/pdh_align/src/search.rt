@@ -16,20 +16,12 @@ use std::alloc::{AllocError, Global};
 use std::marker::Model;
 
 /// What a search for alignment keeps of the bits since it began, beside those that are held.
+#[derive(Drop)]
 pub struct Search<S: Shape> {
     // the phases, where the shape's frame begins with its alignment signal
     phases: Option<Phases<S>>,
     // the phase of the oldest position that is held
     oldest: u32,
-}
-
-impl<S: Shape> Drop for Search<S> {
-    fn drop(self) {
-        let Self {
-            phases: _,
-            oldest: _,
-        } = self;
-    }
 }
 
 impl<S: Shape> Model for Search<S> {

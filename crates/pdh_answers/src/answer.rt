@@ -2,6 +2,7 @@
 
 use crate::file::File;
 use pdh_clock::ScheduleFault;
+use pdh_e1::PackFault;
 use pdh_script::ScriptFault;
 use pdh_shape::{Path, Place};
 use pdh_words::Text;
@@ -80,7 +81,7 @@ pub enum Stop {
     Overflow(Place),
     /// A slot carried a bit of an empty elastic store.
     Underflow(Place),
-    /// The line has more frames than 16,384.
+    /// There are more frames than a line, a schedule or a drill may have.
     ManyFrames(u64),
     /// No frame, or in `e1unpack` no multiframe, of the line was delivered: its bits.
     NoAlignment(u64),
@@ -166,6 +167,20 @@ impl From<ScriptFault> for Stop {
             ScriptFault::BadRow { line } => Stop::BadScriptRow(line),
             ScriptFault::PastEnd { line } => Stop::PastEnd(line),
             ScriptFault::Memory => Stop::Memory,
+        }
+    }
+}
+
+impl From<PackFault> for Stop {
+    ghost use Rattle.std.specs.Prelude.{◌≡◌};
+    ghost use Rattle.pdh_answers.specs.Answer.{stop_of_pack};
+
+    ghost from_gives = { λ fault e. e ≡ stop_of_pack fault };
+
+    fn from(fault: PackFault) -> Self {
+        match fault {
+            PackFault::NotWhole { len } => Stop::NotWhole(len),
+            PackFault::Memory => Stop::Memory,
         }
     }
 }

@@ -48,15 +48,12 @@ fn number_of(bits: &[bool]) -> u8
     requires { length bits.now ≡ 8 }
     ensures { result ≡ number_of bits.now }
 {
-    let [b7, b6, b5, b4, b3, b2, b1, b0] = bits else {
-        unreachable!();
-    };
-    128 * u8::from(*b7)
-        + 64 * u8::from(*b6)
-        + 32 * u8::from(*b5)
-        + 16 * u8::from(*b4)
-        + 8 * u8::from(*b3)
-        + 4 * u8::from(*b2)
-        + 2 * u8::from(*b1)
-        + u8::from(*b0)
+    128 * u8::from(bits[0])
+        + 64 * u8::from(bits[1])
+        + 32 * u8::from(bits[2])
+        + 16 * u8::from(bits[3])
+        + 8 * u8::from(bits[4])
+        + 4 * u8::from(bits[5])
+        + 2 * u8::from(bits[6])
+        + u8::from(bits[7])
 }

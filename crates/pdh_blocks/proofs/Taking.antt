@@ -29,9 +29,6 @@ prefix_same bits (Some l) = (bits, refl)
 pub part_none : (bits : ℕ → List Bool) (a b : Outputs) → b ≡ a → PutsPart bits a b
 part_none bits a b same k = subst (λ (o : Outputs). PrefixOf (bits k) (a.told k) (o.told k)) (sym same) (prefix_same (bits k) (a.told k))
 
-pub puts_none : (a b : Outputs) → b ≡ a → Puts nothing a b
-puts_none a b same k = ap (λ (o : Outputs). o.told k) same ∙ sym (after_none (a.told k))
-
 -- ---- two ports whose lists differ in one at most
 
 module _ (a b : PortState) (k : ℕ) (others : (j : ℕ) → (j ≡ k → ⊥) → (outputs_of b).told j ≡ (outputs_of a).told j) where

@@ -12,7 +12,7 @@ use std::collections::BTreeSet;
 // The room that each file gets beside twice what all files hold, and the room of the output, in bytes.
 const ROOM: u64 = 65_536;
 
-// The most that a file gets for what all files hold, which is more than any output has.
+// The most that a file gets for what all files hold. A case whose outputs are larger says their room.
 const MOST_ROOM: u64 = 16_777_216;
 
 // ---- what a run is given

@@ -10,6 +10,7 @@ use Rattle.pdh_edge.specs.Ports.{Inputs, Outputs, Puts, PutsPart, nothing}
 use Rattle.pdh_shape.specs.declared.role.Service.{Service}
 use Rattle.pdh_line.specs.Sending.{front}
 use Rattle.pdh_line.proofs.Ranges.{range_append}
+use Rattle.pdh_tx.specs.declared.tx.Tx as tx
 use Rattle.pdh_tx.specs.declared.tx.TxStop.{TxStop}
 use Rattle.pdh_tx.specs.Meaning.{Plan, Supply, Meaning, Fits, Agrees, Makes, Stops, faults_met}
 use Rattle.pdh_tx.specs.Held.{IsPart, Halts}
@@ -196,7 +197,7 @@ sending_more m m' says placed placed' old mid new plan b c to more more' x y z w
     }
 
 -- the sender was told what the next frame says
-pub sending_set : (m : Meaning) (says : ℕ → Service) (placed placed' : ℕ → Type 0) (old mid mid' : Supply → ℕ → Type 0) (plan : Plan) (to : ℕ) (x y : Inputs) (o o' : Outputs) → ((n : ℕ) → placed n → placed' n)
+sending_set : (m : Meaning) (says : ℕ → Service) (placed placed' : ℕ → Type 0) (old mid mid' : Supply → ℕ → Type 0) (plan : Plan) (to : ℕ) (x y : Inputs) (o o' : Outputs) → ((n : ℕ) → placed n → placed' n)
     → ((supply : Supply) (n : ℕ) → mid supply n → mid' supply n) → Sending m says placed old mid plan to x y o o' → Sending m says placed' old mid' plan to x y o o'
 sending_set m says placed placed' old mid mid' plan to x y o o' place held s = record {
   bits = s.bits;
@@ -291,7 +292,7 @@ makes_next m m' says now placed old new plan a len l bits x y same long told fre
     }
 
 -- the frame that begins at such a place is the only one that does before its end
-pub says_in_frame : (m : Meaning) (says : ℕ → Service) (now : Service) (len whole l : ℕ) → HasFrames m len → l ≡ len → says whole ≡ now → SayInFrames m says now (whole * len) (whole * len + l)
+says_in_frame : (m : Meaning) (says : ℕ → Service) (now : Service) (len whole l : ℕ) → HasFrames m len → l ≡ len → says whole ≡ now → SayInFrames m says now (whole * len) (whole * len + l)
 says_in_frame m says now len whole l frames long is y n le lt begins =
     let at : y ≡ n * len = frames y n begins in
     let here : n ≡ whole = between (omega (arith, at, le)) (omega (arith, at, lt, long)) in
@@ -305,6 +306,21 @@ says_in_frame m says now len whole l frames long is y n le lt begins =
         | inr other ↦ omega arith
       ]
     ]
+
+-- the sender was told what its next frame says
+pub record IsTold {T : Type 0} (sender : tx.Ghosts T) (t now : T) (plan : Plan) (says : ℕ → Service) (len whole : ℕ) (x y : Inputs) (o o' : Outputs) : Type 0 where
+  pub same : sender.meaning now ≡ sender.meaning t
+  pub sending : Sending (sender.meaning t) says (sender.stands_at now plan) (sender.stands_for t) (sender.stands_for now) plan (whole * len) x y o o'
+  pub told : (m : Meaning) → m ≡ sender.meaning t → SayInFrames m says (sender.says now) (whole * len) (whole * len + len)
+
+pub is_told : {T : Type 0} (sender : tx.Ghosts T) (t last now : T) (plan : Plan) (says : ℕ → Service) (len whole : ℕ) (x y : Inputs) (o o' : Outputs) → HasFrames (sender.meaning t) len → sender.meaning last ≡ sender.meaning t → sender.meaning now ≡ sender.meaning last
+    → ((n : ℕ) → sender.stands_at last plan n → sender.stands_at now plan n) → ((supply : Supply) (n : ℕ) → sender.stands_for last supply n → sender.stands_for now supply n) → sender.says now ≡ says whole
+    → Sending (sender.meaning t) says (sender.stands_at last plan) (sender.stands_for t) (sender.stands_for last) plan (whole * len) x y o o' → IsTold sender t now plan says len whole x y o o'
+is_told sender t last now plan says len whole x y o o' frames same set placed held is sending = record {
+  same = set ∙ same;
+  sending = sending_set (sender.meaning t) says (sender.stands_at last plan) (sender.stands_at now plan) (sender.stands_for t) (sender.stands_for last) (sender.stands_for now) plan (whole * len) x y o o' placed held sending;
+  told = λ m means. says_in_frame m says (sender.says now) len whole len (subst (λ (m : Meaning). HasFrames m len) (sym means) frames) refl (sym is);
+}
 
 -- a call for bits failed in a frame, and left the outputs
 pub sending_halts : (m m' : Meaning) (says : ℕ → Service) (placed : ℕ → Type 0) (old mid : Supply → ℕ → Type 0) (plan : Plan) (len frames n : ℕ) (stop : TxStop) (x y z : Inputs) (o o' o'' : Outputs) (faults later now : ℕ) → m' ≡ m → o'' ≡ o' → n < frames

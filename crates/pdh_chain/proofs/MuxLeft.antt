@@ -7,7 +7,7 @@ use Rattle.pdh_tx.specs.Meaning.{faults_met}
 use Rattle.pdh_chain.specs.declared.clear_sending.CallStop.{CallStop}
 use Rattle.pdh_chain.specs.declared.clear_sending.CallStop.TheVariants.{TakeFailed, PutFailed}
 use Rattle.pdh_chain.specs.Muxes.{IsLeftReady, mux_stop, call_stop}
-use Rattle.pdh_chain.specs.Faults.{call_reads, call_writes, reads_at_mux_stop, writes_at_mux_stop}
+use Rattle.pdh_chain.specs.Faults.{counted_at_call_stop, reads_at_mux_stop, writes_at_mux_stop}
 
 -- ---- a stop of the sender
 
@@ -38,10 +38,10 @@ pub left_by_call : (fresh ready refused : Type 0) (why : CallStop) → ready →
 left_by_call fresh ready refused TakeFailed here = here
 left_by_call fresh ready refused PutFailed here = inl here
 
-pub reads_by_call : (why : CallStop) (a b c : ℕ) → c ≡ call_reads {T = Unit {0}} (Err why) b → b ≡ a → c ≡ reads_at_mux_stop (call_stop why) a
-reads_by_call TakeFailed a b c counted same = counted ∙ ap one_more same
-reads_by_call PutFailed a b c counted same = counted ∙ same
+pub reads_by_call : (why : CallStop) (a b c d : ℕ) → c ≡ (counted_at_call_stop why (b, d)).0 → b ≡ a → c ≡ reads_at_mux_stop (call_stop why) a
+reads_by_call TakeFailed a b c d counted same = counted ∙ ap one_more same
+reads_by_call PutFailed a b c d counted same = counted ∙ same
 
-pub writes_by_call : (why : CallStop) (a b c : ℕ) → c ≡ call_writes {T = Unit {0}} (Err why) b → b ≡ a → c ≡ writes_at_mux_stop (call_stop why) a
-writes_by_call TakeFailed a b c counted same = counted ∙ same
-writes_by_call PutFailed a b c counted same = counted ∙ ap one_more same
+pub writes_by_call : (why : CallStop) (a b c d : ℕ) → c ≡ (counted_at_call_stop why (d, b)).1 → b ≡ a → c ≡ writes_at_mux_stop (call_stop why) a
+writes_by_call TakeFailed a b c d counted same = counted ∙ same
+writes_by_call PutFailed a b c d counted same = counted ∙ ap one_more same

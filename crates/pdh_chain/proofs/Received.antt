@@ -1,20 +1,24 @@
 -- Bits that are given to a receiver, some after others.
-use Rattle.std.proofs.Common.{◌≡◌, ℕ, ◌+◌, ◌<◌, ◌≤◌, Bool, List, [], ◌∷◌, ◌++◌, length, refl, sym, ap, subst, ◌∙◌, arith, append_assoc}
+use Rattle.std.proofs.Common.{◌≡◌, ℕ, ◌+◌, ◌<◌, ◌≤◌, Bool, List, [], ◌++◌, length, refl, sym, ap, subst, ◌∙◌, arith, Ok, Err}
 use Rattle.std.proofs.lemmas.List.{append-nil, length-append}
 use Rattle.pdh_edge.specs.Counts.{one_more}
 use Rattle.pdh_edge.specs.Files.{Rose}
 use Rattle.pdh_edge.specs.Ports.{Inputs, Outputs, Takes, nothing, faults_fed, before as told_before}
+use Rattle.pdh_edge.specs.declared.port.Feed as feed
+use Rattle.pdh_edge.specs.declared.port.Drain as drain
 use Rattle.pdh_edge.specs.declared.port.FeedStop.{FeedStop}
 use Rattle.pdh_edge.specs.declared.port.FeedStop.TheVariants.{Failed, Ended}
+use Rattle.pdh_edge.proofs.Progress.{both_counts}
+use Rattle.pdh_edge.proofs.Runs.{rose_of, rose_of_feed}
 use Rattle.pdh_watch.specs.declared.event.Event.{Event}
 use Rattle.pdh_events.specs.Chain.{bits_events}
 use Rattle.pdh_events.specs.laws.QuietLaws.{events_join}
 use Rattle.pdh_rx.specs.Meaning.{Meaning, Gains, TakesBits, TakesPart}
 use Rattle.pdh_rx.proofs.Gains.{gains_nothing, gains_join, part_after}
+use Rattle.pdh_chain.specs.Calls.{ReceivesFirst}
 use Rattle.pdh_chain.specs.Demuxing.{Receives, ReceivesFewer, IsReceiveStop, SeesPart, feed_stop}
-use Rattle.pdh_chain.specs.Faults.{reads_at_demux_stop, writes_at_demux_stop}
+use Rattle.pdh_chain.specs.Faults.{counted_at_demux_stop}
 use Rattle.pdh_chain.specs.Muxing.{as_line}
-use Rattle.pdh_chain.specs.declared.stop.DemuxStop.{DemuxStop}
 use Rattle.pdh_chain.specs.declared.stop.DemuxStop.TheVariants.{WriteFailed}
 use Rattle.pdh_chain.proofs.Lists.{takes_then, takes_line, takes_no_line}
 
@@ -29,7 +33,7 @@ receives_none m stands sees x o here seen = record {
 }
 
 -- more bits
-pub receives_more : (m now : Meaning) (stands next : List Bool → Type 0) (sees sees_next : List Event → Type 0) (n count : ℕ) (bits : List Bool) (x y z z' : Inputs) (o p p' q : Outputs) → now ≡ m → z' ≡ z → p' ≡ p → length bits ≡ count → Receives m stands sees n x y o p
+receives_more : (m now : Meaning) (stands next : List Bool → Type 0) (sees sees_next : List Event → Type 0) (n count : ℕ) (bits : List Bool) (x y z z' : Inputs) (o p p' q : Outputs) → now ≡ m → z' ≡ z → p' ≡ p → length bits ≡ count → Receives m stands sees n x y o p
     → Takes (as_line bits) y z → TakesBits now bits stands next p' q → ((line : List Bool) (events : List Event) → stands line → sees events → sees_next (events ++ bits_events now.notes line bits)) → Receives m next sees_next (n + count) x z' o q
 receives_more m now stands next sees sees_next n count bits x y z z' o p p' q same inputs outputs long before takes taken notes =
     let here : TakesBits m bits stands next p q = subst (λ o. TakesBits m bits stands next o q) outputs (subst (λ (m : Meaning). TakesBits m bits stands next p' q) same taken) in
@@ -60,7 +64,7 @@ fewer m stands sees n bits x y z o p p' less outputs before takes =
       seen = before.seen;
     }
 
-pub feed_stops : (m : Meaning) (stands : List Bool → Type 0) (sees : List Event → Type 0) (n bits : ℕ) (x y z : Inputs) (o p p' : Outputs) (first reads now writes writes_now : ℕ) (why : FeedStop) → n < bits → p' ≡ p → Receives m stands sees n x y o p → Takes nothing y z
+feed_stops : (m : Meaning) (stands : List Bool → Type 0) (sees : List Event → Type 0) (n bits : ℕ) (x y z : Inputs) (o p p' : Outputs) (first reads now writes writes_now : ℕ) (why : FeedStop) → n < bits → p' ≡ p → Receives m stands sees n x y o p → Takes nothing y z
     → first ≤ reads → (why ≡ Failed → Rose reads now) → (why ≡ Ended → y.left 0 ≡ 0) → IsReceiveStop m sees bits x z o p' first now writes writes_now (feed_stop why)
 feed_stops m stands sees n bits x y z o p p' first reads now writes writes_now Failed less outputs before takes later failed ended = (omega (arith, later, failed refl), fewer m stands sees n bits x y z o p p' less outputs before takes)
 feed_stops m stands sees n bits x y z o p p' first reads now writes writes_now Ended less outputs before takes later failed ended = (
@@ -70,16 +74,12 @@ feed_stops m stands sees n bits x y z o p p' first reads now writes writes_now E
 )
 
 -- the counts of faults where the line gives no bit
-pub feed_reads : (why : FeedStop) (a b c : ℕ) → c ≡ faults_fed why b → b ≡ a → c ≡ reads_at_demux_stop (feed_stop why) a
-feed_reads Failed a b c counted same = counted ∙ ap one_more same
-feed_reads Ended a b c counted same = counted ∙ same
-
-pub feed_writes : (why : FeedStop) (a c : ℕ) → c ≡ a → c ≡ writes_at_demux_stop (feed_stop why) a
-feed_writes Failed a c same = same
-feed_writes Ended a c same = same
+feed_counts : (why : FeedStop) (r r' w w' : ℕ) → r' ≡ faults_fed why r → w' ≡ w → ◌≡◌ {A = ℕ × ℕ} (r', w') (counted_at_demux_stop (feed_stop why) (r, w))
+feed_counts Failed r r' w w' counted same = both_counts counted same
+feed_counts Ended r r' w w' counted same = both_counts counted same
 
 -- bits of which not all could be put that the leaves got by them
-pub put_stops : (m now : Meaning) (stands : List Bool → Type 0) (sees sees_next : List Event → Type 0) (n all : ℕ) (bits : List Bool) (x y z z' : Inputs) (o p p' q : Outputs) (reads reads_now first writes writes_now : ℕ) → now ≡ m → z' ≡ z → p' ≡ p → n + length bits ≤ all → Receives m stands sees n x y o p
+put_stops : (m now : Meaning) (stands : List Bool → Type 0) (sees sees_next : List Event → Type 0) (n all : ℕ) (bits : List Bool) (x y z z' : Inputs) (o p p' q : Outputs) (reads reads_now first writes writes_now : ℕ) → now ≡ m → z' ≡ z → p' ≡ p → n + length bits ≤ all → Receives m stands sees n x y o p
     → Takes (as_line bits) y z → TakesPart now bits stands p' q → ((line : List Bool) (events : List Event) → stands line → sees events → SeesPart sees_next (events ++ bits_events now.notes line bits)) → first ≤ writes → Rose writes writes_now
     → IsReceiveStop m sees_next all x z' o q reads reads_now first writes_now WriteFailed
 put_stops m now stands sees sees_next n all bits x y z z' o p p' q reads reads_now first writes writes_now same inputs outputs upto before takes taken notes later rose =
@@ -96,3 +96,37 @@ put_stops m now stands sees sees_next n all bits x y z z' o p p' q reads reads_n
             subst (SeesPart sees_next) (sym (events_join m.notes [] before.given bits)) step;
       },
     )
+
+-- ---- a port that gives a receiver its line
+
+module _ {P : Type 0} (feeds : feed.Ghosts P) (drains : drain.Ghosts P) (keeps : P → P → Type 0) (m : Meaning) (stands : List Bool → Type 0) (sees : List Event → Type 0) (n all : ℕ) (a b : P) (join : (c : P) → keeps a b → keeps b c → keeps a c) (before : ReceivesFirst {T = Unit {0}} feeds drains keeps m stands sees n all a b (Ok tt)) where
+  -- a call for bits gave none
+  pub feed_fails : (next : List Bool → Type 0) (c : P) (why : FeedStop) → n < all → keeps b c → (drains.outputs c ≡ drains.outputs b) × (drains.drain_faults c ≡ drains.drain_faults b) → Takes nothing (feeds.inputs b) (feeds.inputs c)
+      → feeds.feed_faults c ≡ faults_fed why (feeds.feed_faults b) → (why ≡ Ended → (feeds.inputs b).left 0 ≡ 0) → ReceivesFirst {T = Unit {0}} feeds drains keeps m next sees all all a c (Err (feed_stop why))
+  feed_fails next c why less kept same takes counted ended =
+      let reads : feeds.feed_faults b ≡ feeds.feed_faults a = ap (λ (k : ℕ × ℕ). k.0) before.counts in
+      record {
+        kept = join c before.kept kept;
+        counts = feed_counts why _ _ _ _ (counted ∙ ap (faults_fed why) reads) (same.1 ∙ ap (λ (k : ℕ × ℕ). k.1) before.counts);
+        does = feed_stops m stands sees n all _ _ _ _ _ _ (feeds.feed_faults a) (feeds.feed_faults b) (feeds.feed_faults c) (drains.drain_faults a) (drains.drain_faults c) why less same.0 before.does takes (omega (arith, reads)) (rose_of_feed why _ _ counted) ended;
+      }
+
+  -- bits were taken, and what the leaves got by them was put, or not all of it
+  module _ (now : Meaning) (next : List Bool → Type 0) (sees_next : List Event → Type 0) (bits : List Bool) (c d : P) (kept : keeps b d) (fed : (drains.outputs c ≡ drains.outputs b) × (drains.drain_faults c ≡ drains.drain_faults b)) (drained : (feeds.inputs d ≡ feeds.inputs c) × (feeds.feed_faults d ≡ feeds.feed_faults c)) (same : now ≡ m) (read : feeds.feed_faults c ≡ feeds.feed_faults b) (takes : Takes (as_line bits) (feeds.inputs b) (feeds.inputs c)) where
+    pub bits_received : (count : ℕ) → length bits ≡ count → TakesBits now bits stands next (drains.outputs c) (drains.outputs d) → ((line : List Bool) (events : List Event) → stands line → sees events → sees_next (events ++ bits_events now.notes line bits))
+        → drains.drain_faults d ≡ drains.drain_faults c → ReceivesFirst {T = Unit {0}} feeds drains keeps m next sees_next (n + count) all a d (Ok tt)
+    bits_received count long taken notes written = record {
+      kept = join d before.kept kept;
+      counts = both_counts (drained.1 ∙ read) (written ∙ fed.1) ∙ before.counts;
+      does = receives_more m now stands next sees sees_next n count bits _ _ _ _ _ _ _ _ same drained.0 fed.0 long before.does takes taken notes;
+    }
+
+    pub put_fails : n + length bits ≤ all → TakesPart now bits stands (drains.outputs c) (drains.outputs d) → ((line : List Bool) (events : List Event) → stands line → sees events → SeesPart sees_next (events ++ bits_events now.notes line bits))
+        → drains.drain_faults d ≡ one_more (drains.drain_faults c) → ReceivesFirst {T = Unit {0}} feeds drains keeps m next sees_next all all a d (Err WriteFailed)
+    put_fails upto taken notes counted =
+        let writes : drains.drain_faults c ≡ drains.drain_faults a = fed.1 ∙ ap (λ (k : ℕ × ℕ). k.1) before.counts in
+        record {
+          kept = join d before.kept kept;
+          counts = both_counts (drained.1 ∙ read ∙ ap (λ (k : ℕ × ℕ). k.0) before.counts) (counted ∙ ap one_more writes);
+          does = put_stops m now stands sees sees_next n all bits _ _ _ _ _ _ _ _ (feeds.feed_faults a) (feeds.feed_faults d) (drains.drain_faults a) (drains.drain_faults c) (drains.drain_faults d) same drained.0 fed.0 upto before.does takes taken notes (omega (arith, writes)) (rose_of _ _ counted);
+        }

@@ -1,10 +1,11 @@
 -- What the calls of this crate want of a port and leave of it, in words that their contracts share. `feeds` and `drains` are what
 -- is told of the port's kind as a feed and as an output, `old` and `new` the port before and after the call.
-use Rattle.std.specs.Prelude.{◌≡◌, ℕ, ◌+◌, ◌^◌, ◌<◌, ◌≤◌, Bool, false, List, length, Option, Result, OnOk, IsErrOf, IsTrue}
+use Rattle.std.specs.Prelude.{◌≡◌, ℕ, ◌+◌, ◌*◌, ◌^◌, ◌<◌, ◌≤◌, Bool, false, List, length, Option, Result, OnOk, IsErrOf, IsTrue}
 use Rattle.pdh_edge.specs.declared.port.Feed as feed
 use Rattle.pdh_edge.specs.declared.port.Drain as drain
 use Rattle.pdh_edge.specs.MemLists.{bits_held}
 use Rattle.pdh_edge.specs.Ports.{Inputs, Outputs}
+use Rattle.pdh_edge.specs.Progress.{Works, port_faults}
 use Rattle.pdh_shape.specs.declared.role.Service.{Service}
 use Rattle.pdh_shape.specs.declared.place.Level.{Level}
 use Rattle.pdh_shape.specs.Frame.{FrameShape}
@@ -21,6 +22,7 @@ use Rattle.pdh_chain.specs.Trees.{AreLevelsOf}
 use Rattle.pdh_chain.specs.Saying.{says_of}
 use Rattle.pdh_chain.specs.Muxing.{HasFrames, SayInFrames, IsFree, MakesBits, StopsMaking, Sends, IsSendStop, IsCallStop}
 use Rattle.pdh_chain.specs.Demuxing.{Receives, IsReceiveStop}
+use Rattle.pdh_chain.specs.Faults.{counted_at_call_stop, counted_at_demux_stop, counted_at_send_stop}
 use Rattle.pdh_chain.specs.Muxes.{Muxes, IsMuxStop}
 use Rattle.pdh_chain.specs.Demuxes.{Demuxes, IsDemuxStop, IsDemuxLeft}
 use Rattle.pdh_chain.specs.declared.sending.SendStop.{SendStop}
@@ -101,11 +103,6 @@ pub record RunsOn {T X E : Type 0} (sender : tx.Ghosts T) (old new : T) (result 
   pub same : sender.meaning new ≡ sender.meaning old
   pub running : OnOk result (sender.is_stopped new ≡ false)
 
--- the port's failed reads and failed writes were counted
-pub record HasCounted (reads reads_now writes writes_now : ℕ) : Type 0 where
-  pub reads_are : reads_now ≡ reads
-  pub writes_are : writes_now ≡ writes
-
 -- it made the bits of a frame, so many, whatever its frames say, as long as the one that they begin says what it says now
 abbrev pub MakesFrame : {T : Type 0} → tx.Ghosts T → T → T → Contents → ℕ → List Bool → Inputs → Inputs → Type 0
 MakesFrame sender old new schedule len bits before after =
@@ -139,6 +136,16 @@ CallStopsBy sender feeds drains t schedule feac len frames old new =
     IsCallStop (sender.meaning t) (says_of feac) (sender.stands_for t) (plan_of schedule) len frames (feeds.inputs old) (feeds.inputs new) (drains.outputs old) (drains.outputs new)
     (feeds.feed_faults old) (feeds.feed_faults new) (drains.drain_faults old) (drains.drain_faults new)
 
+-- so many frames were sent bit by bit, or this is why they weren't, with what the port keeps
+abbrev pub SendsFrames : {T P X : Type 0} → tx.Ghosts T → feed.Ghosts P → drain.Ghosts P → (P → P → Type 0) → T → T → Contents → Option ℕ → ℕ → ℕ → P → P → Result X SendStop → Type 0
+SendsFrames sender feeds drains keeps t t_now schedule feac len frames =
+    Works keeps (port_faults feeds drains) counted_at_send_stop (SendsBy sender feeds drains t t_now schedule feac (frames * len)) (λ stop old new. SendStopsBy sender feeds drains t schedule feac len frames old new stop)
+
+-- and made at once
+abbrev pub SendsClear : {T P X : Type 0} → tx.Ghosts T → feed.Ghosts P → drain.Ghosts P → (P → P → Type 0) → T → T → Contents → Option ℕ → ℕ → ℕ → P → P → Result X CallStop → Type 0
+SendsClear sender feeds drains keeps t t_now schedule feac len frames =
+    Works keeps (port_faults feeds drains) counted_at_call_stop (SendsBy sender feeds drains t t_now schedule feac (frames * len)) (λ stop old new. CallStopsBy sender feeds drains t schedule feac len frames old new stop)
+
 -- ---- receivers
 
 -- each leaf has a list to put to, and the line one to take of
@@ -155,3 +162,8 @@ abbrev pub ReceiveStopsBy : {P : Type 0} → feed.Ghosts P → drain.Ghosts P �
 ReceiveStopsBy feeds drains m sees bits old new =
     IsReceiveStop m sees bits (feeds.inputs old) (feeds.inputs new) (drains.outputs old) (drains.outputs new)
     (feeds.feed_faults old) (feeds.feed_faults new) (drains.drain_faults old) (drains.drain_faults new)
+
+-- it got its first bits, so many, or this is why it didn't get all of them, with what the port keeps
+abbrev pub ReceivesFirst : {P T : Type 0} → feed.Ghosts P → drain.Ghosts P → (P → P → Type 0) → Receiving → (List Bool → Type 0) → (List Event → Type 0) → ℕ → ℕ → P → P → Result T DemuxStop → Type 0
+ReceivesFirst feeds drains keeps m stands sees bits all =
+    Works keeps (port_faults feeds drains) counted_at_demux_stop (ReceivesBy feeds drains m stands sees bits) (λ stop old new. ReceiveStopsBy feeds drains m sees all old new stop)

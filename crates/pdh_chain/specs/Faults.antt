@@ -12,23 +12,15 @@ use Rattle.pdh_chain.specs.declared.stop.MuxStop.TheVariants.{ReadFailed as MuxR
 use Rattle.pdh_chain.specs.declared.stop.DemuxStop.{DemuxStop}
 use Rattle.pdh_chain.specs.declared.stop.DemuxStop.TheVariants.{ReadFailed, WriteFailed}
 
--- after frames were sent bit by bit
-abbrev pub send_reads : {T : Type 0} → Result T SendStop → ℕ → ℕ
-send_reads (Err (Sender stop)) faults = faults_met stop faults
-send_reads result faults = faults
-
-abbrev pub send_writes : {T : Type 0} → Result T SendStop → ℕ → ℕ
-send_writes (Err SendFailed) faults = one_more faults
-send_writes result faults = faults
+-- after frames were sent bit by bit, by how that stopped
+abbrev pub counted_at_send_stop : SendStop → ℕ × ℕ → ℕ × ℕ
+counted_at_send_stop (Sender stop) faults = (faults_met stop faults.0, faults.1)
+counted_at_send_stop SendFailed faults = (faults.0, one_more faults.1)
 
 -- after frames were sent at once
-abbrev pub call_reads : {T : Type 0} → Result T CallStop → ℕ → ℕ
-call_reads (Err TakeFailed) faults = one_more faults
-call_reads result faults = faults
-
-abbrev pub call_writes : {T : Type 0} → Result T CallStop → ℕ → ℕ
-call_writes (Err PutFailed) faults = one_more faults
-call_writes result faults = faults
+abbrev pub counted_at_call_stop : CallStop → ℕ × ℕ → ℕ × ℕ
+counted_at_call_stop TakeFailed faults = (one_more faults.0, faults.1)
+counted_at_call_stop PutFailed faults = (faults.0, one_more faults.1)
 
 -- after `mux`, by how it stopped
 abbrev pub reads_at_mux_stop : MuxStop → ℕ → ℕ
@@ -55,6 +47,10 @@ reads_at_demux_stop stop faults = faults
 abbrev pub writes_at_demux_stop : DemuxStop → ℕ → ℕ
 writes_at_demux_stop WriteFailed faults = one_more faults
 writes_at_demux_stop stop faults = faults
+
+-- both counts
+abbrev pub counted_at_demux_stop : DemuxStop → ℕ × ℕ → ℕ × ℕ
+counted_at_demux_stop stop faults = (reads_at_demux_stop stop faults.0, writes_at_demux_stop stop faults.1)
 
 abbrev pub demux_reads : {T : Type 0} → Result T DemuxStop → ℕ → ℕ
 demux_reads (Ok done) faults = faults

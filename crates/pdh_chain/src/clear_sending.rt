@@ -1,8 +1,7 @@
 //! Sending a line in whose way nothing stands, a frame at a time.
 
-ghost use Rattle.std.specs.Prelude.{◌≤◌, ◌<◌, ◌*◌, OnOk, IfErr, IfSome};
-ghost use Rattle.pdh_chain.specs.Calls.{IsAtStart, IsLinked, RunsOn, HasCounted, StartsFree, SendsBy, CallStopsBy};
-ghost use Rattle.pdh_chain.specs.Faults.{call_reads, call_writes};
+ghost use Rattle.std.specs.Prelude.{◌≤◌, ◌<◌, ◌*◌, IfSome};
+ghost use Rattle.pdh_chain.specs.Calls.{IsAtStart, IsLinked, RunsOn, StartsFree, SendsClear};
 
 use crate::multiplexer::Multiplexer;
 use crate::saying::{channel_of, next_service};
@@ -36,13 +35,8 @@ pub fn send_clear_frames<T: Multiplexer, P: Port>(
     requires code { IfSome feac (λ code. code < 64) }
     requires free { StartsFree T.Tx sender.old clock.now (frames * len) (P.inputs port.old) }
     requires room { len ≤ frame.old.capacity }
-    ensures sent { OnOk result (SendsBy T.Tx P.Feed P.Drain sender.old sender.new clock.now feac (frames * len)
-        port.old port.new) }
-    ensures err { IfErr result (CallStopsBy T.Tx P.Feed P.Drain sender.old clock.now feac len frames port.old port.new) }
+    ensures sent { SendsClear T.Tx P.Feed P.Drain P.kept sender.old sender.new clock.now feac len frames port.old port.new result }
     ensures runs { RunsOn T.Tx sender.old sender.new result }
-    ensures kept { P.kept port.old port.new }
-    ensures counted { HasCounted (call_reads result (P.feed_faults port.old)) (P.feed_faults port.new)
-        (call_writes result (P.drain_faults port.old)) (P.drain_faults port.new) }
 {
     let mut channel = channel_of(feac);
     for _whole in 0..frames {

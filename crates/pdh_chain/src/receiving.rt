@@ -1,10 +1,10 @@
 //! `demux` of a chain by the types of its nodes. Its receiver gets the line many bits at a time.
 
-ghost use Rattle.std.specs.Prelude.{◌≡◌, ◌<◌, ◌≤◌, ◌^◌, [], IfOk, IfErr, OnOk, IsErrOf, ◌∷◌, Err};
+ghost use Rattle.std.specs.Prelude.{◌≡◌, ◌<◌, ◌≤◌, ◌^◌, [], IfOk, IfErr, IsErrOf, ◌∷◌, Err};
 ghost use Rattle.pdh_nesting.specs.Chains.{width};
 ghost use Rattle.pdh_chain.specs.declared.stop.DemuxStop.TheVariants.{Memory, ReadFailed};
 ghost use Rattle.pdh_chain.specs.Faults.{demux_reads, demux_writes};
-ghost use Rattle.pdh_chain.specs.Calls.{AreFew, IsPortFor, DemuxesBy, DemuxStopsBy, IsLeft, IsLinkedTo, ReceivesBy, ReceiveStopsBy};
+ghost use Rattle.pdh_chain.specs.Calls.{AreFew, IsPortFor, DemuxesBy, DemuxStopsBy, IsLeft, IsLinkedTo, ReceivesFirst};
 
 use crate::stop::DemuxStop;
 use crate::trees::ChainRx;
@@ -41,13 +41,8 @@ fn receive<R: Rx, P: Port, W: Watch>(
     requires some { 0 < buffer.old.capacity }
     requires stands { R.stands receiver.old [] }
     requires port { IsLinkedTo (R.meaning receiver.old) (P.inputs port.old) (P.outputs port.old) }
-    ensures received { OnOk result (ReceivesBy P.Feed P.Drain (R.meaning receiver.old) (R.stands receiver.new)
-        (λ events. W.saw watch.old events watch.new) bits port.old port.new) }
-    ensures stops { IfErr result (ReceiveStopsBy P.Feed P.Drain (R.meaning receiver.old)
-        (λ events. W.saw watch.old events watch.new) bits port.old port.new) }
-    ensures kept { P.kept port.old port.new }
-    ensures reads { P.feed_faults port.new ≡ demux_reads result (P.feed_faults port.old) }
-    ensures writes { P.drain_faults port.new ≡ demux_writes result (P.drain_faults port.old) }
+    ensures received { ReceivesFirst P.Feed P.Drain P.kept (R.meaning receiver.old) (R.stands receiver.new)
+        (λ events. W.saw watch.old events watch.new) bits bits port.old port.new result }
     ensures unread { IsErrOf result ReadFailed → P.unread port.new 0 }
     ensures same { R.meaning receiver.new ≡ R.meaning receiver.old }
 {

@@ -1,9 +1,8 @@
 //! Sending a line that is made bit by bit: its whole frames, up to what stands in the way.
 
-ghost use Rattle.std.specs.Prelude.{◌≡◌, ◌≤◌, ◌<◌, ◌*◌, false, OnOk, IfErr, IfSome};
+ghost use Rattle.std.specs.Prelude.{◌≡◌, ◌≤◌, ◌<◌, false, OnOk, IfErr, IfSome};
 ghost use Rattle.pdh_tx.specs.Calls.{Draws, IsFed, IsKept, StandsBy};
-ghost use Rattle.pdh_chain.specs.Calls.{IsAtStart, IsLinked, RunsOn, HasCounted, MakesFrame, StopsInFrame, SendsBy, SendStopsBy};
-ghost use Rattle.pdh_chain.specs.Faults.{send_reads, send_writes};
+ghost use Rattle.pdh_chain.specs.Calls.{IsAtStart, IsLinked, RunsOn, MakesFrame, StopsInFrame, SendsFrames};
 
 use crate::multiplexer::Multiplexer;
 use crate::saying::{channel_of, next_service};
@@ -66,14 +65,9 @@ pub fn send_frames<T: Multiplexer, P: Port>(
     requires port { IsLinked (T.meaning sender.old) clock.now (P.inputs port.old) (P.outputs port.old) }
     requires code { IfSome feac (λ code. code < 64) }
     requires room { len ≤ frame.old.capacity }
-    ensures sent { OnOk result (SendsBy T.Tx P.Feed P.Drain sender.old sender.new clock.now feac (frames * len)
-        port.old port.new) }
-    ensures err { IfErr result (SendStopsBy T.Tx P.Feed P.Drain sender.old clock.now feac len frames port.old port.new) }
+    ensures sent { SendsFrames T.Tx P.Feed P.Drain P.kept sender.old sender.new clock.now feac len frames port.old port.new result }
     ensures runs { RunsOn T.Tx sender.old sender.new result }
     ensures room { frame.new.capacity ≡ frame.old.capacity }
-    ensures kept { P.kept port.old port.new }
-    ensures counted { HasCounted (send_reads result (P.feed_faults port.old)) (P.feed_faults port.new)
-        (send_writes result (P.drain_faults port.old)) (P.drain_faults port.new) }
 {
     let mut channel = channel_of(feac);
     for _whole in 0..frames {

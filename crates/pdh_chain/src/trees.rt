@@ -38,15 +38,10 @@ fn child_path(path: Path, trib: u8) -> Path
 }
 
 /// How the frames of a level are put together and taken apart, and those of the levels below.
+#[derive(Drop)]
 pub struct LevelLayouts<S: Shape, T: Drop> {
     here: Rc<Layout<S>>,
     below: T,
-}
-
-impl<S: Shape, T: Drop> Drop for LevelLayouts<S, T> {
-    fn drop(self) {
-        let Self { here: _, below: _ } = self;
-    }
 }
 
 impl<S: Shape, T: Drop> LevelLayouts<S, T> {

@@ -1,8 +1,7 @@
 -- The definitions on worked texts.
-use Rattle.std.proofs.Common.{◌≡◌, ℕ, false, List, [], ◌∷◌, ◌++◌, length, take, Some, None, Result, Ok, Err, refl}
+use Rattle.std.proofs.Common.{◌≡◌, ℕ, List, [], ◌∷◌, ◌++◌, length, take, Some, None, Result, Ok, Err, refl}
 use Rattle.std.specs.Prelude.{codes, replicate}
-use Rattle.pdh_shape.specs.declared.place.Level.{Level}
-use Rattle.pdh_levels.proofs.Worked.{ds3_locked, ds2_locked}
+use Rattle.pdh_levels.proofs.Worked.{e2, e3, e4, ds3_locked, ds2_locked}
 use Rattle.pdh_clock.specs.declared.fault.ScheduleFault.{ScheduleFault}
 use Rattle.pdh_clock.specs.declared.fault.ScheduleFault.TheVariants.{BadRow, UnknownNode, CountOver}
 use Rattle.pdh_line.specs.Progress.{arrived}
@@ -17,36 +16,6 @@ use Rattle.pdh_clock.specs.Begun.{bits_made, bits_entered, frames_begun, shortag
 -- a line and its line feed
 abbrev line : List ℕ → List ℕ
 line bytes = bytes ++ 10 ∷ []
-
--- the level of one 8448 kbit/s multiplexer, and that of a 34368 kbit/s one
-abbrev e2 : Level
-e2 = record {
-  len = 848;
-  tribs = 4;
-  low = 205;
-  locked = false;
-  rate = 8448000;
-  per = 1;
-  ppm = 30;
-  trib_rate = 2048000;
-  trib_per = 1;
-  trib_ppm = 50;
-}
-
-abbrev e3 : Level
-e3 = record {
-  len = 1536;
-  tribs = 4;
-  low = 377;
-  locked = false;
-  rate = 34368000;
-  per = 1;
-  ppm = 20;
-  trib_rate = 8448000;
-  trib_per =
-      1;
-  trib_ppm = 30;
-}
 
 abbrev read : List ℕ → Result (List Row) ScheduleFault
 read text = schedule_of (e2 ∷ []) text
@@ -155,21 +124,6 @@ totals = refl
 nodes_in_order : nodes_in (e3 ∷ e2 ∷ []) ≡ [] ∷ (1 ∷ []) ∷ (2 ∷ []) ∷ (3 ∷ []) ∷ (4 ∷ []) ∷ []
 nodes_in_order = refl
 
--- the level of one 139264 kbit/s multiplexer
-abbrev e4 : Level
-e4 = record {
-  len = 2928;
-  tribs = 4;
-  low = 722;
-  locked = false;
-  rate = 139264000;
-  per = 1;
-  ppm = 15;
-  trib_rate = 34368000;
-  trib_per = 1;
-  trib_ppm = 20;
-}
-
 nodes_of_three_levels : (length (nodes_in (e4 ∷ e3 ∷ e2 ∷ [])) ≡ 21)
     × (take 7 (nodes_in (e4 ∷ e3 ∷ e2 ∷ [])) ≡ [] ∷ (1 ∷ []) ∷ (1 ∷ 1 ∷ []) ∷ (1 ∷ 2 ∷ []) ∷ (1 ∷ 3 ∷ []) ∷ (1 ∷ 4 ∷ []) ∷ (2 ∷ []) ∷ [])
 nodes_of_three_levels = (refl, refl)
@@ -182,7 +136,7 @@ rows_by_nodes : by_nodes (e3 ∷ e2 ∷ []) rows
     ≡ row 2 (206 ∷ 205 ∷ []) ∷ row 1 (3 ∷ 4 ∷ []) ∷ record { path = 1 ∷ []; repeat = 5; counts = 7 ∷ 7 ∷ [] } ∷ []
 rows_by_nodes = refl
 
--- three frames of a 34368 kbit/s top that brings 377 bits a frame begin two frames of its first tributary: 24 + 3 · 377 = 1155 bits
+-- three frames of a 34368 kbit/s top that brings 377 bits a frame begin two frames of its first tributary: 48 + 3 · 377 = 1179 bits
 abbrev below : Contents
 below = record { levels = e3 ∷ e2 ∷ []; rows = row 3 (377 ∷ 377 ∷ 377 ∷ 377 ∷ []) ∷ [] }
 
@@ -215,8 +169,8 @@ bits_below_locked : (bits_made locked_top 17 (1 ∷ []) ≡ 11407) × (frames_be
 unfolding arrived frames_of frames_begun
 bits_below_locked = (refl, refl, refl, refl)
 
--- so that a leaf enters 24 + 10 · 288 = 2904 bits
-entered_below_locked : (bits_entered locked_top 17 0 ≡ 2904) × (bits_entered locked_top 17 3 ≡ 2904) × (bits_entered locked_top 0 0 ≡ 0)
+-- so that a leaf enters 48 + 10 · 288 = 2928 bits
+entered_below_locked : (bits_entered locked_top 17 0 ≡ 2928) × (bits_entered locked_top 17 3 ≡ 2928) × (bits_entered locked_top 0 0 ≡ 0)
 unfolding arrived frames_of entered_at
 entered_below_locked = (refl, refl, refl)
 

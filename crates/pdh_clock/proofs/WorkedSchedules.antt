@@ -1,9 +1,8 @@
 -- Worked schedules, computed by the checker.
-use Rattle.std.proofs.Common.{◌≡◌, List, [], ◌∷◌, false, refl}
+use Rattle.std.proofs.Common.{◌≡◌, List, [], ◌∷◌, refl}
 use Rattle.std.specs.Prelude.{replicate, codes}
 use Rattle.std.specs.Fmt.{digits}
-use Rattle.pdh_shape.specs.declared.place.Level.{Level}
-use Rattle.pdh_levels.proofs.Worked.{ds3_locked, ds2_locked}
+use Rattle.pdh_levels.proofs.Worked.{e2, e3, ds3_locked, ds2_locked}
 use Rattle.pdh_clock.specs.declared.bias.Bias.TheVariants.{Nominal, Fast, Slow, Mixed}
 use Rattle.pdh_clock.specs.declared.bias.Offset.TheVariants.{Exact, Ahead, Behind}
 use Rattle.pdh_clock.specs.declared.bias.Bias.{Bias}
@@ -15,49 +14,20 @@ use Rattle.pdh_clock.specs.Made.{made, made_frames, offset_of, tributary_offset}
 use Rattle.pdh_clock.specs.Written.{longest_rows, text_of, text_with}
 
 -- four streams of 2048 kbit/s in one of 8448 kbit/s
-abbrev level : Level
-level = record {
-  len = 848;
-  tribs = 4;
-  low = 205;
-  locked = false;
-  rate = 8448000;
-  per = 1;
-  ppm = 30;
-  trib_rate = 2048000;
-  trib_per = 1;
-  trib_ppm = 50;
-}
-
-pub nominal_frames : made (level ∷ []) Nominal 3 [] ≡ replicate 4 205 ∷ replicate 4 206 ∷ replicate 4 205 ∷ []
+pub nominal_frames : made (e2 ∷ []) Nominal 3 [] ≡ replicate 4 205 ∷ replicate 4 206 ∷ replicate 4 205 ∷ []
 unfolding made made_frames
 nominal_frames = refl
 
-pub nominal_text : text_of (record { levels = level ∷ []; rows = longest_rows [] (replicate 4 205 ∷ replicate 4 206 ∷ replicate 4 206 ∷ []) }) ≡ codes "/ 1 205 205 205 205\n/ 2 206 206 206 206\n"
+pub nominal_text : text_of (record { levels = e2 ∷ []; rows = longest_rows [] (replicate 4 205 ∷ replicate 4 206 ∷ replicate 4 206 ∷ []) }) ≡ codes "/ 1 205 205 205 205\n/ 2 206 206 206 206\n"
 unfolding text_with frames_of digits
 nominal_text = refl
 
--- such a stream as the first of four in one of 34368 kbit/s
-abbrev above : Level
-above = record {
-  len = 1536;
-  tribs = 4;
-  low = 377;
-  locked = false;
-  rate = 34368000;
-  per = 1;
-  ppm = 20;
-  trib_rate = 8448000;
-  trib_per = 1;
-  trib_ppm = 30;
-}
-
--- three frames above bring 1132 bits, which with the lead of 24 begin two frames
-pub frames_below : made (above ∷ level ∷ []) Nominal 3 (1 ∷ []) ≡ replicate 4 205 ∷ replicate 4 206 ∷ []
+-- such a stream is the first of four in one of 34368 kbit/s: three frames of that bring 1132 bits, which with the lead of 48 begin two frames
+pub frames_below : made (e3 ∷ e2 ∷ []) Nominal 3 (1 ∷ []) ≡ replicate 4 205 ∷ replicate 4 206 ∷ []
 unfolding made made_frames arrived
 frames_below = refl
 
-pub no_node_below : made (above ∷ level ∷ []) Nominal 3 (5 ∷ []) ≡ []
+pub no_node_below : made (e3 ∷ e2 ∷ []) Nominal 3 (5 ∷ []) ≡ []
 unfolding made made_frames
 no_node_below = refl
 

@@ -19,6 +19,7 @@ pub type Ds3 = BlockFrame<Ds3Plan>;
 pub type Ds3C = BlockFrame<Ds3cPlan>;
 
 /// The frame of a plan.
+#[derive(Drop)]
 pub struct BlockFrame<P> {
     of: PhantomData<P>,
 }

@@ -45,7 +45,7 @@ pub struct BlockPlace {
 }
 
 /// A frame of subframes of blocks, told by its numbers, its overhead slots and its service bits.
-pub trait InBlocks {
+pub trait InBlocks: Drop {
     ghost PLAN: { BlockPlan };
 
     /// The numbers.

@@ -25,6 +25,7 @@ pub const DS2_PLAN: BlockPlan = BlockPlan {
 };
 
 /// The plan of the DS2 frame of ANSI T1.107, of the M12 multiplexer.
+#[derive(Drop)]
 pub struct Ds2Plan;
 
 impl InBlocks for Ds2Plan {
@@ -105,6 +106,7 @@ pub const DS3_PLAN: BlockPlan = BlockPlan {
 };
 
 /// The plan of the DS3 frame of ANSI T1.107, in the M23 application.
+#[derive(Drop)]
 pub struct Ds3Plan;
 
 impl InBlocks for Ds3Plan {
@@ -170,6 +172,7 @@ pub const DS3C_PLAN: BlockPlan = BlockPlan {
 
 /// The plan of the DS3 frame of ANSI T1.107 with C-bit parity: no bit is justified, each justifiable slot carries nothing, and
 /// the C bits are service bits.
+#[derive(Drop)]
 pub struct Ds3cPlan;
 
 impl InBlocks for Ds3cPlan {

@@ -23,6 +23,9 @@ when_then : (xs ys : List Bool) (here : Bool) → cond here xs [] ++ cond here y
 when_then xs ys true = refl
 when_then xs ys false = refl
 
+pub for_leaf_none : (t k : ℕ) → [] ≡ for_leaf t [] k
+for_leaf_none t k = when_none (k == t)
+
 pub for_leaf_then : (t : ℕ) (xs ys : List Bool) (k : ℕ) → for_leaf t xs k ++ for_leaf t ys k ≡ for_leaf t (xs ++ ys) k
 for_leaf_then t xs ys k = when_then xs ys (k == t)
 

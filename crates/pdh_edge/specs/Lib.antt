@@ -9,3 +9,4 @@ pub mod MemOutput
 pub mod NeverFails
 pub mod Plan
 pub mod Ports
+pub mod Progress

@@ -13,6 +13,7 @@ mod plan;
 mod port;
 mod shelf;
 mod sink;
+mod taking;
 
 pub use laws::no_put_into_room_fails;
 pub use mem_port::MemPort;
@@ -22,3 +23,4 @@ pub use never_fails::NeverFails;
 pub use port::{Drain, Feed, FeedStop, Port};
 pub use shelf::{Call, Failed, Shelf};
 pub use sink::Sink;
+pub use taking::take_bits;

@@ -17,16 +17,18 @@ turns (suc n) = Info 0 ∷ Info 1 ∷ Info 2 ∷ Info 3 ∷ turns n
 abbrev pub controls_of : ℕ → List Role
 controls_of copy = Control 0 copy ∷ Control 1 copy ∷ Control 2 copy ∷ Control 3 copy ∷ []
 
--- G.742, Table 1, set by set: the signal, the alarm, the national bit and 200 tributary bits; a control bit of each
--- tributary and 208 tributary bits, twice; the control bits, the justifiable bits and 204 tributary bits
-abbrev pub e2_table : List Role
-e2_table =
-    (map Align e2_signal ++ Service 0 ∷ Service 1 ∷ turns 50)
-    ++ (controls_of 0 ++ turns 52)
-    ++ (controls_of 1 ++ turns 52)
-    ++ (controls_of 2 ++ Just 0 ∷ Just 1 ∷ Just 2 ∷ Just 3 ∷ turns 51)
+-- A frame of three control bits for each tributary, set by set: the signal, the alarm, the national bit and tributary bits; a
+-- control bit of each tributary and tributary bits, twice; the control bits, the justifiable bits and tributary bits. The
+-- numbers say how often the tributaries take their turns in the first set, in those between and in the last.
+abbrev pub table_of : ℕ → ℕ → ℕ → List Role
+table_of first between last =
+    (map Align e2_signal ++ Service 0 ∷ Service 1 ∷ turns first)
+    ++ (controls_of 0 ++ turns between)
+    ++ (controls_of 1 ++ turns between)
+    ++ (controls_of 2 ++ Just 0 ∷ Just 1 ∷ Just 2 ∷ Just 3 ∷ turns last)
 
-pub e2_roles : map e2.role (slots e2) ≡ e2_table
+-- G.742, Table 1: 200, 208, 208 and 204 tributary bits
+pub e2_roles : map e2.role (slots e2) ≡ table_of 50 52 51
 unfolding set_role
 e2_roles = refl
 

@@ -4,19 +4,11 @@ use Rattle.pdh_shape.specs.declared.role.Role.{Role}
 use Rattle.pdh_shape.specs.declared.role.Role.TheVariants.{Align, Service, Just}
 use Rattle.pdh_shape.specs.Frame.{slots}
 use Rattle.pdh_eframes.specs.Sets.{set_role}
-use Rattle.pdh_eframes.specs.Plans.{e2_signal, e3, e4, e4_signal}
-use Rattle.pdh_eframes.proofs.Worked.{turns, controls_of}
+use Rattle.pdh_eframes.specs.Plans.{e3, e4, e4_signal}
+use Rattle.pdh_eframes.proofs.Worked.{turns, controls_of, table_of}
 
--- 34368 kbit/s, set by set: the signal, the alarm, the national bit and 372 tributary bits; a control bit of each
--- tributary and 380 tributary bits, twice; the control bits, the justifiable bits and 376 tributary bits
-abbrev pub e3_table : List Role
-e3_table =
-    (map Align e2_signal ++ Service 0 ∷ Service 1 ∷ turns 93)
-    ++ (controls_of 0 ++ turns 95)
-    ++ (controls_of 1 ++ turns 95)
-    ++ (controls_of 2 ++ Just 0 ∷ Just 1 ∷ Just 2 ∷ Just 3 ∷ turns 94)
-
-pub e3_roles : map e3.role (slots e3) ≡ e3_table
+-- 34368 kbit/s: 372, 380, 380 and 376 tributary bits
+pub e3_roles : map e3.role (slots e3) ≡ table_of 93 95 94
 unfolding set_role
 e3_roles = refl
 

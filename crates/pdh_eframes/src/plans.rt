@@ -14,6 +14,7 @@ pub const E2_PLAN: SetPlan = SetPlan {
 };
 
 /// The plan of ITU-T G.742, for E2.
+#[derive(Drop)]
 pub struct E2Plan;
 
 impl InSets for E2Plan {
@@ -49,6 +50,7 @@ pub const E3_PLAN: SetPlan = SetPlan {
 };
 
 /// The plan of ITU-T G.751 at 34368 kbit/s, for E3.
+#[derive(Drop)]
 pub struct E3Plan;
 
 impl InSets for E3Plan {
@@ -82,6 +84,7 @@ pub const E4_PLAN: SetPlan = SetPlan {
 };
 
 /// The plan of ITU-T G.751 at 139264 kbit/s, for E4.
+#[derive(Drop)]
 pub struct E4Plan;
 
 impl InSets for E4Plan {

@@ -19,6 +19,7 @@ pub type E3 = SetFrame<E3Plan>;
 pub type E4 = SetFrame<E4Plan>;
 
 /// The frame of a plan.
+#[derive(Drop)]
 pub struct SetFrame<P> {
     of: PhantomData<P>,
 }

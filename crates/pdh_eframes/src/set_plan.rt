@@ -29,7 +29,7 @@ pub struct SetPlan {
 
 /// A frame of four tributaries in sets of equal length, told by its numbers and its alignment
 /// signal.
-pub trait InSets {
+pub trait InSets: Drop {
     ghost PLAN: { SetPlan };
 
     /// The numbers.

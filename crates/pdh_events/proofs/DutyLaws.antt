@@ -1,5 +1,5 @@
 -- The slots of a duty, and their bits.
-use Rattle.std.proofs.Common.{◌≡◌, ℕ, zero, suc, ◌+◌, ◌<◌, ◌≤◌, Bool, true, false, not, ◌&&◌, ◌==◌, nat_lt, cond, List, [], ◌∷◌, ◌++◌, length, map, filter, All, get_or, slice_index_or, take, inl, inr, refl, sym, ap, ◌∙◌, subst, arith}
+use Rattle.std.proofs.Common.{◌≡◌, ℕ, zero, suc, ◌+◌, ◌<◌, ◌≤◌, Bool, true, false, not, Some, ◌&&◌, ◌==◌, nat_lt, cond, List, [], ◌∷◌, ◌++◌, length, map, filter, All, get_or, slice_index_or, take, inl, inr, refl, sym, ap, ◌∙◌, subst, arith}
 use Rattle.std.specs.Bool.{beq}
 use Rattle.std.specs.List.{range_with_len, list_any}
 use Rattle.std.proofs.lemmas.Bool.{lt-ltb, le-ltb, cases_Bool, false≢true}
@@ -8,7 +8,7 @@ use Rattle.std.proofs.lemmas.List.{map-append, length-map, take_all, take_more}
 use Rattle.std.proofs.lemmas.List.Elements.{All-filter, All-map, filter-append}
 use Rattle.std.proofs.lemmas.Simd.{map-map}
 use Rattle.pdh_shape.specs.declared.role.Duty.{Duty}
-use Rattle.pdh_shape.specs.declared.role.Duty.TheVariants.{Alarm}
+use Rattle.pdh_shape.specs.declared.role.Duty.TheVariants.{Alarm, Parity, PathParity}
 use Rattle.pdh_shape.specs.declared.role.Role.{Role}
 use Rattle.pdh_shape.specs.declared.role.Role.TheVariants.{Align, Service, Control, Just, Info}
 use Rattle.pdh_shape.specs.Frame.{FrameShape, slots as slots_of}
@@ -16,7 +16,7 @@ use Rattle.pdh_shape.specs.Payload.{is_payload}
 use Rattle.pdh_line.proofs.Ranges.{length-range}
 use Rattle.pdh_runs.specs.Tables.{is_overhead}
 use Rattle.pdh_events.specs.declared.alarm.AlarmSlot.{AlarmSlot}
-use Rattle.pdh_events.specs.Duties.{has_duty, slots_with, duty_bits, alarm_says, most_are_ones}
+use Rattle.pdh_events.specs.Duties.{has_duty, slots_with, duty_bits, alarm_says, most_are_ones, TellAlike}
 use Rattle.pdh_events.specs.Keeping.{alarm_slot, says_alarm, bits_at}
 
 -- ---- the slots
@@ -125,3 +125,17 @@ path_none bits slots empty odd e holds long =
 -- as many bits as slots
 pub bits_long : (s : FrameShape) (duty : Duty) (slots : List ℕ) (frame : List Bool) → slots ≡ slots_with s duty → length (duty_bits s duty frame) ≡ length slots
 bits_long s duty slots frame is = ap length (sym (bits_are s duty slots frame is)) ∙ length-map slots (λ slot. slice_index_or frame slot false)
+
+-- where no slot tells a parity, all of them are told alike
+pub tells_none : (s : FrameShape) → slots_with s Parity ≡ [] → slots_with s PathParity ≡ [] → (a b : Bool) → TellAlike s (Some a) (Some b)
+unfolding duty_bits
+tells_none s none path a b frame = rw (none, path) refl
+
+-- what was found to be empty
+pub none_there : (slots : List ℕ) (len : ℕ) (empty : Bool) → empty ≡ (len == 0) → empty ≡ true → length slots ≡ len → slots ≡ []
+none_there [] len empty e holds long = refl
+none_there (slot ∷ slots) len empty e holds long = absurd (let none : length (slot ∷ slots) ≤ 0 = grind (arith, nat_tests) in omega (arith, none))
+
+pub not_false : (b : Bool) → not b ≡ false → b ≡ true
+not_false true h = refl
+not_false false h = absurd (false≢true (sym h))

@@ -14,7 +14,7 @@ use Rattle.pdh_line.specs.Tracking.{Piece}
 use Rattle.pdh_line.specs.Tracking.Piece.{Gap, Delivered}
 use Rattle.pdh_cbit.specs.Channel.{HasReceived}
 use Rattle.pdh_events.specs.Telling.{event_of, tell, changed}
-use Rattle.pdh_events.specs.Duties.{frames_of, duty_bits, alarm_says, agreed, alarm_after, alarm_kinds, is_odd, odd_before, parity_kinds, febe_kinds, channel_bits, codes_answered, code_event, frame_events}
+use Rattle.pdh_events.specs.Duties.{frames_of, duty_bits, alarm_says, agreed, alarm_after, alarm_kinds, is_odd, odd_before, parity_kinds, TellAlike, febe_kinds, channel_bits, codes_answered, code_event, frame_events}
 use Rattle.pdh_events.specs.Keeping.{Kept, Remembers, codes_told}
 use Rattle.pdh_events.specs.laws.KeepingLaws.{frames_gap, frames_more, odd_gap, odd_more}
 
@@ -22,12 +22,12 @@ use Rattle.pdh_events.specs.laws.KeepingLaws.{frames_gap, frames_more, odd_gap, 
 
 pub remembers_none : (s : FrameShape) (kept : Kept) → kept.alarm ≡ false → kept.odd ≡ None → HasReceived kept.channel [] → Remembers s kept []
 unfolding alarm_after channel_bits
-remembers_none s kept alarm odd channel = record { alarm_is = alarm; odd_is = odd; channel_is = channel }
+remembers_none s kept alarm odd channel = record { alarm_is = alarm; odd_is = λ frame. ap (λ odd. parity_kinds s odd frame) odd; channel_is = channel }
 
 pub remembers_lost : (s : FrameShape) (old new : Kept) (pieces : List Piece) (n : ℕ) → new.alarm ≡ old.alarm → new.odd ≡ None → new.channel ≡ old.channel → Remembers s old pieces → Remembers s new (pieces ++ Gap n ∷ [])
 remembers_lost s old new pieces n alarm odd channel is = record {
   alarm_is = alarm ∙ is.alarm_is ∙ ap (alarm_after s) (sym (frames_gap pieces n));
-  odd_is = odd ∙ sym (odd_gap s pieces n);
+  odd_is = λ frame. ap (λ odd. parity_kinds s odd frame) (odd ∙ sym (odd_gap s pieces n));
   channel_is = rw (channel, frames_gap pieces n) is.channel_is;
 }
 
@@ -42,11 +42,11 @@ channel_more s frames frame = flat_map-append (duty_bits s Feac) frames (frame �
 alarm_goes : (s : FrameShape) (old : Kept) (pieces : List Piece) (frame : List Bool) (alarm : Bool) → Remembers s old pieces → alarm ≡ agreed old.alarm (alarm_says s frame) → alarm ≡ alarm_after s (frames_of pieces ++ frame ∷ [])
 alarm_goes s old pieces frame alarm is e = e ∙ ap (λ b. agreed b (alarm_says s frame)) is.alarm_is ∙ sym (alarm_more s (frames_of pieces) frame)
 
-pub remembers_more : (s : FrameShape) (old new : Kept) (pieces : List Piece) (frame : List Bool) → new.alarm ≡ agreed old.alarm (alarm_says s frame) → new.odd ≡ Some (is_odd s frame)
+pub remembers_more : (s : FrameShape) (old new : Kept) (pieces : List Piece) (frame : List Bool) → new.alarm ≡ agreed old.alarm (alarm_says s frame) → TellAlike s new.odd (Some (is_odd s frame))
     → ((before : List Bool) → HasReceived old.channel before → HasReceived new.channel (before ++ duty_bits s Feac frame)) → Remembers s old pieces → Remembers s new (pieces ++ Delivered frame ∷ [])
 remembers_more s old new pieces frame alarm odd channel is = record {
   alarm_is = alarm_goes s old pieces frame new.alarm is alarm ∙ ap (alarm_after s) (sym (frames_more pieces frame));
-  odd_is = odd ∙ sym (odd_more s pieces frame);
+  odd_is = λ later. odd later ∙ ap (λ odd. parity_kinds s odd later) (sym (odd_more s pieces frame));
   channel_is = rw (frames_more pieces frame, channel_more s (frames_of pieces) frame) (channel (channel_bits s (frames_of pieces)) is.channel_is);
 }
 
@@ -68,5 +68,5 @@ events_are s path bit old pieces frame alarm is e =
     let alarms : List Kind = alarm_kinds s (frames_of pieces) frame in
     let same : changed ALARM_ON ALARM_OFF old.alarm alarm ≡ alarms = ap (λ was. changed ALARM_ON ALARM_OFF was alarm) is.alarm_is ∙ ap (changed ALARM_ON ALARM_OFF (alarm_after s (frames_of pieces))) (alarm_goes s old pieces frame alarm is e) in
     ap (λ kinds. tell path bit kinds ++ tell path bit (parity_kinds s old.odd frame) ++ tell path bit febe ++ codes) same
-    ∙ ap (λ kinds. tell path bit alarms ++ tell path bit kinds ++ tell path bit febe ++ codes) (ap (λ odd. parity_kinds s odd frame) is.odd_is)
+    ∙ ap (λ kinds. tell path bit alarms ++ tell path bit kinds ++ tell path bit febe ++ codes) (is.odd_is frame)
     ∙ ap (λ x. x ++ tell path bit febe ++ codes) (sym (tell_append path bit alarms parity)) ∙ ap (λ x. x ++ codes) (sym (tell_append path bit (alarms ++ parity) febe))

@@ -1,5 +1,5 @@
 -- What the service bits of a delivered frame tell (G.742, Table 1, and G.751; ANSI T1.107).
-use Rattle.std.specs.Prelude.{ℕ, suc, ◌*◌, ◌%◌, Bool, true, false, not, nat_lt, ◌==◌, ◌&&◌, if◌then◌else◌, Option, Some, None, List, [], ◌∷◌, ◌++◌, length, map, filter, filter_map, flat_map, fold, take, count_by}
+use Rattle.std.specs.Prelude.{◌≡◌, ℕ, suc, ◌*◌, ◌%◌, Bool, true, false, not, nat_lt, ◌==◌, ◌&&◌, if◌then◌else◌, Option, Some, None, List, [], ◌∷◌, ◌++◌, length, map, filter, filter_map, flat_map, fold, take, count_by}
 use Rattle.std.specs.List.{range_with_len, slice_index_or, list_any}
 use Rattle.std.specs.Bool.{beq}
 use Rattle.pdh_shape.specs.declared.place.Path.{Path}
@@ -109,6 +109,10 @@ odd_before s pieces = odd_of (last_frame pieces)
 abbrev pub parity_kinds : FrameShape → Option Bool → List Bool → List Kind
 parity_kinds s None frame = []
 parity_kinds s (Some odd) frame = (if breaks_parity s odd frame then PARITY ∷ [] else []) ++ (if breaks_path_parity s odd frame then PATH_PARITY ∷ [] else [])
+
+-- frames of the shape tell the same of these parities of the frame before
+abbrev pub TellAlike : FrameShape → Option Bool → Option Bool → Type 0
+TellAlike s a b = (frame : List Bool) → parity_kinds s a frame ≡ parity_kinds s b frame
 
 -- ---- the far end
 

@@ -9,7 +9,7 @@ use Rattle.pdh_cbit.specs.Feac.{answer_of}
 use Rattle.pdh_cbit.specs.Channel.{Receiving, HasReceived}
 use Rattle.pdh_events.specs.declared.alarm.AlarmSlot.{AlarmSlot}
 use Rattle.pdh_events.specs.Telling.{ones_at_end}
-use Rattle.pdh_events.specs.Duties.{frames_of, slots_with, alarm_bit, alarm_after, odd_before, channel_bits}
+use Rattle.pdh_events.specs.Duties.{frames_of, slots_with, alarm_bit, alarm_after, odd_before, channel_bits, TellAlike}
 
 -- the ones that a line ends with, counted up to the length from which on they are AIS
 pub record OnesRun : Type 0 where
@@ -23,7 +23,7 @@ CountsOnes r line = r.run ≡ min (ones_at_end line) r.long
 pub record Kept : Type 0 where
   -- whether there is an alarm
   pub alarm : Bool
-  -- whether the frame before in the same alignment is odd, if there is one
+  -- whether the frame before in the same alignment is odd, if there is one; where frames tell no parity, any answer
   pub odd : Option Bool
   -- the receiver of the far end alarm and control channel
   pub channel : Receiving
@@ -55,5 +55,5 @@ pub record DutySlots (s : FrameShape) (alarm : List AlarmSlot) (parity path_pari
 -- it is kept of a line with these pieces
 pub record Remembers (s : FrameShape) (kept : Kept) (pieces : List Piece) : Type 0 where
   pub alarm_is : kept.alarm ≡ alarm_after s (frames_of pieces)
-  pub odd_is : kept.odd ≡ odd_before s pieces
+  pub odd_is : TellAlike s kept.odd (odd_before s pieces)
   pub channel_is : HasReceived kept.channel (channel_bits s (frames_of pieces))

@@ -6,7 +6,7 @@ ghost use Rattle.pdh_events.specs.Keeping.{CountsOnes};
 ghost use Rattle.pdh_events.specs.laws.QuietLaws.{IsCalm, AreOnes};
 
 use crate::note::note_kind;
-use pdh_packed::Packed;
+use pdh_packed::{Packed, Word};
 use pdh_shape::Path;
 use pdh_watch::{Kind, Watch};
 use std::marker::Model;
@@ -40,15 +40,16 @@ fn leading_ones(bits: &Packed, from: usize, count: usize) -> usize
     // a place fits, since a length does
     let _fits = bits.len();
     let mut done = 0;
-    while done < count {
-        let some = (count - done).min(64) as u32;
-        let ones = bits.read(from + done, some).inverted().leading_zeros();
+    while count - done >= 64 {
+        let word = Word::of(bits.read_whole(from + done), 64);
+        let ones = word.inverted().leading_zeros();
         done += ones as usize;
-        if ones < some {
+        if ones < 64 {
             return done;
         }
     }
-    done
+    let last = bits.read(from + done, (count - done) as u32);
+    done + last.inverted().leading_zeros() as usize
 }
 
 // How many of so many bits from a place on are ones, one after another from the last back.

@@ -1,11 +1,11 @@
 //! What the service bits of a node's delivered frames tell, frame by frame. A parity is told only
 //! of the frame before in the same alignment.
 
-ghost use Rattle.std.specs.Prelude.{◌≡◌, ℕ, true, Some, List, [], ◌∷◌, ◌++◌, length, IfOk};
+ghost use Rattle.std.specs.Prelude.{◌≡◌, ℕ, Bool, true, false, Some, List, [], ◌∷◌, ◌++◌, length, IfOk};
 ghost use Rattle.pdh_line.specs.Tracking.{Piece};
 ghost use Rattle.pdh_line.specs.Tracking.Piece.{Gap, Delivered};
 ghost use Rattle.pdh_events.specs.Telling.{tell};
-ghost use Rattle.pdh_events.specs.Duties.{agreed, alarm_says, breaks_parity, breaks_path_parity, parity_kinds, febe_kinds, is_odd, frame_events};
+ghost use Rattle.pdh_events.specs.Duties.{agreed, alarm_says, breaks_parity, breaks_path_parity, parity_kinds, febe_kinds, is_odd, TellAlike, frame_events};
 ghost use Rattle.pdh_events.specs.Keeping.{Remembers};
 
 use crate::alarm::{AlarmSlot, agreed_alarm, alarm_slots_of};
@@ -24,6 +24,7 @@ use std::marker::{Model, PhantomData};
 /// Tells the events of delivered frames: the remote alarm, parity and path parity, far end block errors, and the codes of
 /// the far end alarm and control channel, of a shape whose service bits tell them. Only `open` takes memory: it finds
 /// the slots that tell something.
+#[derive(Drop)]
 pub struct FrameTeller<S: Shape> {
     alarm_slots: Vec<AlarmSlot>,
     parity_slots: Vec<u16>,
@@ -35,22 +36,6 @@ pub struct FrameTeller<S: Shape> {
     odd: Option<bool>,
     channel: FeacReceiver,
     of: PhantomData<S>,
-}
-
-impl<S: Shape> Drop for FrameTeller<S> {
-    fn drop(self) {
-        let Self {
-            alarm_slots: _,
-            parity_slots: _,
-            path_parity_slots: _,
-            febe_slots: _,
-            feac_slots: _,
-            alarm: _,
-            odd: _,
-            channel: _,
-            of: _,
-        } = self;
-    }
 }
 
 impl<S: Shape> Model for FrameTeller<S> {
@@ -99,6 +84,13 @@ impl<S: Shape> FrameTeller<S> {
         agreed_alarm(&self.alarm_slots, self.alarm, frame)
     }
 
+    /// Whether its frames tell the parity of the frame before.
+    pub fn tells_parity(&self) -> bool
+        ensures { result ≡ false → (a b : Bool) → TellAlike S.shape (Some a) (Some b) }
+    {
+        !self.parity_slots.is_empty() || !self.path_parity_slots.is_empty()
+    }
+
     // Whether a frame's parity bits tell another parity than this.
     fn breaks_parity(&self, odd: bool, frame: &Packed) -> bool
         requires { length frame.now.bits ≡ S.LEN }
@@ -139,10 +131,10 @@ impl<S: Shape> FrameTeller<S> {
     }
 
     /// Takes a delivered frame of the line of the node at a path, which the bit of this number delivers, and notes its own
-    /// events. It is told whether the frame's payload is odd.
+    /// events. It is told whether the frame's payload is odd; where its frames tell no parity, any answer will do.
     pub fn note<W: Watch>(&mut self, frame: &Packed, odd: bool, path: Path, bit: u64, watch: &mut W)
         requires whole { length frame.now.bits ≡ S.LEN }
-        requires odd { odd ≡ is_odd S.shape frame.now.bits }
+        requires odd { TellAlike S.shape (Some odd) (Some (is_odd S.shape frame.now.bits)) }
         ensures remembers { (pieces : List Piece) → Remembers S.shape self.old pieces
             → Remembers S.shape self.new (pieces ++ Delivered frame.now.bits ∷ []) }
         ensures seen { (pieces : List Piece) → Remembers S.shape self.old pieces

@@ -24,7 +24,7 @@ use Rattle.pdh_events.specs.Keeping.{OnesRun, CountsOnes}
 use Rattle.pdh_g706.specs.Events.{alarm_after, frames_kinds, rise, crc_kinds, ais_length, e1_bit_events}
 use Rattle.pdh_g706.specs.Machine.{Phase, Holds, Fits, Turn, no_signs, nothing, loss_after, added_kinds, still, last_bits, lost_turn, payload_from, frames_from, errs_in, each_errs, is_false_group, search_turn, framing_turn, aligned_turn, aligned_bits, group_phase, block_turn, framed_turn, framed_bits, turn}
 use Rattle.pdh_g706.specs.Machine.Phase.{Searching, Aligned, Framed}
-use Rattle.pdh_g706.specs.View.{phase_of, phase, is_framed, turn_events, StandsFor, Counted, Becomes, Gains, GainsPart}
+use Rattle.pdh_g706.specs.View.{phase_of, phase, is_framed, turn_events, StandsFor, Counted, Becomes, Turned, Gains, GainsPart}
 use Rattle.pdh_g706.proofs.FrameLists.{length_frames}
 use Rattle.pdh_g706.proofs.TurnLaws.{framing_turn_is, aligned_turn_is}
 use Rattle.pdh_g706.proofs.SignLaws.{signs}
@@ -203,9 +203,6 @@ tell_join saw join n xs ys a b c p q = subst (λ (x : List Event). saw a x c) (s
 pub events_of : (seen : List Event → Type 0) (old : E1Align) (t u : Turn) → t ≡ u → seen (turn_events old u) → seen (turn_events old t)
 events_of seen old t u e h = subst (λ (x : Turn). seen (turn_events old x)) (sym e) h
 
-pub ok_events : {T F : Type 0} (r : Result T F) (seen : List Event → Type 0) (old : E1Align) (t u : Turn) → t ≡ u → OnOk r (seen (turn_events old u)) → OnOk r (seen (turn_events old t))
-ok_events r seen old t u e h = on_ok r (seen (turn_events old u)) (seen (turn_events old t)) (events_of seen old t u e) h
-
 -- a turn that adds these kinds
 pub kinds_of : (seen : List Event → Type 0) (old : E1Align) (t u : Turn) (kinds : List Kind) → t ≡ u → added_kinds old.alarm u.gained.signs ≡ kinds → seen (tell top old.bits kinds) → seen (turn_events old t)
 kinds_of seen old t u kinds e is h = events_of seen old t u e (subst (λ (x : List Kind). seen (tell top old.bits x)) (sym is) h)
@@ -315,16 +312,6 @@ gains_part old bit line o p puts h = record { more = (turn (phase old) bit).gain
 
 -- ---- calls
 
--- what a call says of a turn, said of the same turn
-pub ok_becomes : {T F : Type 0} (r : Result T F) (t u : Turn) (old new : E1Align) → t ≡ u → OnOk r (Becomes u old new) → OnOk r (Becomes t old new)
-ok_becomes r t u old new e h = on_ok r (Becomes u old new) (Becomes t old new) (becomes t u old new e) h
-
-pub ok_puts : {T F : Type 0} (r : Result T F) (t u : Turn) (o p : Outputs) → t ≡ u → OnOk r (Puts (for_leaf 0 u.gained.payload) o p) → OnOk r (Puts (for_leaf 0 t.gained.payload) o p)
-ok_puts r t u o p e h = on_ok r (Puts (for_leaf 0 u.gained.payload) o p) (Puts (for_leaf 0 t.gained.payload) o p) (puts_of t u o p e) h
-
-pub err_part : {T F : Type 0} (r : Result T F) (t u : Turn) (o p : Outputs) → t ≡ u → OnErr r (PutsPart (for_leaf 0 u.gained.payload) o p) → OnErr r (PutsPart (for_leaf 0 t.gained.payload) o p)
-err_part r t u o p e h = on_err r (PutsPart (for_leaf 0 u.gained.payload) o p) (PutsPart (for_leaf 0 t.gained.payload) o p) (part_of t u o p e) h
-
 -- where multiframe alignment isn't reached
 pub aligned_gives_up : (bits : List Bool) → reaches (frames_of bits) ≡ false → length bits ≡ 16384 → aligned_turn bits ≡ still (Searching (last_bits 255 bits))
 aligned_gives_up bits wrong last =
@@ -414,9 +401,47 @@ becomes_from t u mid old new e c_is r_is n_is o_is a_is b =
     } in
     becomes t u old new e same
 
-pub ok_becomes_from : {T F : Type 0} (r : Result T F) (t u : Turn) (mid old new : E1Align) → t ≡ u → mid.counts ≡ old.counts → mid.held.capacity ≡ old.held.capacity → mid.bits ≡ old.bits → mid.ais ≡ old.ais
-    → mid.alarm ≡ old.alarm → OnOk r (Becomes u mid new) → OnOk r (Becomes t old new)
-ok_becomes_from r t u mid old new e c_is r_is n_is o_is a_is h = on_ok r (Becomes u mid new) (Becomes t old new) (becomes_from t u mid old new e c_is r_is n_is o_is a_is) h
+-- what a call says of a turn, said of the same turn and of a machine that was the same but for what it holds
+pub turned_from : {D W T F : Type 0} (outputs : D → Outputs) (faults : D → ℕ) (drained : D → D → Type 0) (saw : W → List Event → W → Type 0) (r : Result T F) (t u : Turn) (mid old new : E1Align) (before after : D) (was is : W)
+    → t ≡ u → mid.counts ≡ old.counts → mid.held.capacity ≡ old.held.capacity → mid.bits ≡ old.bits → mid.ais ≡ old.ais → mid.alarm ≡ old.alarm
+    → Turned outputs faults drained saw u mid new before after was is r → Turned outputs faults drained saw t old new before after was is r
+turned_from outputs faults drained saw r t u mid old new before after was is e c_is r_is n_is o_is a_is h =
+    let same : turn_events mid u ≡ turn_events old t =
+    ap (λ n. tell top n (added_kinds mid.alarm u.gained.signs)) n_is ∙ ap (λ a. tell top old.bits (added_kinds a u.gained.signs)) a_is ∙ ap (turn_events old) (sym e) in
+    record {
+      becomes = on_ok r (Becomes u mid new) (Becomes t old new) (becomes_from t u mid old new e c_is r_is n_is o_is a_is) h.becomes;
+      put = subst (λ (x : Turn). OnOk r (Puts (for_leaf 0 x.gained.payload) (outputs before) (outputs after))) (sym e) h.put;
+      part = subst (λ (x : Turn). OnErr r (PutsPart (for_leaf 0 x.gained.payload) (outputs before) (outputs after))) (sym e) h.part;
+      seen = subst (λ (x : List Event). OnOk r (saw was x is)) same h.seen;
+      unseen = h.unseen;
+      cause = h.cause;
+      drains = h.drains;
+    }
+
+-- what is judged of a group with one block more
+pub group_is : (now old : Group) (bad : Bool) → now.judged ≡ old.judged + 1 → now.errored ≡ old.errored + bit_value bad → is_false_group now.judged now.errored ≡ is_false_group (old.judged + 1) (old.errored + bit_value bad)
+group_is now old bad judged errored = ap (λ n. is_false_group n now.errored) judged ∙ ap (is_false_group (old.judged + 1)) errored
+
+-- a call that puts nothing
+pub turned_none : {D W T F : Type 0} (outputs : D → Outputs) (faults : D → ℕ) (drained : D → D → Type 0) (saw : W → List Event → W → Type 0) (x : T) (t : Turn) (old new : E1Align) (d : D) (was is : W)
+    → t.gained.payload ≡ [] → drained d d → Becomes t old new → saw was (turn_events old t) is → Turned {E = F} outputs faults drained saw t old new d d was is (Ok x)
+turned_none outputs faults drained saw x t old new d was is none drains b seen = record {
+  becomes = b;
+  put = subst (λ (p : List Bool). Puts (for_leaf 0 p) (outputs d) (outputs d)) (sym none) (puts_begin 0 (outputs d));
+  part = tt;
+  seen = seen;
+  unseen = tt;
+  cause = refl;
+  drains = drains;
+}
+
+-- a call that leaves all as it is but what is held
+pub turned_still : {D W T F : Type 0} (outputs : D → Outputs) (faults : D → ℕ) (drained : D → D → Type 0) (saw : W → List Event → W → Type 0) (x : T) (t : Turn) (p : Phase) (old new : E1Align) (d : D) (w : W)
+    → drained d d → saw w [] w → t ≡ still p → phase new ≡ p → new.counts ≡ old.counts → new.held.capacity ≡ old.held.capacity → new.bits ≡ old.bits → new.ais ≡ old.ais → new.alarm ≡ old.alarm
+    → Turned {E = F} outputs faults drained saw t old new d d w w (Ok x)
+turned_still outputs faults drained saw x t p old new d w drains none e p_is c_is r_is n_is o_is a_is =
+    turned_none outputs faults drained saw x t old new d w w (ap (λ (u : Turn). u.gained.payload) e) drains (becomes_still t p old new e p_is c_is r_is n_is o_is a_is)
+    (kinds_of (λ (s : List Event). saw w s w) old t (still p) [] e (still_kinds old.alarm) none)
 
 -- a search gains nothing
 pub search_gains : (bits : List Bool) → (search_turn bits).gained ≡ nothing

@@ -1,10 +1,10 @@
 -- The word of a sub-multiframe, whose C bits count as zeros, by 64 bits at a time.
-use Rattle.std.proofs.Common.{◌≡◌, ◌≢◌, ℕ, zero, suc, ◌+◌, ◌-◌, ◌*◌, ◌/◌, ◌%◌, ◌<◌, ◌≤◌, ◌^◌, Bool, true, false, cond, eqb, List, [], ◌∷◌, ◌++◌, length, set, take, drop, refl, sym, ap, ◌∙◌, subst, inl, inr, arith, length-set, length-drop}
+use Rattle.std.proofs.Common.{◌≡◌, ◌≢◌, ℕ, ◌+◌, ◌-◌, ◌*◌, ◌/◌, ◌%◌, ◌<◌, ◌≤◌, ◌^◌, Bool, true, false, cond, eqb, List, ◌∷◌, ◌++◌, length, set, take, drop, refl, sym, ap, ◌∙◌, subst, inl, inr, arith, length-set, length-drop}
 use Rattle.std.specs.Prelude.{◌==◌}
 use Rattle.std.proofs.Math.Seq.{take-add}
 use Rattle.std.proofs.lemmas.Bool.{cases_lt, cases_eq, eq-eqb, ne_eqb}
 use Rattle.std.proofs.lemmas.List.{drop-set, drop-set-lt, drop-set-add, take-set-le, drop-drop, drop-take, take-take, length-take-le, take_all}
-use Rattle.pdh_bits.specs.Bits.{bit, bits_of, bytes_of}
+use Rattle.pdh_bits.specs.Bits.{bit, bits_of}
 use Rattle.pdh_bits.proofs.BitsLemmas.{bits_of-bytes_of}
 use Rattle.pdh_packed.specs.Words.{low_bits}
 use Rattle.pdh_packed.specs.WordLaws.{low_bits_more, length-low_bits}

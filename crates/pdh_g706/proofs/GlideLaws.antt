@@ -1,10 +1,10 @@
 -- Bits that gain nothing: what is held after them, and that nothing shows.
-use Rattle.std.proofs.Common.{◌≡◌, ◌≢◌, ℕ, ◌+◌, ◌-◌, ◌%◌, ◌<◌, ◌≤◌, Bool, true, false, cond, List, [], ◌∷◌, ◌++◌, length, take, drop, refl, sym, ap, ◌∙◌, subst, arith, append_assoc, length-append, length-drop}
+use Rattle.std.proofs.Common.{◌≡◌, ◌≢◌, ℕ, ◌+◌, ◌-◌, ◌%◌, ◌<◌, ◌≤◌, Bool, false, List, [], ◌∷◌, ◌++◌, length, drop, refl, sym, ap, ◌∙◌, subst, arith, append_assoc, length-append, length-drop}
 use Rattle.std.specs.Prelude.{◌^◌, min}
 use Rattle.std.proofs.lemmas.List.{append-nil, length_push, drop-append-le, drop-drop}
 use Rattle.pdh_line.specs.Paths.{top}
 use Rattle.pdh_watch.specs.declared.kind.Kind.{Kind}
-use Rattle.pdh_events.specs.Telling.{next_bit, tell, ais_kinds}
+use Rattle.pdh_events.specs.Telling.{next_bit, tell}
 use Rattle.pdh_events.specs.Keeping.{OnesRun, CountsOnes}
 use Rattle.pdh_events.specs.laws.QuietLaws.{IsQuiet, IsCalm}
 use Rattle.pdh_g706.specs.declared.align.E1Align.{E1Align}

@@ -8,7 +8,7 @@ use Rattle.std.proofs.Math.Seq.{take-add}
 use Rattle.std.proofs.lemmas.Grind.{flat_map-append}
 use Rattle.std.proofs.lemmas.List.Concat.{flat_map-cons}
 use Rattle.std.proofs.lemmas.List.FromFn.{length-map-range_with_len, take-map-range_with_len}
-use Rattle.std.proofs.lemmas.List.{append-nil, map-append, drop-drop, drop-take, drop_at, get_or-take, get_or-drop, length-take-le, drop_more, take_more, append_assoc}
+use Rattle.std.proofs.lemmas.List.{append-nil, map-append, drop-drop, drop-take, drop_at, get_or-take, get_or-drop, take_more}
 use Rattle.std.proofs.lemmas.List.Folds.{list_all-append}
 use mir.Val.{bool_byte}
 use Rattle.pdh_bits.specs.Bits.{bit_value, number_of}

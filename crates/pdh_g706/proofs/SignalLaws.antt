@@ -1,9 +1,9 @@
 -- The alignment signal, read as a number and at many positions at once.
-use Rattle.std.proofs.Common.{◌≡◌, ℕ, zero, suc, ◌+◌, ◌-◌, ◌*◌, ◌<◌, ◌≤◌, ◌^◌, Bool, true, false, ◌&&◌, not, eqb, List, [], ◌∷◌, ◌++◌, length, map, get_or, take, drop, refl, sym, ap, ◌∙◌, subst, arith, length-drop, add-one}
+use Rattle.std.proofs.Common.{◌≡◌, ℕ, zero, suc, ◌+◌, ◌-◌, ◌*◌, ◌<◌, ◌≤◌, ◌^◌, Bool, true, false, ◌&&◌, not, List, [], ◌∷◌, ◌++◌, length, map, get_or, take, drop, refl, sym, ap, ◌∙◌, subst, arith, length-drop, add-one}
 use Rattle.std.specs.Prelude.{◌==◌, nat_le}
 use Rattle.std.specs.Bool.{beq}
 use Rattle.std.specs.List.{range_with_len, list_all, prefix_len}
-use Rattle.std.proofs.lemmas.List.{drop-drop, drop-take, take-take, drop_more, get_or-take, get_or-drop, get_or_append_left, length-take-le}
+use Rattle.std.proofs.lemmas.List.{drop-drop, drop-take, take-take, drop_more, get_or-drop, get_or_append_left, length-take-le}
 use Rattle.std.proofs.lemmas.List.FromFn.{get_or-map-range_with_len, length-map-range_with_len}
 use Rattle.std.proofs.lemmas.List.Folds.{list_all-append}
 use Rattle.std.proofs.lemmas.List.Sums.{prefix_len_passes, prefix_len-le-length}

@@ -1,6 +1,6 @@
 -- What the fields of an alignment machine stand for.
-use Rattle.std.specs.Prelude.{◌≡◌, ◌+◌, ℕ, Bool, true, false, List, [], ◌∷◌, ◌++◌}
-use Rattle.pdh_edge.specs.Ports.{Outputs, Puts, PutsPart, for_leaf}
+use Rattle.std.specs.Prelude.{◌≡◌, ◌+◌, ℕ, Bool, true, false, List, [], ◌++◌, Result, OnOk, OnErr}
+use Rattle.pdh_edge.specs.Ports.{Outputs, Puts, PutsPart, HasCause, for_leaf}
 use Rattle.pdh_g706.specs.declared.align.E1Align.{E1Align}
 use Rattle.pdh_g706.specs.declared.counts.Counts.{Counts}
 use Rattle.pdh_g706.specs.declared.counts.Group.{Group}
@@ -11,7 +11,7 @@ use Rattle.pdh_watch.specs.declared.event.Event.{Event}
 use Rattle.pdh_line.specs.Paths.{top}
 use Rattle.pdh_events.specs.Telling.{next_bit, tell}
 use Rattle.pdh_events.specs.Keeping.{CountsOnes}
-use Rattle.pdh_g706.specs.Events.{alarm_after, ais_length, e1_bit_events}
+use Rattle.pdh_g706.specs.Events.{alarm_after, ais_length}
 use Rattle.pdh_g706.specs.Machine.{Phase, Holds, Turn, added_kinds, aligned_turn, framed_turn, block_turn}
 use Rattle.pdh_g706.specs.Machine.Phase.{Searching, Aligned, Framed}
 
@@ -74,6 +74,18 @@ pub record Becomes (turn : Turn) (old new : E1Align) : Type 0 where
 -- the events that a turn tells
 abbrev pub turn_events : E1Align → Turn → List Event
 turn_events old turn = tell top old.bits (added_kinds old.alarm turn.gained.signs)
+
+-- How a call that makes a turn comes out: the turn was made, its payload put to leaf 0, and its events seen. Or a call of the
+-- drain failed: a prefix of the payload was put, and no event seen. Only a drain's calls changed it, and the one that failed
+-- was counted.
+pub record Turned {D W T E : Type 0} (outputs : D → Outputs) (faults : D → ℕ) (drained : D → D → Type 0) (saw : W → List Event → W → Type 0) (turn : Turn) (old new : E1Align) (before after : D) (was is : W) (result : Result T E) : Type 0 where
+  pub becomes : OnOk result (Becomes turn old new)
+  pub put : OnOk result (Puts (for_leaf 0 turn.gained.payload) (outputs before) (outputs after))
+  pub part : OnErr result (PutsPart (for_leaf 0 turn.gained.payload) (outputs before) (outputs after))
+  pub seen : OnOk result (saw was (turn_events old turn) is)
+  pub unseen : OnErr result (saw was [] is)
+  pub cause : HasCause (faults before) (faults after) result
+  pub drains : drained before after
 
 -- what a line gives has grown, and what came was put to leaf 0
 pub record Gains (line now : List Bool) (old new : Outputs) : Type 0 where

@@ -15,7 +15,7 @@ ghost use Rattle.pdh_g706.specs.Tracking.{e1_far, multiframes_in, blocks_in, err
 ghost use Rattle.pdh_events.specs.Chain.{bits_events};
 ghost use Rattle.pdh_g706.specs.Events.{rise, e1_bit_events};
 ghost use Rattle.pdh_g706.specs.Machine.{Fits, Waits, held_on, last_bits, search_turn, framing_turn, is_false_group, group_phase, turn as turn_of};
-ghost use Rattle.pdh_g706.specs.View.{phase, aligned_here, framed_here, block_here, turn_events, StandsFor, Becomes, Gains, GainsPart};
+ghost use Rattle.pdh_g706.specs.View.{phase, aligned_here, framed_here, block_here, StandsFor, Becomes, Turned, Gains, GainsPart};
 
 use crate::counts::{Counts, Group};
 use crate::held::{errs, first_multiframe, is_confirmed, loses, put_frames, rejected};
@@ -213,15 +213,8 @@ impl E1Align {
         requires fits { Fits (phase self.old) }
         requires room { self.old.held.capacity ≡ 16384 }
         requires list { IsTrue ((D.outputs drain.old).holds 0) }
-        ensures becomes { OnOk result (Becomes (turn_of (phase self.old) bit) self.old self.new) }
-        ensures put { OnOk result (Puts (for_leaf 0 (turn_of (phase self.old) bit).gained.payload)
-            (D.outputs drain.old) (D.outputs drain.new)) }
-        ensures part { OnErr result (PutsPart (for_leaf 0 (turn_of (phase self.old) bit).gained.payload)
-            (D.outputs drain.old) (D.outputs drain.new)) }
-        ensures seen { OnOk result (W.saw watch.old (turn_events self.old (turn_of (phase self.old) bit)) watch.new) }
-        ensures unseen { OnErr result (W.saw watch.old [] watch.new) }
-        ensures cause { HasCause (D.drain_faults drain.old) (D.drain_faults drain.new) result }
-        ensures drained { D.drained drain.old drain.new }
+        ensures { Turned D.outputs D.drain_faults D.drained W.saw (turn_of (phase self.old) bit)
+            self.old self.new drain.old drain.new watch.old watch.new result }
     {
         self.held.append_bit(bit);
         if let Stage::Searching = self.stage {
@@ -280,15 +273,8 @@ impl E1Align {
         requires long { 255 ≤ length self.old.held.bits }
         requires most { length self.old.held.bits ≤ 16384 }
         requires list { IsTrue ((D.outputs drain.old).holds 0) }
-        ensures becomes { OnOk result (Becomes (aligned_here self.old) self.old self.new) }
-        ensures put { OnOk result (Puts (for_leaf 0 (aligned_here self.old).gained.payload)
-            (D.outputs drain.old) (D.outputs drain.new)) }
-        ensures part { OnErr result (PutsPart (for_leaf 0 (aligned_here self.old).gained.payload)
-            (D.outputs drain.old) (D.outputs drain.new)) }
-        ensures seen { OnOk result (W.saw watch.old (turn_events self.old (aligned_here self.old)) watch.new) }
-        ensures unseen { OnErr result (W.saw watch.old [] watch.new) }
-        ensures cause { HasCause (D.drain_faults drain.old) (D.drain_faults drain.new) result }
-        ensures drained { D.drained drain.old drain.new }
+        ensures { Turned D.outputs D.drain_faults D.drained W.saw (aligned_here self.old)
+            self.old self.new drain.old drain.new watch.old watch.new result }
     {
         if let Some(first) = first_multiframe(&self.held) {
             return self.begin_multiframes(first, drain, watch);
@@ -310,15 +296,8 @@ impl E1Align {
         requires long { 256 * first + 7168 ≤ length self.old.held.bits }
         requires most { length self.old.held.bits ≤ 16384 }
         requires list { IsTrue ((D.outputs drain.old).holds 0) }
-        ensures becomes { OnOk result (Becomes (framing_turn self.old.held.bits first) self.old self.new) }
-        ensures put { OnOk result (Puts (for_leaf 0 (framing_turn self.old.held.bits first).gained.payload)
-            (D.outputs drain.old) (D.outputs drain.new)) }
-        ensures part { OnErr result (PutsPart (for_leaf 0 (framing_turn self.old.held.bits first).gained.payload)
-            (D.outputs drain.old) (D.outputs drain.new)) }
-        ensures seen { OnOk result (W.saw watch.old (turn_events self.old (framing_turn self.old.held.bits first)) watch.new) }
-        ensures unseen { OnErr result (W.saw watch.old [] watch.new) }
-        ensures cause { HasCause (D.drain_faults drain.old) (D.drain_faults drain.new) result }
-        ensures drained { D.drained drain.old drain.new }
+        ensures { Turned D.outputs D.drain_faults D.drained W.saw (framing_turn self.old.held.bits first)
+            self.old self.new drain.old drain.new watch.old watch.new result }
     {
         let frames = self.held.held() / 256 - first;
         let whole = frames / 16;
@@ -346,15 +325,8 @@ impl E1Align {
         requires judged { self.old.group.judged < 1000 }
         requires errored { self.old.group.errored < 1000 }
         requires list { IsTrue ((D.outputs drain.old).holds 0) }
-        ensures becomes { OnOk result (Becomes (framed_here self.old) self.old self.new) }
-        ensures put { OnOk result (Puts (for_leaf 0 (framed_here self.old).gained.payload)
-            (D.outputs drain.old) (D.outputs drain.new)) }
-        ensures part { OnErr result (PutsPart (for_leaf 0 (framed_here self.old).gained.payload)
-            (D.outputs drain.old) (D.outputs drain.new)) }
-        ensures seen { OnOk result (W.saw watch.old (turn_events self.old (framed_here self.old)) watch.new) }
-        ensures unseen { OnErr result (W.saw watch.old [] watch.new) }
-        ensures cause { HasCause (D.drain_faults drain.old) (D.drain_faults drain.new) result }
-        ensures drained { D.drained drain.old drain.new }
+        ensures { Turned D.outputs D.drain_faults D.drained W.saw (framed_here self.old)
+            self.old self.new drain.old drain.new watch.old watch.new result }
     {
         if self.held.held() % 2048 != 0 {
             return Ok(());
@@ -371,15 +343,8 @@ impl E1Align {
         requires judged { self.old.group.judged < 1000 }
         requires errored { self.old.group.errored < 1000 }
         requires list { IsTrue ((D.outputs drain.old).holds 0) }
-        ensures becomes { OnOk result (Becomes (block_here self.old) self.old self.new) }
-        ensures put { OnOk result (Puts (for_leaf 0 (block_here self.old).gained.payload)
-            (D.outputs drain.old) (D.outputs drain.new)) }
-        ensures part { OnErr result (PutsPart (for_leaf 0 (block_here self.old).gained.payload)
-            (D.outputs drain.old) (D.outputs drain.new)) }
-        ensures seen { OnOk result (W.saw watch.old (turn_events self.old (block_here self.old)) watch.new) }
-        ensures unseen { OnErr result (W.saw watch.old [] watch.new) }
-        ensures cause { HasCause (D.drain_faults drain.old) (D.drain_faults drain.new) result }
-        ensures drained { D.drained drain.old drain.new }
+        ensures { Turned D.outputs D.drain_faults D.drained W.saw (block_here self.old)
+            self.old self.new drain.old drain.new watch.old watch.new result }
     {
         let wrong = errs(&self.held, self.held.held() / 256 - 16);
         let group = self.group.with(wrong);

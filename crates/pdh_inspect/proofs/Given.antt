@@ -1,14 +1,14 @@
 -- What is seen of the bits that a list gave.
-use Rattle.std.proofs.Common.{◌≡◌, ℕ, ◌+◌, ◌<◌, ◌≤◌, List, [], ◌++◌, Bool, Option, None, Some, length, take, refl, ap, sym, ◌∙◌, subst, arith}
-use Rattle.std.proofs.lemmas.List.{append-nil, length-append}
+use Rattle.std.proofs.Common.{◌≡◌, ℕ, ◌+◌, ◌<◌, ◌≤◌, ◌⊎◌, inl, inr, List, [], ◌++◌, Bool, Option, None, Some, Result, Ok, Err, IsOk, OnOk, length, take, refl, ap, sym, ◌∙◌, subst, arith}
+use Rattle.std.proofs.lemmas.List.{length-append}
 use Rattle.std.proofs.Math.Seq.{take-length, take-append_seam}
-use Rattle.pdh_edge.specs.Ports.{Inputs, Takes, before as told_before, nothing, faults_fed}
-use Rattle.pdh_edge.specs.declared.port.FeedStop.{FeedStop}
-use Rattle.pdh_edge.specs.declared.port.FeedStop.TheVariants.{Failed, Ended}
+use Rattle.pdh_edge.specs.Ports.{Inputs, Takes, HasCause, before as told_before}
 use Rattle.pdh_watch.specs.declared.event.Event.{Event}
 use Rattle.pdh_watch.specs.Monitors.{State, SawAll, SawEach}
+use Rattle.pdh_chain.specs.declared.stop.DemuxStop.{DemuxStop}
+use Rattle.pdh_chain.specs.declared.stop.DemuxStop.TheVariants.{Memory, Ended, ReadFailed, WriteFailed}
 use Rattle.pdh_chain.specs.Muxing.{as_line}
-use Rattle.pdh_chain.proofs.Lists.{takes_then, takes_line, takes_no_line}
+use Rattle.pdh_chain.proofs.Lists.{takes_line, takes_no_line}
 use Rattle.pdh_inspect.specs.Seen.{SeesAll, SeesFewer, events_counted}
 use Rattle.pdh_inspect.proofs.Counted.{counted_is}
 
@@ -46,32 +46,33 @@ sees_more sees sees_now n count bits x y z z' inputs long before takes more = re
   seen = more before.given before.seen;
 }
 
--- a call that gave nothing
-pub sees_fewer : (sees sees_now : List Bool → Type 0) (n bits : ℕ) (x y z : Inputs) → n < bits → SeesAll sees n x y → Takes nothing y z → ((given : List Bool) → sees given → sees_now given) → SeesFewer sees_now bits x z
-sees_fewer sees sees_now n bits x y z less before takes now =
-    let all = takes_then (as_line before.given) nothing x y z before.takes takes in
-    record {
-      given = before.given;
-      fewer = omega (arith, before.count, less);
-      takes = record {
-        counts = λ k. all.counts k ∙ ap (λ l. length l + z.left k) (append-nil (as_line before.given k));
-        bits = λ k. all.bits k ∙ ap (λ l. told_before l (z.told k)) (append-nil (as_line before.given k));
-      };
-      seen = now before.given before.seen;
-    }
+-- the first bits of a part, behind which a call failed
+pub sees_fewer : (sees sees_now : List Bool → Type 0) (n count bits : ℕ) (part : List Bool) (x y z z' : Inputs) → z' ≡ z → length part < count → n + count ≤ bits → SeesAll sees n x y → Takes (as_line part) y z
+    → ((given : List Bool) → sees given → sees_now (given ++ part)) → SeesFewer sees_now bits x z'
+sees_fewer sees sees_now n count bits part x y z z' inputs less within before takes more = record {
+  given = before.given ++ part;
+  fewer = omega (arith, length-append before.given part, before.count, less, within);
+  takes = subst (Takes (as_line (before.given ++ part)) x) (sym inputs) (takes_line before.given part x y z before.takes takes);
+  seen = more before.given before.seen;
+}
 
--- a list that had enough bits has some left before all are taken
-pub still_some : (sees : List Bool → Type 0) (n bits : ℕ) (x y : Inputs) → bits ≤ x.left 0 → n < bits → SeesAll sees n x y → y.left 0 ≡ 0 → ⊥
-still_some sees n bits x y enough less before none = omega (arith, before.takes.counts 0, before.count)
+-- ---- puts that don't fail
 
--- a call that doesn't find the list used up failed
-pub only_failed : (why : FeedStop) → (why ≡ Ended → ⊥) → why ≡ Failed
-only_failed Failed other = refl
-only_failed Ended other = absurd (other refl)
+-- a call after which no fault is counted didn't fail
+pub not_failed : {T E : Type 0} (r : Result T E) → HasCause 0 0 r → IsOk r
+not_failed (Ok x) cause = refl
+not_failed (Err e) cause = absurd (omega (arith, cause))
 
--- it is the only call that was counted
-pub counted_since : (why : FeedStop) (a b c : ℕ) → c ≡ faults_fed why b → b ≡ a → c ≡ faults_fed why a
-counted_since why a b c counted same = counted ∙ ap (faults_fed why) same
+pub at_ok : {T E P : Type 0} (r : Result T E) → IsOk r → OnOk r P → P
+at_ok (Ok x) ok p = p
+at_ok (Err e) ok p = absurd (cc)
+
+-- a line that has its bits, whose receivers put nothing that fails, is left for want of memory or by a failed read
+pub only_seeing : (stop : DemuxStop) → (stop ≡ Ended → ⊥) → (stop ≡ WriteFailed → ⊥) → (stop ≡ Memory) ⊎ (stop ≡ ReadFailed)
+only_seeing Memory no_end no_write = inl refl
+only_seeing ReadFailed no_end no_write = inr refl
+only_seeing Ended no_end no_write = absurd (no_end refl)
+only_seeing WriteFailed no_end no_write = absurd (no_write refl)
 
 -- ---- what follows of what was seen
 

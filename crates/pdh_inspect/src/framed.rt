@@ -1,8 +1,7 @@
 //! The inspection of a framed 2048 kbit/s line.
 
-ghost use Rattle.std.specs.Prelude.{◌≡◌, ◌<◌, ◌≤◌, Bool, List, [], ◌++◌, map, IsTrue, IfOk, IfErr, OnOk, IsErrOf};
-ghost use Rattle.pdh_edge.specs.Ports.{HasFeedCause};
-ghost use Rattle.pdh_edge.specs.declared.port.FeedStop.TheVariants.{Failed};
+ghost use Rattle.std.specs.Prelude.{◌≡◌, ◌<◌, ◌≤◌, Bool, List, [], ◌++◌, map, IsTrue, IfOk, IfErr, IsOk, OnOk, OnErr, IsErrOf};
+ghost use Rattle.pdh_edge.specs.Ports.{HasCause};
 ghost use Rattle.pdh_g706.specs.View.{StandsFor};
 ghost use Rattle.pdh_g706.specs.Tracking.{multiframes_in, counted};
 ghost use Rattle.pdh_g706.specs.Events.{e1_events};
@@ -12,7 +11,7 @@ ghost use Rattle.pdh_inspect.specs.Seen.{SeesFramed, SeesAll, SeesFewer, IsLineS
 
 use crate::line_port::LinePort;
 use crate::seen::{LineStop, Seen};
-use pdh_edge::{Feed, FeedStop};
+use pdh_edge::{Failed, Feed, take_bits};
 use pdh_g706::E1Align;
 use pdh_packed::Packed;
 use pdh_watch::{Members, Monitor, Watch};
@@ -31,53 +30,52 @@ pub struct FramedSeen {
     pub events: u64,
 }
 
-// Gives a machine these bits, for a watch that sees their events. What it puts is let go.
+// Gives a machine these bits, for a watch that sees their events. What it puts is let go, so that no put fails.
 fn push_all<F: Feed, W: Watch>(
     align: &mut E1Align,
     bits: &Packed,
     port: &mut LinePort<F>,
     watch: &mut W,
-)
+) -> Result<(), Failed>
     requires { (line : List Bool) × StandsFor align.old line }
+    ensures done { IsOk result }
     ensures stands { (line : List Bool) → StandsFor align.old line → StandsFor align.new (line ++ bits.now.bits) }
     ensures seen { (first : W) (line : List Bool) → StandsFor align.old line → W.saw first (e1_events line) watch.old
         → W.saw first (e1_events (line ++ bits.now.bits)) watch.new }
     ensures feed { port.new.feed ≡ port.old.feed }
 {
-    match align.take(bits, port, watch) {
-        Ok(()) => (),
-        // No put fails.
-        Err(_) => unreachable!(),
-    }
+    align.take(bits, port, watch)
 }
 
-// Gives a machine that has taken no bit so many bits of the port's list 0; `buffer` holds those that were taken.
+// Gives a machine that has taken no bit so many bits of the port's list 0; `buffer` holds those that were taken last.
 fn push_line<F: Feed, W: Watch>(
     align: &mut E1Align,
     bits: u64,
     buffer: &mut Packed,
     port: &mut LinePort<F>,
     watch: &mut W,
-) -> Result<(), FeedStop>
+) -> Result<(), Failed>
     requires stands { StandsFor align.old [] }
     requires room { 0 < buffer.old.capacity }
     requires line { IsTrue ((F.inputs port.old.feed).holds 0) }
     requires whole { bits ≤ (F.inputs port.old.feed).left 0 }
     ensures fed { F.fed port.old.feed port.new.feed }
-    ensures faults { HasFeedCause (F.feed_faults port.old.feed) (F.feed_faults port.new.feed) result }
-    ensures unread { IsErrOf result Failed → F.unread port.new.feed 0 }
+    ensures faults { HasCause (F.feed_faults port.old.feed) (F.feed_faults port.new.feed) result }
+    ensures unread { OnErr result (F.unread port.new.feed 0) }
     ensures ok { OnOk result (SeesAll (λ given. StandsFor align.new given × W.saw watch.old (e1_events given) watch.new)
         bits (F.inputs port.old.feed) (F.inputs port.new.feed)) }
-    ensures err { IfErr result (λ why. (why ≡ Failed) × SeesFewer (λ given. W.saw watch.old (e1_events given) watch.new)
+    ensures err { OnErr result (SeesFewer (λ given. W.saw watch.old (e1_events given) watch.new)
         bits (F.inputs port.old.feed) (F.inputs port.new.feed)) }
 {
     let mut pushed = 0;
     while pushed < bits {
         buffer.clear();
         let most = (bits - pushed).min(buffer.capacity() as u64) as usize;
-        let count = port.bits(0, most, buffer)?;
-        push_all(align, buffer, port, watch);
-        pushed += count as u64;
+        let taken = take_bits(port, 0, most, buffer);
+        // The bits that came before a failure are seen too.
+        push_all(align, buffer, port, watch)?;
+        taken?;
+        pushed += most as u64;
     }
     Ok(())
 }
@@ -107,9 +105,7 @@ fn watch_framed<F: Feed, W: Watch>(
     };
     match push_line(&mut align, bits, &mut buffer, port, watch) {
         Ok(()) => Ok(align.multiframes()),
-        Err(FeedStop::Failed) => Err(LineStop::Failed),
-        // The line has its bits.
-        Err(FeedStop::Ended) => unreachable!(),
+        Err(Failed) => Err(LineStop::Failed),
     }
 }
 

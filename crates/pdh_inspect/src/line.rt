@@ -1,10 +1,11 @@
 //! The inspection of a chain's line.
 
-ghost use Rattle.std.specs.Prelude.{◌≡◌, ◌<◌, ◌≤◌, ◌^◌, map, IsTrue, IfOk, IfErr, IsErrOf};
-ghost use Rattle.pdh_inspect.specs.declared.seen.LineStop.TheVariants.{Failed};
+ghost use Rattle.std.specs.Prelude.{◌≡◌, ◌<◌, ◌≤◌, ◌^◌, ◌⊎◌, map, IsTrue, IfOk, IfErr, IsErrOf};
+ghost use Rattle.pdh_inspect.specs.declared.seen.LineStop.TheVariants.{Memory as StopMemory, Failed as StopFailed};
 ghost use Rattle.pdh_watch.specs.Monitors.{SawEach};
 ghost use Rattle.pdh_chain.specs.Chains.{shapes_of};
 ghost use Rattle.pdh_chain.specs.Demuxes.{top_delivered};
+ghost use Rattle.pdh_chain.specs.declared.stop.DemuxStop.TheVariants.{Memory, ReadFailed};
 ghost use Rattle.pdh_inspect.specs.Seen.{line_bits_events, SeesLine, SeesAll, IsLineStop, faults_seen};
 
 use crate::line_port::LinePort;
@@ -24,6 +25,18 @@ pub struct LineSeen {
     pub events: u64,
 }
 
+// Why a line isn't seen to its end that has its bits, and whose receivers put nothing that fails.
+fn line_stop(stop: DemuxStop) -> LineStop
+    requires { (stop ≡ Memory) ⊎ (stop ≡ ReadFailed) }
+    ensures memory { stop ≡ Memory → result ≡ StopMemory }
+    ensures failed { stop ≡ ReadFailed → result ≡ StopFailed }
+{
+    match stop {
+        DemuxStop::Memory => LineStop::Memory,
+        _ => LineStop::Failed,
+    }
+}
+
 // Shows each event of a chain's line to a watch, and answers how many frames of the top are delivered.
 fn watch_line<F: Feed, W: Watch>(
     alloc: Global,
@@ -38,7 +51,7 @@ fn watch_line<F: Feed, W: Watch>(
     requires whole { bits ≤ (F.inputs port.old.feed).left 0 }
     ensures fed { F.fed port.old.feed port.new.feed }
     ensures faults { F.feed_faults port.new.feed ≡ faults_seen result (F.feed_faults port.old.feed) }
-    ensures unread { IsErrOf result Failed → F.unread port.new.feed 0 }
+    ensures unread { IsErrOf result StopFailed → F.unread port.new.feed 0 }
     ensures ok { IfOk result (λ frames. SeesAll (λ given. W.saw watch.old (line_bits_events chain given) watch.new
         × (frames ≡ top_delivered (shapes_of chain) given)) bits (F.inputs port.old.feed) (F.inputs port.new.feed)) }
     ensures err { IfErr result (IsLineStop (λ given. W.saw watch.old (line_bits_events chain given) watch.new)
@@ -46,11 +59,8 @@ fn watch_line<F: Feed, W: Watch>(
 {
     match demux(alloc, chain, bits, port, watch) {
         Ok(frames) => Ok(frames),
-        Err(DemuxStop::Memory) => Err(LineStop::Memory),
-        Err(DemuxStop::ReadFailed) => Err(LineStop::Failed),
         // The line has its bits, and no put fails.
-        Err(DemuxStop::Ended) => unreachable!(),
-        Err(DemuxStop::WriteFailed) => unreachable!(),
+        Err(stop) => Err(line_stop(stop)),
     }
 }
 
@@ -69,7 +79,7 @@ pub fn inspect_line<F: Feed, M: Monitor>(
     requires whole { bits ≤ (F.inputs feed).left 0 }
     ensures fed { F.fed feed result.feed }
     ensures faults { F.feed_faults result.feed ≡ faults_seen result.result (F.feed_faults feed) }
-    ensures unread { IsErrOf result.result Failed → F.unread result.feed 0 }
+    ensures unread { IsErrOf result.result StopFailed → F.unread result.feed 0 }
     ensures ok { let old = map M.state monitors.old.items in let new = map M.state monitors.new.items in
         IfOk result.result (λ seen. SeesAll (λ given. SeesLine chain given old new seen)
         bits (F.inputs feed) (F.inputs result.feed)) }

@@ -33,31 +33,25 @@ fn append_next(tributaries: &[Packed], place: usize, count: u32, line: &mut Pack
     requires room { length line.old.bits + count * length tributaries.now ≤ line.old.capacity }
     ensures { line.new ≡ record line.old { bits = line.old.bits ++ interleaved (map (λ t. drop place t.bits) tributaries.now) count } }
 {
-    match tributaries {
-        [a, b, c, d] => append_four(
-            &[
-                a.read_left(place, count),
-                b.read_left(place, count),
-                c.read_left(place, count),
-                d.read_left(place, count),
-            ],
-            count,
-            line,
-        ),
-        [a, b, c, d, e, f, g] => append_rows(
-            &[
-                a.read_left(place, count),
-                b.read_left(place, count),
-                c.read_left(place, count),
-                d.read_left(place, count),
-                e.read_left(place, count),
-                f.read_left(place, count),
-                g.read_left(place, count),
-            ],
-            count,
-            line,
-        ),
-        _ => unreachable!(),
+    if tributaries.len() == 4 {
+        let words = [
+            tributaries[0].read_left(place, count),
+            tributaries[1].read_left(place, count),
+            tributaries[2].read_left(place, count),
+            tributaries[3].read_left(place, count),
+        ];
+        append_four(&words, count, line);
+    } else {
+        let words = [
+            tributaries[0].read_left(place, count),
+            tributaries[1].read_left(place, count),
+            tributaries[2].read_left(place, count),
+            tributaries[3].read_left(place, count),
+            tributaries[4].read_left(place, count),
+            tributaries[5].read_left(place, count),
+            tributaries[6].read_left(place, count),
+        ];
+        append_rows(&words, count, line);
     }
 }
 
@@ -112,29 +106,25 @@ fn rows_of(words: &[u64], place: u32) -> Word
     requires within { place ≤ 56 }
     ensures { result ≡ interleaved (map (λ word. drop place (low_bits 64 word)) words.now) 8 }
 {
-    match words {
-        [a, b, c, d] => Word::of(
-            u64::from(interleave4(
-                byte_at(*a, place),
-                byte_at(*b, place),
-                byte_at(*c, place),
-                byte_at(*d, place),
-            )),
-            32,
-        ),
-        [a, b, c, d, e, f, g] => Word::of(
-            interleave7(
-                byte_at(*a, place),
-                byte_at(*b, place),
-                byte_at(*c, place),
-                byte_at(*d, place),
-                byte_at(*e, place),
-                byte_at(*f, place),
-                byte_at(*g, place),
-            ),
-            56,
-        ),
-        _ => unreachable!(),
+    if words.len() == 4 {
+        let four = interleave4(
+            byte_at(words[0], place),
+            byte_at(words[1], place),
+            byte_at(words[2], place),
+            byte_at(words[3], place),
+        );
+        Word::of(u64::from(four), 32)
+    } else {
+        let seven = interleave7(
+            byte_at(words[0], place),
+            byte_at(words[1], place),
+            byte_at(words[2], place),
+            byte_at(words[3], place),
+            byte_at(words[4], place),
+            byte_at(words[5], place),
+            byte_at(words[6], place),
+        );
+        Word::of(seven, 56)
     }
 }
 

@@ -5,3 +5,4 @@ pub mod MadeWithin
 pub mod Received
 pub mod Reported
 pub mod Sent
+pub mod Wanting

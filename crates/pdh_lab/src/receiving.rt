@@ -4,6 +4,7 @@ ghost use Rattle.std.specs.Prelude.{◌≡◌, ⊤, ◌<◌, ◌/◌, ◌^◌, �
 ghost use Rattle.pdh_edge.specs.MemLists.{inputs_of, outputs_of, room_of};
 ghost use Rattle.pdh_chain.specs.Chains.{shapes_of, leaves_of};
 ghost use Rattle.pdh_chain.specs.Demuxes.{Demuxes};
+ghost use Rattle.pdh_chain.specs.declared.stop.DemuxStop.TheVariants.{Memory};
 ghost use Rattle.pdh_lab.specs.Steps.{HasLine, HaveReceived};
 
 use pdh_chain::{Chain, DemuxStop, leaves};
@@ -47,6 +48,13 @@ fn port_of(alloc: Global, line: Packed, leaves: u32) -> Result<MemPort, AllocErr
     Ok(port)
 }
 
+// What is wanting where a line isn't taken that has its bits, into a port that has room.
+fn wanting(_stop: DemuxStop) -> AllocError
+    requires { _stop ≡ Memory }
+{
+    AllocError
+}
+
 // Gives the receivers of a chain the line's bits, so many, and answers how many frames are delivered.
 fn deliver(alloc: Global, chain: Chain, bits: u64, port: &mut MemPort) -> Result<u64, AllocError>
     requires few { bits < 2 ^ 63 }
@@ -60,11 +68,8 @@ fn deliver(alloc: Global, chain: Chain, bits: u64, port: &mut MemPort) -> Result
 {
     match pdh_chain::demux(alloc, chain, bits, port, &mut Quiet) {
         Ok(frames) => Ok(frames),
-        Err(DemuxStop::Memory) => Err(AllocError),
         // The line has its bits; the port gives them, and has room.
-        Err(DemuxStop::Ended) => unreachable!(),
-        Err(DemuxStop::ReadFailed) => unreachable!(),
-        Err(DemuxStop::WriteFailed) => unreachable!(),
+        Err(stop) => Err(wanting(stop)),
     }
 }
 

@@ -5,6 +5,7 @@ ghost use Rattle.pdh_edge.specs.MemLists.{inputs_of, outputs_of, items_of, room_
 ghost use Rattle.pdh_nesting.specs.Chains.{top_len};
 ghost use Rattle.pdh_shape.specs.OwnNumbers.{most_frames};
 ghost use Rattle.pdh_chain.specs.Chains.{shapes_of};
+ghost use Rattle.pdh_chain.specs.declared.stop.MuxStop.TheVariants.{Memory};
 ghost use Rattle.pdh_lab.specs.Drill.{line_of};
 ghost use Rattle.pdh_lab.specs.Steps.{IsClockOf, CanSend, IsSent};
 
@@ -30,6 +31,13 @@ fn port_for(alloc: Global, leaves: Vec<Packed>, bits: usize) -> Result<MemPort, 
     Ok(port)
 }
 
+// What is wanting where a line isn't made that nothing else stands in the way of.
+fn wanting(_stop: MuxStop) -> AllocError
+    requires { _stop ≡ Memory }
+{
+    AllocError
+}
+
 // Makes the line into the port's list.
 fn send(
     alloc: Global,
@@ -49,14 +57,9 @@ fn send(
 {
     match pdh_chain::mux(alloc, chain, clock, frames, None, port) {
         Ok(()) => Ok(()),
-        Err(MuxStop::Memory) => Err(AllocError),
         // The schedule is within the tolerance, and long enough, as the leaves are; the port gives its
         // bits, and has room.
-        Err(MuxStop::Event { .. }) => unreachable!(),
-        Err(MuxStop::NoFrame { .. }) => unreachable!(),
-        Err(MuxStop::Ended { .. }) => unreachable!(),
-        Err(MuxStop::ReadFailed) => unreachable!(),
-        Err(MuxStop::WriteFailed) => unreachable!(),
+        Err(stop) => Err(wanting(stop)),
     }
 }
 

@@ -4,6 +4,7 @@ use Rattle.std.proofs.lemmas.Bool.{cases_Bool}
 use Rattle.std.proofs.Math.Nat.{mul-le-mul_left, mul-le-mul_right, div-mul-le_self}
 use Rattle.std.proofs.lemmas.List.Elements.{All-head, All-tail, All-drop}
 use Rattle.pdh_shape.specs.declared.place.Level.{Level}
+use Rattle.pdh_shape.specs.OwnNumbers.{lead, allowance}
 use Rattle.pdh_line.specs.Progress.{short_by}
 use Rattle.pdh_line.specs.Nodes.{delay_below}
 use Rattle.pdh_levels.specs.Levels.{IsLevel, level_numbers, numbers_of}
@@ -47,7 +48,7 @@ pub record AreFew (levels : List Level) (short : ℕ) (d : Level) : Type 0 where
   pub some : 0 < (get_or (take (length levels - 1) (drop 1 levels)) 0 d).len
   pub few : (held_back levels short d + 1) * 8 ^ length (take (length levels - 1) (drop 1 levels)) ≤ 1536
 
-few_held : (len' frames short n : ℕ) → 848 ≤ len' → short ≤ 32 + frames * 4760 → (frames + 1) * 8 ^ suc n ≤ 1536 → (short / len' + 4 + 1) * 8 ^ n ≤ 1536
+few_held : (len' frames short n : ℕ) → 848 ≤ len' → short ≤ lead + allowance + frames * 4760 → (frames + 1) * 8 ^ suc n ≤ 1536 → (short / len' + 4 + 1) * 8 ^ n ≤ 1536
 few_held len' frames short n long most few =
     let whole : short / len' * len' ≤ short = div-mul-le_self short len' in
     let least : short / len' * 848 ≤ short / len' * len' = mul-le-mul_left (short / len') long in
@@ -62,7 +63,7 @@ few_held len' frames short n long most few =
     upto : (a b c : ℕ) → a ≤ b → b ≤ c → a ≤ c
     upto a b c h h' = omega arith
 
-short_most : (level : Level) (frames : ℕ) → IsLevel level → IsLow level → short_by (level_numbers level) frames ≤ 32 + frames * 4760
+short_most : (level : Level) (frames : ℕ) → IsLevel level → IsLow level → short_by (level_numbers level) frames ≤ lead + allowance + frames * 4760
 short_most level frames is low =
     let bits : frames * suc level.low ≤ frames * 4760 = mul-le-mul_left frames (omega (arith, is.longest)) in
     elim (cases_Bool level.locked) [
@@ -78,7 +79,7 @@ few_more (level ∷ next ∷ below) frames short d d' more each low few is =
     let first = All-head IsLevel level (next ∷ below) each in
     let second = All-head IsLevel next below (All-tail IsLevel level (next ∷ below) each) in
     let rest : take (length (level ∷ next ∷ below) - 1) (next ∷ below) ≡ next ∷ below = below_top (level ∷ next ∷ below) in
-    let most : short ≤ 32 + frames * 4760 = omega (arith, is, short_most level frames first (All-head IsLow level (next ∷ below) low)) in
+    let most : short ≤ lead + allowance + frames * 4760 = omega (arith, is, short_most level frames first (All-head IsLow level (next ∷ below) low)) in
     record {
       some = subst (λ ls. 0 < (get_or ls 0 d').len) (sym rest) (omega (arith, second.shortest));
       few = subst (λ ls. (short / (get_or ls 0 d').len + 4 + 1) * 8 ^ length ls ≤ 1536) (sym rest) (few_held next.len frames short (suc (length below)) second.shortest most few);

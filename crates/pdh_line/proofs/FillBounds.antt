@@ -11,9 +11,9 @@ use Rattle.pdh_shape.specs.Frame.{FrameShape, IsFrame, slots}
 use Rattle.pdh_shape.specs.Tributary.{reads_from, is_just, HasTributaries, reads_below, ReadsEvenly}
 use Rattle.pdh_shape.specs.laws.Ranges.{count-range_grows}
 use Rattle.pdh_line.specs.Progress.{arrived}
-use Rattle.pdh_shape.specs.OwnNumbers.{lead, threshold}
+use Rattle.pdh_shape.specs.OwnNumbers.{lead, threshold, allowance}
 use Rattle.pdh_line.specs.Sending.{carried, sent, sends_more, came_before, read_before, fill_before, fill_arrived}
-use Rattle.pdh_line.specs.Tolerance.{arrived_over, IsWithin}
+use Rattle.pdh_line.specs.Tolerance.{arrived_over, IsWithin, least_at_start, most_at_start, least_inside, most_inside}
 use Rattle.pdh_line.proofs.Ranges.{range_append}
 use Rattle.pdh_line.proofs.SendingLaws.{HasStores, arrived-zero, arrived-suc, sent-zero, sent-suc, sends_more-is, came_before-start, came_before-next, came_before_grows, read_before-start, read_before-next}
 
@@ -25,13 +25,13 @@ arrived-run counts first run =
     ap (sum_by counts) (range_append 0 first run) ∙ sum_by-append counts (range_with_len 0 first) (range_with_len (0 + first) run)
     ∙ ap (λ k. sum_by counts (range_with_len 0 first) + sum_by counts (range_with_len k run)) (zero-add first)
 
-within-least : (s : FrameShape) (counts : ℕ → ℕ) (frames first run n : ℕ) → IsWithin s counts frames → first + run ≡ n → n ≤ frames → arrived counts first + s.low * run ≤ arrived counts n + 8
+within-least : (s : FrameShape) (counts : ℕ → ℕ) (frames first run n : ℕ) → IsWithin s counts frames → first + run ≡ n → n ≤ frames → arrived counts first + s.low * run ≤ arrived counts n + allowance
 within-least s counts frames first run n within e h =
-    subst (λ k. arrived counts first + s.low * run ≤ arrived counts k + 8) e (omega (arith, arrived-run counts first run, within.least first run (omega arith)))
+    subst (λ k. arrived counts first + s.low * run ≤ arrived counts k + allowance) e (omega (arith, arrived-run counts first run, within.least first run (omega arith)))
 
-pub within-most : (s : FrameShape) (counts : ℕ → ℕ) (frames first run n : ℕ) → IsWithin s counts frames → first + run ≡ n → n ≤ frames → arrived counts n ≤ arrived counts first + suc s.low * run + 8
+pub within-most : (s : FrameShape) (counts : ℕ → ℕ) (frames first run n : ℕ) → IsWithin s counts frames → first + run ≡ n → n ≤ frames → arrived counts n ≤ arrived counts first + suc s.low * run + allowance
 within-most s counts frames first run n within e h =
-    subst (λ k. arrived counts k ≤ arrived counts first + suc s.low * run + 8) e (omega (arith, arrived-run counts first run, within.most first run (omega arith)))
+    subst (λ k. arrived counts k ≤ arrived counts first + suc s.low * run + allowance) e (omega (arith, arrived-run counts first run, within.most first run (omega arith)))
 
 -- ---- at a frame's start
 
@@ -76,14 +76,14 @@ sent-many s counts (suc n) stores =
       | inr justified ↦ (n, 1, omega arith, omega (arith, sent-justified s counts n justified, arrived-sent s counts n stores justified))
     ]
 
--- within the tolerance a store holds at least 15 bits at each frame's start
-pub fill_at_start-least : (s : FrameShape) (counts : ℕ → ℕ) (frames n : ℕ) → HasStores s → IsWithin s counts frames → n ≤ frames → sent s counts n + 15 ≤ lead + arrived counts n
+-- within the tolerance a store holds at each frame's start at least so many bits
+pub fill_at_start-least : (s : FrameShape) (counts : ℕ → ℕ) (frames n : ℕ) → HasStores s → IsWithin s counts frames → n ≤ frames → sent s counts n + least_at_start ≤ lead + arrived counts n
 fill_at_start-least s counts frames n stores within h =
     let few = sent-few s counts n stores in
     omega (arith, few.3, within-least s counts frames few.0 few.1 n within few.2 h)
 
--- and at most 32
-pub fill_at_start-most : (s : FrameShape) (counts : ℕ → ℕ) (frames n : ℕ) → HasStores s → IsWithin s counts frames → n ≤ frames → lead + arrived counts n ≤ sent s counts n + 32
+-- and at most so many
+pub fill_at_start-most : (s : FrameShape) (counts : ℕ → ℕ) (frames n : ℕ) → HasStores s → IsWithin s counts frames → n ≤ frames → lead + arrived counts n ≤ sent s counts n + most_at_start
 fill_at_start-most s counts frames n stores within h =
     let many = sent-many s counts n stores in
     omega (arith, many.3, within-most s counts frames many.0 many.1 n within many.2 h)
@@ -121,17 +121,17 @@ reads_below-more s j t has known h =
     let all : count_by (λ t. is_just j (s.role t)) (slots s) ≡ 1 = omega (arith, count-just s j (slots s), has.low j known, has.high j known) in
     omega (arith, count-just s j (range_with_len 0 t), count-range_grows (λ t. is_just j (s.role t)) t s.len h)
 
--- within the tolerance a store holds at least 4 bits before each slot and at each frame's end
+-- within the tolerance a store holds at least so many bits before each slot and at each frame's end
 pub fill-from : (s : FrameShape) (j : ℕ) (counts : ℕ → ℕ) (frames n t : ℕ) → IsFrame s → HasTributaries s → HasStores s → ReadsEvenly s → j < s.tribs
-    → IsWithin s counts frames → n < frames → t ≤ s.len → read_before s j counts n t + 4 ≤ came_before s counts n t
+    → IsWithin s counts frames → n < frames → t ≤ s.len → read_before s j counts n t + least_inside ≤ came_before s counts n t
 fill-from s j counts frames n t frame has stores even known within scheduled h =
     let next : n + 1 ≡ suc n = omega arith in
-    let rate : s.low ≤ counts n + 8 = omega (arith, within-least s counts frames n 1 (suc n) within next scheduled, arrived-suc counts n) in
-    let share : t * s.low ≤ t * (counts n + 8) = mul-le-mul_left t rate in
-    let allowed : t * 8 ≤ s.len * 8 = mul-le-mul_right 8 h in
+    let rate : s.low ≤ counts n + allowance = omega (arith, within-least s counts frames n 1 (suc n) within next scheduled, arrived-suc counts n) in
+    let share : t * s.low ≤ t * (counts n + allowance) = mul-le-mul_left t rate in
+    let allowed : t * allowance ≤ s.len * allowance = mul-le-mul_right allowance h in
     let floor : t * counts n < t * counts n / s.len * s.len + s.len = lt-div-mul-add frame.some_slots in
-    let scaled : reads_below s j false t * s.len < (t * counts n / s.len + 11) * s.len = omega (arith, even.ahead j t known h) in
-    let read : reads_below s j false t < t * counts n / s.len + 11 = lt_of_mul _ _ s.len scaled in
+    let scaled : reads_below s j false t * s.len < (t * counts n / s.len + (allowance + 3)) * s.len = omega (arith, even.ahead j t known h) in
+    let read : reads_below s j false t < t * counts n / s.len + (allowance + 3) = lt_of_mul _ _ s.len scaled in
     elim (cases_Bool (sends_more s counts n)) [
       | inl more ↦ rw more (omega (arith, reads_below-more s j t has known h, sent-arrived s counts n stores more))
       | inr justified ↦ rw justified (omega (arith, fill_at_start-least s counts frames n stores within (omega arith)))
@@ -140,17 +140,17 @@ fill-from s j counts frames n t frame has stores even known within scheduled h =
     lt_of_mul : (a b c : ℕ) → a * c < b * c → a < b
     lt_of_mul a b c h = elim (cases_lt a b) [ inl lt ↦ lt | inr ge ↦ absurd (omega (arith, mul-le-mul_right c ge)) ]
 
--- and at most 45 with the bit that arrives in a slot, before the slot is read
+-- and at most so many with the bit that arrives in a slot, before the slot is read
 pub fill-upto : (s : FrameShape) (j : ℕ) (counts : ℕ → ℕ) (frames n t : ℕ) → IsFrame s → HasTributaries s → HasStores s → ReadsEvenly s → j < s.tribs
-    → IsWithin s counts frames → n < frames → t < s.len → came_before s counts n (suc t) ≤ read_before s j counts n t + 45
+    → IsWithin s counts frames → n < frames → t < s.len → came_before s counts n (suc t) ≤ read_before s j counts n t + most_inside
 fill-upto s j counts frames n t frame has stores even known within scheduled h =
     let next : n + 1 ≡ suc n = omega arith in
-    let rate : counts n ≤ suc s.low + 8 = omega (arith, within-most s counts frames n 1 (suc n) within next scheduled, arrived-suc counts n) in
-    let share : suc t * counts n ≤ suc t * (suc s.low + 8) = mul-le-mul_left (suc t) rate in
-    let allowed : suc t * 8 ≤ s.len * 8 = mul-le-mul_right 8 (omega arith) in
+    let rate : counts n ≤ suc s.low + allowance = omega (arith, within-most s counts frames n 1 (suc n) within next scheduled, arrived-suc counts n) in
+    let share : suc t * counts n ≤ suc t * (suc s.low + allowance) = mul-le-mul_left (suc t) rate in
+    let allowed : suc t * allowance ≤ s.len * allowance = mul-le-mul_right allowance (omega arith) in
     let floor : suc t * counts n / s.len * s.len ≤ suc t * counts n = div-mul-le_self (suc t * counts n) s.len in
-    let scaled : suc t * counts n / s.len * s.len ≤ (reads_below s j true t + 13) * s.len = omega (arith, even.behind j t known h) in
-    let came : suc t * counts n / s.len ≤ reads_below s j true t + 13 = le_of_mul _ _ s.len frame.some_slots scaled in
+    let scaled : suc t * counts n / s.len * s.len ≤ (reads_below s j true t + (allowance + 5)) * s.len = omega (arith, even.behind j t known h) in
+    let came : suc t * counts n / s.len ≤ reads_below s j true t + (allowance + 5) = le_of_mul _ _ s.len frame.some_slots scaled in
     elim (cases_Bool (sends_more s counts n)) [
       | inl more ↦ rw more (omega (arith, fill_at_start-most s counts frames n stores within (omega arith)))
       | inr justified ↦ rw justified (omega (arith, reads_below-more s j t has known (omega arith), arrived-sent s counts n stores justified))
@@ -159,17 +159,17 @@ fill-upto s j counts frames n t frame has stores even known within scheduled h =
     le_of_mul : (a b c : ℕ) → 0 < c → a * c ≤ b * c → a ≤ b
     le_of_mul a b c p h = elim (cases_lt b a) [ inl lt ↦ absurd (omega (arith, mul-le-mul_right c lt)) | inr ge ↦ ge ]
 
--- At each step inside a frame the fill is from 4 to 45: before a slot and at the frame's end,
+-- At each step inside a frame the fill is between the two: before a slot and at the frame's end,
 pub fill_before_slot : (s : FrameShape) (j : ℕ) (counts : ℕ → ℕ) (frames n t : ℕ) → IsFrame s → HasTributaries s → HasStores s → ReadsEvenly s → j < s.tribs
     → IsWithin s counts frames → n < frames → t ≤ s.len
-    → (read_before s j counts n t + 4 ≤ came_before s counts n t) × (came_before s counts n t ≤ read_before s j counts n t + 45)
+    → (read_before s j counts n t + least_inside ≤ came_before s counts n t) × (came_before s counts n t ≤ read_before s j counts n t + most_inside)
 fill_before_slot s j counts frames n t frame has stores even known within scheduled h = (
   fill-from s j counts frames n t frame has stores even known within scheduled h,
   elim (cases_lt t s.len) [
     | inl slot ↦ omega (arith, came_before_grows s counts n t frame, fill-upto s j counts frames n t frame has stores even known within scheduled slot)
     | inr end ↦
         let e : s.len ≡ t = omega arith in
-        let last : came_before s counts n s.len ≤ read_before s j counts n s.len + 45 =
+        let last : came_before s counts n s.len ≤ read_before s j counts n s.len + most_inside =
         omega (
           arith,
           came_before-next s counts n frame,
@@ -178,14 +178,14 @@ fill_before_slot s j counts frames n t frame has stores even known within schedu
           read_before-start s j counts (suc n),
           fill_at_start-most s counts frames (suc n) stores within scheduled,
         ) in
-        subst (λ t. came_before s counts n t ≤ read_before s j counts n t + 45) e last
+        subst (λ t. came_before s counts n t ≤ read_before s j counts n t + most_inside) e last
   ],
 )
 
 -- and after the arrivals of a slot, before it is read
 pub fill_after_arrivals : (s : FrameShape) (j : ℕ) (counts : ℕ → ℕ) (frames n t : ℕ) → IsFrame s → HasTributaries s → HasStores s → ReadsEvenly s → j < s.tribs
     → IsWithin s counts frames → n < frames → t < s.len
-    → (read_before s j counts n t + 4 ≤ came_before s counts n (suc t)) × (came_before s counts n (suc t) ≤ read_before s j counts n t + 45)
+    → (read_before s j counts n t + least_inside ≤ came_before s counts n (suc t)) × (came_before s counts n (suc t) ≤ read_before s j counts n t + most_inside)
 fill_after_arrivals s j counts frames n t frame has stores even known within scheduled h = (
   omega (arith, came_before_grows s counts n t frame, fill-from s j counts frames n t frame has stores even known within scheduled (omega arith)),
   fill-upto s j counts frames n t frame has stores even known within scheduled h,
@@ -194,7 +194,7 @@ fill_after_arrivals s j counts frames n t frame has stores even known within sch
 -- ---- as the fills themselves
 
 pub fill-start : (s : FrameShape) (j : ℕ) (counts : ℕ → ℕ) (frames n : ℕ) → IsFrame s → HasStores s → IsWithin s counts frames → n ≤ frames
-    → (15 ≤ fill_before s j counts n 0) × (fill_before s j counts n 0 ≤ 32)
+    → (least_at_start ≤ fill_before s j counts n 0) × (fill_before s j counts n 0 ≤ most_at_start)
 fill-start s j counts frames n frame stores within h =
     let came : came_before s counts n 0 ≡ lead + arrived counts n = came_before-start s counts n frame in
     let read : read_before s j counts n 0 ≡ sent s counts n = read_before-start s j counts n in
@@ -204,14 +204,14 @@ fill-start s j counts frames n frame stores within h =
 
 pub fill-slot : (s : FrameShape) (j : ℕ) (counts : ℕ → ℕ) (frames n t : ℕ) → IsFrame s → HasTributaries s → HasStores s → ReadsEvenly s → j < s.tribs
     → IsWithin s counts frames → n < frames → t ≤ s.len
-    → (4 ≤ fill_before s j counts n t) × (fill_before s j counts n t ≤ 45)
+    → (least_inside ≤ fill_before s j counts n t) × (fill_before s j counts n t ≤ most_inside)
 fill-slot s j counts frames n t frame has stores even known within scheduled h =
     let bounds = fill_before_slot s j counts frames n t frame has stores even known within scheduled h in
     (omega (arith, bounds.0), omega (arith, bounds.1))
 
 pub fill-arrivals : (s : FrameShape) (j : ℕ) (counts : ℕ → ℕ) (frames n t : ℕ) → IsFrame s → HasTributaries s → HasStores s → ReadsEvenly s → j < s.tribs
     → IsWithin s counts frames → n < frames → t < s.len
-    → (4 ≤ fill_arrived s j counts n t) × (fill_arrived s j counts n t ≤ 45)
+    → (least_inside ≤ fill_arrived s j counts n t) × (fill_arrived s j counts n t ≤ most_inside)
 fill-arrivals s j counts frames n t frame has stores even known within scheduled h =
     let bounds = fill_after_arrivals s j counts frames n t frame has stores even known within scheduled h in
     (omega (arith, bounds.0), omega (arith, bounds.1))

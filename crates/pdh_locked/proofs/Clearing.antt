@@ -1,15 +1,16 @@
 -- What holds of the slots of a frame in whose way nothing stands.
 use Rattle.std.proofs.Common.{◌≡◌, inl, inr, ℕ, zero, suc, ◌+◌, ◌<◌, ◌≤◌, true, false, List, [], map, cond, sym, ap, ◌∙◌, arith, Some, None, slice_get, ◌∷◌}
 use Rattle.std.specs.List.{range_with_len}
-use Rattle.std.proofs.lemmas.Bool.{cases_Bool, cases_lt}
+use Rattle.std.proofs.lemmas.Bool.{cases_Bool, cases_lt, le-leb}
 use Rattle.pdh_edge.specs.Ports.{Inputs}
 use Rattle.pdh_shape.specs.declared.place.Path.{Path}
 use Rattle.pdh_shape.specs.Frame.{FrameShape}
 use Rattle.pdh_shape.specs.Tributary.{reads_from}
 use Rattle.pdh_tx.specs.declared.tx.Tx.{Ghosts}
 use Rattle.pdh_tx.specs.declared.tx.TxStop.{TxStop}
+use Rattle.pdh_tx.specs.declared.tx.TxStop.TheVariants.{NoFrame}
 use Rattle.pdh_tx.specs.Meaning.{Meaning, Plan}
-use Rattle.pdh_tx.specs.Held.{first_some}
+use Rattle.pdh_tx.specs.Held.{first_some, some_if}
 use Rattle.pdh_tx.specs.Making.{IsClear}
 use Rattle.pdh_tx.specs.Node.{obstacle_of, IsDisjoint}
 use Rattle.pdh_tx.specs.Locked.{locked_to, locked_beginning, locked_read, locked_steps}
@@ -54,10 +55,24 @@ module _ {C : Type 0} (tx : Ghosts C) (s : FrameShape) (path : Path) (plan : Pla
   }
 
   -- nor of the frame's beginning
-  pub begins : (stop : TxStop) → 0 < len → locked_beginning path plan n t ≡ Some stop → ⊥
+  begins : (stop : TxStop) → 0 < len → locked_beginning path plan n t ≡ Some stop → ⊥
   begins stop some met =
       let e : t ≡ t + 0 = omega arith in
       no (sym (begin_stop s path plan (map tx.meaning children) clear.size n t stop met) ∙ ap (λ v. first_some (locked_steps s path plan (map tx.meaning children) clear.size n v)) e ∙ clear.clear 0 some)
     where
       no : Some stop ≡ None → ⊥
       no h = cc
+
+  -- so the frame is scheduled
+  pub scheduled : 0 < len → (0 < t → n < plan.frames path) → n < plan.frames path
+  scheduled some inside = elim (cases_lt 0 t) [
+    | inl later ↦ inside later
+    | inr first ↦ elim (cases_lt n (plan.frames path)) [
+      | inl less ↦ less
+      | inr past ↦
+          let begun : t ≡ 0 = omega arith in
+          let stops : locked_beginning path plan n t ≡ Some (NoFrame path) =
+          ap (λ v. locked_beginning path plan n v) begun ∙ ap (λ over. some_if over (NoFrame path)) (le-leb (plan.frames path) n past) in
+          absurd (begins (NoFrame path) some stops)
+    ]
+  ]

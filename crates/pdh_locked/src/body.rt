@@ -51,30 +51,20 @@ impl<S: Shape, C: Tx> Body<S> for Children<S, C> {
         feed: &mut F,
         into: &mut Packed,
     ) -> Result<bool, Failed> {
-        match begin(at.path, at.frame, at.slot, clock) {
-            Ok(()) => {
-                write_overhead::<S, ()>(
-                    &self.layout,
-                    at,
-                    say,
-                    odd,
-                    &(),
-                    &mut self.scratch.overhead,
-                );
-                self.fill_all(at.frame, at.slot, at.len, clock, feed)?;
-                Ok(
-                    self.layout.assemble(
-                        at.slot,
-                        at.len,
-                        &self.scratch.overhead,
-                        &self.scratch.columns,
-                        &mut self.scratch.payload,
-                        into,
-                    ),
-                )
-            }
-            Err(_stop) => unreachable!(),
-        }
+        // the number of the frame after it fits, since the count of frames does
+        let _fits = clock.frames(&at.path);
+        write_overhead::<S, ()>(&self.layout, at, say, odd, &(), &mut self.scratch.overhead);
+        self.fill_all(at.frame, at.slot, at.len, clock, feed)?;
+        Ok(
+            self.layout.assemble(
+                at.slot,
+                at.len,
+                &self.scratch.overhead,
+                &self.scratch.columns,
+                &mut self.scratch.payload,
+                into,
+            ),
+        )
     }
 
     ghost is_kind = { λ b. locked_is_kind S.shape S.has_tributaries b.locked };

@@ -12,6 +12,7 @@ use std::rc::Rc;
 
 /// The children of a multiplexer without stores, one for each tributary of its shape, and what they
 /// pass their bits by.
+#[derive(Drop)]
 pub struct Children<S: Shape, C: Tx> {
     /// In order.
     pub list: Vec<C>,
@@ -23,14 +24,4 @@ pub struct Children<S: Shape, C: Tx> {
     ghost locked: { (S.shape.copies == 0) ≡ true },
     ghost disjoint: { IsDisjoint (map C.meaning list.items) },
     ghost room: { HasRoom S.LEN S.TRIBS S.LOW scratch },
-}
-
-impl<S: Shape, C: Tx> Drop for Children<S, C> {
-    fn drop(self) {
-        let Self {
-            list: _,
-            layout: _,
-            scratch: _,
-        } = self;
-    }
 }

@@ -20,12 +20,12 @@ chains = (e2 ∷ []) ∷ (e3 ∷ []) ∷ (e4 ∷ []) ∷ (e3 ∷ e2 ∷ []) ∷ 
 pub leaves : map width chains ≡ 4 ∷ 4 ∷ 4 ∷ 16 ∷ 16 ∷ 64 ∷ []
 leaves = refl
 
-pub delays : map delay chains ≡ 444 ∷ 788 ∷ 1478 ∷ 856 ∷ 1544 ∷ 1062 ∷ []
+pub delays : map delay chains ≡ 478 ∷ 822 ∷ 1512 ∷ 890 ∷ 1578 ∷ 1096 ∷ []
 unfolding delay_below
 delays = refl
 
 -- a node without stores keeps a tributary short by the bits of its frames alone
-pub locked_delays : map delay ((locked_e2 ∷ []) ∷ (locked_e2 ∷ e2 ∷ []) ∷ (e2 ∷ locked_e2 ∷ []) ∷ []) ≡ 412 ∷ 856 ∷ 824 ∷ []
+pub locked_delays : map delay ((locked_e2 ∷ []) ∷ (locked_e2 ∷ e2 ∷ []) ∷ (e2 ∷ locked_e2 ∷ []) ∷ []) ≡ 412 ∷ 890 ∷ 824 ∷ []
 unfolding delay_below
 locked_delays = refl
 

@@ -12,7 +12,7 @@ use Rattle.pdh_line.proofs.WithinTolerance.{within-each}
 use Rattle.pdh_nesting.specs.Sending.{AllWithin}
 use Rattle.pdh_nesting.specs.Events.{events_in, events_below, first_event}
 use Rattle.pdh_nesting.specs.StepOrder.{comes_before, keyed_in}
-use Rattle.pdh_nesting.proofs.KnownChains.{locked_e2, e3_e2_frames, e3_e2_even}
+use Rattle.pdh_nesting.proofs.KnownChains.{locked_e2, e3_e2_known}
 use Rattle.pdh_nesting.proofs.NoEvents.{first_event-none}
 
 -- the smaller number first, and of two lists of which one begins the other the longer
@@ -28,17 +28,17 @@ shorter_later = refl
 -- ---- one node
 
 -- where all four tributaries bring 848 bits in frame 0, a bit a slot, the last one overflows first: the others were read before
-pub all_overflow : first_event (e2 ∷ []) (λ path j n. 848) 1 ≡ Some (record { kind = Overflow; path = []; trib = 3; frame = 0; slot = 27 })
+pub all_overflow : first_event (e2 ∷ []) (λ path j n. 848) 1 ≡ Some (record { kind = Overflow; path = []; trib = 3; frame = 0; slot = 59 })
 unfolding events_below events_in sent arrived set_role
 all_overflow = refl
 
 -- where the first alone brings 848, it overflows a slot later
-pub first_overflows : first_event (e2 ∷ []) (λ path j n. (if j == 0 then 848 else 206)) 1 ≡ Some (record { kind = Overflow; path = []; trib = 0; frame = 0; slot = 28 })
+pub first_overflows : first_event (e2 ∷ []) (λ path j n. (if j == 0 then 848 else 206)) 1 ≡ Some (record { kind = Overflow; path = []; trib = 0; frame = 0; slot = 60 })
 unfolding events_below events_in sent arrived set_role
 first_overflows = refl
 
--- where the first brings nothing, its 24 bits are used up at its 25th slot
-pub first_underflows : first_event (e2 ∷ []) (λ path j n. (if j == 0 then 0 else 206)) 1 ≡ Some (record { kind = Underflow; path = []; trib = 0; frame = 0; slot = 108 })
+-- where the first brings nothing, its lead of 48 bits is used up at its 49th slot
+pub first_underflows : first_event (e2 ∷ []) (λ path j n. (if j == 0 then 0 else 206)) 1 ≡ Some (record { kind = Underflow; path = []; trib = 0; frame = 0; slot = 204 })
 unfolding events_below events_in sent arrived set_role
 first_underflows = refl
 
@@ -51,21 +51,21 @@ silent_first (a ∷ []) j n = (if (a == 1) && (j == 0) then 0 else 205)
 silent_first (a ∷ b ∷ path) j n = 0
 
 unfoldable pub silent_underflow : Event
-silent_underflow = record { kind = Underflow; path = 1 ∷ []; trib = 0; frame = 0; slot = 108 }
+silent_underflow = record { kind = Underflow; path = 1 ∷ []; trib = 0; frame = 0; slot = 204 }
 
--- Its 24 bits are used up at its 25th slot, slot 108 of the E2 node: bit 84 after the E3 node's lead. That bit arrives in
--- slot 346 of the E3 frame: 85 times 1536 is more than 346 times 377, and no more than 347 times 377.
-pub silent_in : events_in (e3 ∷ e2 ∷ []) silent_first [] 346 ≡ silent_underflow ∷ []
+-- Its 48 bits are used up at its 49th slot, slot 204 of the E2 node: bit 156 after the E3 node's lead. That bit arrives in
+-- slot 639 of the E3 frame: 157 times 1536 is more than 639 times 377, and no more than 640 times 377.
+pub silent_in : events_in (e3 ∷ e2 ∷ []) silent_first [] 639 ≡ silent_underflow ∷ []
 unfolding silent_first silent_underflow events_in sent arrived set_role
 silent_in = refl
 
--- its list, below the top's bit: the arrival of bit 108 of the first E2 node, and the step after the four arrivals
-pub silent_keyed : keyed_in (e3 ∷ e2 ∷ []) silent_first [] 346 ≡ (1 ∷ 1 ∷ 108 ∷ 1 ∷ 5 ∷ [], silent_underflow) ∷ []
+-- its list, below the top's bit: the arrival of bit 204 of the first E2 node, and the step after the four arrivals
+pub silent_keyed : keyed_in (e3 ∷ e2 ∷ []) silent_first [] 639 ≡ (1 ∷ 1 ∷ 204 ∷ 1 ∷ 5 ∷ [], silent_underflow) ∷ []
 unfolding silent_first silent_underflow keyed_in sent arrived set_role
 silent_keyed = refl
 
 -- the bit before has none
-pub silent_before : events_in (e3 ∷ e2 ∷ []) silent_first [] 345 ≡ []
+pub silent_before : events_in (e3 ∷ e2 ∷ []) silent_first [] 638 ≡ []
 unfolding silent_first events_in sent arrived set_role
 silent_before = refl
 
@@ -81,19 +81,19 @@ pub locked_first : events_in (locked_e2 ∷ e2 ∷ []) silent_first [] 0 ≡ []
 unfolding silent_first events_in set_role
 locked_first = refl
 
--- the event of the first E2 node, in making its bit 108: the first two sets of the node above read 102 bits of it, and so slot
--- 28 of the third set reads this one
-pub locked_in : events_in (locked_e2 ∷ e2 ∷ []) silent_first [] 452 ≡ silent_underflow ∷ []
+-- the event of the first E2 node, in making its bit 204: the node above reads 205 bits of it in a frame, and so the last
+-- of its information slots reads this one
+pub locked_in : events_in (locked_e2 ∷ e2 ∷ []) silent_first [] 844 ≡ silent_underflow ∷ []
 unfolding silent_first silent_underflow events_in sent arrived set_role
 locked_in = refl
 
 -- its list is that of a bit that arrives
-pub locked_keyed : keyed_in (locked_e2 ∷ e2 ∷ []) silent_first [] 452 ≡ (1 ∷ 1 ∷ 108 ∷ 1 ∷ 5 ∷ [], silent_underflow) ∷ []
+pub locked_keyed : keyed_in (locked_e2 ∷ e2 ∷ []) silent_first [] 844 ≡ (1 ∷ 1 ∷ 204 ∷ 1 ∷ 5 ∷ [], silent_underflow) ∷ []
 unfolding silent_first silent_underflow keyed_in sent arrived set_role
 locked_keyed = refl
 
 -- it is the first event of the chain's first frame
-pub locked_before : events_below (locked_e2 ∷ e2 ∷ []) silent_first 452 ≡ []
+pub locked_before : events_below (locked_e2 ∷ e2 ∷ []) silent_first 844 ≡ []
 unfolding silent_first events_below events_in sent arrived set_role
 locked_before = refl
 
@@ -114,4 +114,4 @@ least-within x =
 
 -- so no run has an event
 pub least-none : (frames : ℕ) → first_event (e3 ∷ e2 ∷ []) least_each frames ≡ None
-least-none frames = first_event-none (e3 ∷ e2 ∷ []) least_each frames e3_e2_frames e3_e2_even (least-within (frames * 1536))
+least-none frames = first_event-none (e3 ∷ e2 ∷ []) least_each frames e3_e2_known.0 e3_e2_known.1 (least-within (frames * 1536))

@@ -19,7 +19,7 @@ justified_frame =
     ++ replicate 4 true ++ replicate 208 false
     ++ replicate 4 true ++ replicate 4 true ++ replicate 204 false
 
--- In frame 0 the stores hold 24 bits, so each tributary has an additional bit. From frame 1 on they hold 23 at the
+-- In frame 0 the stores hold the threshold, so each tributary has an additional bit. From frame 1 on they hold one less at the
 -- start, so the frames are justified.
 pub zeros_line : front (line_bit e2 zeros_source) 2544 ≡ zeros_frame ++ justified_frame ++ justified_frame
 unfolding zeros_source zeros_frame justified_frame line_bit odd_before sent arrived set_role

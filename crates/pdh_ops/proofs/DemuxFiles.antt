@@ -1,11 +1,10 @@
 -- What `demux` comes to where no step refuses its line, and the port that it opens then.
-use Rattle.std.proofs.Common.{◌≡◌, ◌≢◌, ℕ, zero, suc, ◌+◌, ◌/◌, nat_lt, List, [], ◌∷◌, ◌++◌, false, Option, Some, Ok, length, map, take, slice_get, refl, ap, sym, subst, ◌∙◌, arith, lit<}
+use Rattle.std.proofs.Common.{◌≡◌, ◌≢◌, ℕ, ◌+◌, ◌/◌, nat_lt, List, [], ◌∷◌, ◌++◌, false, Option, Some, Ok, length, map, take, slice_get, refl, ap, sym, subst, ◌∙◌, arith, lit<}
 use Rattle.std.specs.Prelude.{unwrap_or}
 use Rattle.std.specs.List.{range_with_len}
 use Rattle.std.proofs.lemmas.Bool.Decides.{nat_tests}
 use Rattle.std.proofs.lemmas.List.FromFn.{length-map-range_with_len}
 use Rattle.std.proofs.lemmas.Simd.{map-map}
-use Rattle.std.proofs.lemmas.Option.{none-some, same_Some}
 use Rattle.std.proofs.Math.Seq.{take-length}
 use Rattle.pdh_bits.specs.Bits.{bits_of}
 use Rattle.pdh_bits.proofs.BitsLemmas.{length-bits_of}
@@ -21,7 +20,8 @@ use Rattle.pdh_words.specs.declared.commands.Bits.TheVariants.{Line as Recorded,
 use Rattle.pdh_answers.specs.Names.{name_of, line_file, output_name}
 use Rattle.pdh_answers.specs.Answer.{and_then}
 use Rattle.pdh_ops.specs.Commands.Demux.{line_of, frames_of, demuxed, demuxing}
-use Rattle.pdh_ops.specs.Operation.{AreTold, OfInputs, reaches_outputs, IsReadDue, Files, bytes_in}
+use Rattle.pdh_ops.specs.Operation.{AreTold, OfInputs, reaches_outputs, Files, bytes_in}
+use Rattle.pdh_ops.specs.LineSteps.{BeginsWith}
 use Rattle.pdh_ops.specs.Run.{GoesOn}
 use Rattle.pdh_ops.specs.PortFiles.{HasBits, AreFiles, AreRead, opened_for, input_name}
 use Rattle.pdh_ops.specs.Steps.{IsLine, AreLeafOutputs, CanReceive, IsDemuxPort}
@@ -29,7 +29,7 @@ use Rattle.pdh_ops.specs.Running.{ArePrepared}
 use Rattle.pdh_answers.specs.declared.file.File.{File}
 use Rattle.pdh_answers.specs.declared.file.File.TheVariants.{Output}
 use Rattle.pdh_ops.specs.declared.port.Input.{Input}
-use Rattle.pdh_ops.proofs.OneInput.{BeginsWith, held_of}
+use Rattle.pdh_ops.proofs.OneInput.{held_of, only_input}
 use Rattle.pdh_ops.proofs.LineComes.{demuxed_reaches, few_bits}
 use Rattle.pdh_ops.proofs.OutputNames.{numbered, numbered_at, numbered_differ, one_more_differs, same_output, output_is_not_line, output_is_not_bent}
 use Rattle.pdh_ops.proofs.PortOpen.{open_for, long_has, told_read, left_read, holds_read, holds_written}
@@ -66,11 +66,7 @@ module _ (chain : Chain) (bits : Bits) (line : Input) (file_is : line.file ≡ l
   first = ap (λ (all : List Input). slice_get all 0) one
 
   the_line : (k : ℕ) (input : Input) → slice_get reads k ≡ Some input → input ≡ line
-  the_line k input here = go k (ap (λ (all : List Input). slice_get all k) (sym one) ∙ here)
-    where
-      go : (k : ℕ) → slice_get (line ∷ []) k ≡ Some input → input ≡ line
-      go zero here = sym (same_Some _ _ here)
-      go (suc k) here = absurd (none-some input here)
+  the_line = only_input reads line one
 
   -- the line is read in the run, and due there
   pub demux_reads : (a : ShelfState) → GoesOn (demuxing chain bits) a → AreRead (demuxing chain bits) a reads

@@ -1,5 +1,5 @@
 -- What `mux` wrote is a line that the chain sent, what `disturb` wrote rejoins it, and the outputs of `demux` rejoin the leaves' lists.
-use Rattle.std.proofs.Common.{◌≡◌, ℕ, ◌<◌, List, Bool, Option, None, Some, Ok, Err, ap, sym, subst, arith, lit<}
+use Rattle.std.proofs.Common.{◌≡◌, ℕ, ◌<◌, List, Bool, Option, Some, Ok, Err, ap, sym, subst, arith, lit<}
 use Rattle.pdh_bits.specs.Bits.{bits_of, bytes_of}
 use Rattle.pdh_edge.specs.Files.{ShelfState, SinkState}
 use Rattle.pdh_nesting.specs.Receiving.{far}

@@ -1,6 +1,6 @@
 -- What `disturb` comes to where no step refuses its inputs, and the port that it opens then.
 use Rattle.std.proofs.Common.{◌≡◌, ℕ, zero, suc, ◌<◌, List, [], ◌∷◌, ◌++◌, true, Option, Some, length, map, take, slice_get, refl, ap, sym, subst, ◌∙◌, rules, arith, lit<}
-use Rattle.std.specs.Prelude.{IsTrue, unwrap_or}
+use Rattle.std.specs.Prelude.{unwrap_or}
 use Rattle.std.specs.Result.{result_unwrap_or}
 use Rattle.std.proofs.lemmas.Option.{none-some, same_Some}
 use Rattle.std.proofs.Math.Seq.{take-length}
@@ -9,7 +9,7 @@ use Rattle.pdh_bits.proofs.BitsLemmas.{length-bits_of}
 use Rattle.pdh_edge.specs.Files.{ShelfState, Told, Looks}
 use Rattle.pdh_edge.specs.Files.Told.{Known}
 use Rattle.pdh_chain.specs.declared.chain.Chain.{Chain}
-use Rattle.pdh_blocks.specs.Lists.{inputs_of, outputs_of}
+use Rattle.pdh_blocks.specs.Lists.{inputs_of}
 use Rattle.pdh_blocks.specs.Held.{AllDiffer}
 use Rattle.pdh_answers.specs.Names.{name_of, line_name, bent_name, script_name}
 use Rattle.pdh_ops.specs.Commands.Disturb.{script_rows, bent, disturbing}

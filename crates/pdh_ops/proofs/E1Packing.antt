@@ -4,9 +4,13 @@ use Rattle.std.specs.List.{slice_range}
 use Rattle.std.proofs.lemmas.List.{take-append-drop, drop_more}
 use Rattle.std.proofs.Math.Seq.{take-add, take-length, take-append_seam, drop-append_seam}
 use Rattle.pdh_e1.specs.Multiframe.{packed_octet, sent_word, FramePacked, frame_payload, frames_payload}
-use Rattle.pdh_e1.specs.Codec.{frames_of, IsPacked, IsPackedUpTo}
+use Rattle.pdh_e1.specs.Codec.{frames_of, IsPacked, IsPackedUpTo, IsNotPacked}
+use Rattle.pdh_e1.specs.declared.fault.PackFault.{PackFault}
+use Rattle.pdh_e1.specs.declared.fault.PackFault.TheVariants.{NotWhole as PackNotWhole, Memory as PackMemory}
 use Rattle.pdh_e1.proofs.WordLaws.{sent_word-append}
 use Rattle.pdh_e1.proofs.PackingLaws.{packed_none, packed_more, packed_all, payload_none, payload_more}
+use Rattle.pdh_answers.specs.Answer.{stop_of_pack}
+use Rattle.pdh_answers.specs.declared.answer.Stop.TheVariants.{Memory}
 use Rattle.pdh_ops.specs.Commands.E1.{frames_filled, packed_frames, packed_line}
 
 -- ---- it is packed
@@ -85,3 +89,8 @@ packed_is payload line packed =
     let all : 32 * frames ≡ length line = omega arith in
     let carries : frames_payload line frames ≡ take (31 * frames) payload = packed.carries ∙ sym (take-length payload) ∙ ap (λ (n : ℕ). take n payload) long in
     sym (take-length line) ∙ ap (λ (n : ℕ). take n line) (sym all) ∙ frames_same payload line frames (omega arith) (omega arith) packed.idle carries ∙ ap (packed_frames payload) filled
+
+-- where a payload fills whole multiframes, only memory is wanting
+pub packed_stop : (payload : List ℕ) (fault : PackFault) → length payload % 496 ≡ 0 → IsNotPacked payload fault → stop_of_pack fault ≡ Memory
+packed_stop payload PackMemory whole none = refl
+packed_stop payload (PackNotWhole len) whole short = absurd (short.1 whole)

@@ -1,15 +1,14 @@
 -- How a command over a port ends, by how its work came out.
-use Rattle.std.proofs.Common.{◌≡◌, ◌⊎◌, ℕ, ◌<◌, true, false, List, map, Option, None, Some, Ok, Err, slice_get, ap, sym, subst, ◌∙◌, inl, inr, arith}
+use Rattle.std.proofs.Common.{◌≡◌, ◌⊎◌, ℕ, true, false, List, map, Option, None, Some, Ok, Err, ap, sym, subst, ◌∙◌, inl, inr, arith}
 use Rattle.std.proofs.lemmas.Simd.{map-map}
-use Rattle.pdh_edge.specs.declared.shelf.Call.TheVariants.{Read as ReadCall}
 use Rattle.pdh_edge.specs.Counts.{one_more}
-use Rattle.pdh_edge.specs.Files.{ShelfState, Looks, FailsToRead, TellsFailed}
+use Rattle.pdh_edge.specs.Files.{ShelfState, TellsFailed}
 use Rattle.pdh_edge.specs.Ports.{PutsPart, nothing}
 use Rattle.pdh_blocks.specs.Leaves.{Leaf}
 use Rattle.pdh_blocks.specs.State.{PortState, Origin, leaf_name, origin_of}
 use Rattle.pdh_blocks.specs.Lists.{outputs_of}
 use Rattle.pdh_blocks.specs.Held.{IsPort}
-use Rattle.pdh_blocks.specs.Kept.{Keeps, Feeds, Drains, IsReady}
+use Rattle.pdh_blocks.specs.Kept.{Keeps, Feeds, Drains}
 use Rattle.pdh_blocks.specs.Opened.{IsWritten}
 use Rattle.pdh_blocks.specs.laws.PortLaws.{keeps_join, keeps_ready}
 use Rattle.pdh_watch.specs.Monitors.{State}
@@ -17,11 +16,11 @@ use Rattle.pdh_answers.specs.Names.{name_of}
 use Rattle.pdh_answers.specs.Answer.{Answer}
 use Rattle.pdh_answers.specs.declared.file.File.{File}
 use Rattle.pdh_answers.specs.declared.answer.Stop.{Stop}
-use Rattle.pdh_answers.specs.declared.answer.Stop.TheVariants.{Memory, Read, Write, Overflow, Underflow, NoAlignment}
+use Rattle.pdh_answers.specs.declared.answer.Stop.TheVariants.{Memory, Read, Overflow, Underflow, NoAlignment}
 use Rattle.pdh_ops.specs.Operation.{Operation, View, IsOutput, reaches_outputs}
 use Rattle.pdh_ops.specs.Run.{Comes, AreWhole, AreBegun, ChangesOnly, Performs, WatchedBy, IsWatched}
-use Rattle.pdh_ops.specs.PortFiles.{HasFiles, IsOpenFor, IsStopOf, PutsAll, PutsFront, input_name}
-use Rattle.pdh_ops.specs.Running.{IsAlone, IsGiven, AreStarted, IsDone, IsUnstarted, StopsReading, StopsWriting, ComesOut, IsSeen}
+use Rattle.pdh_ops.specs.PortFiles.{HasFiles, IsOpenFor, IsStopOf, PutsFront}
+use Rattle.pdh_ops.specs.Running.{IsAlone, IsGiven, AreStarted, IsDone, IsUnstarted, StopsReading, StopsWriting, IsSeen}
 use Rattle.pdh_ops.specs.declared.port.Input.{Input}
 use Rattle.pdh_ops.specs.declared.running.Outcome.TheVariants.{Whole, Memory as NoMemory, Failed}
 use Rattle.pdh_ops.proofs.PortRun.{others, unfailed, whole, begun, out_of_memory, read_failed, reading_stops, write_failed, writing_stops, front_of_all, front_still, all_still}

@@ -8,20 +8,15 @@ use Rattle.pdh_ops.specs.Commands.Demux.{line_of}
 use Rattle.pdh_ops.specs.Commands.E1.{framed_of}
 use Rattle.pdh_ops.specs.Commands.Inspect.{inspected, e1_inspected, inspecting, inspecting_e1}
 use Rattle.pdh_ops.specs.Reading.{HasLength, IsSizeStop}
+use Rattle.pdh_ops.specs.LineSteps.{BeginsWith}
 use Rattle.pdh_ops.specs.Refusing.{Refuses, RefusesFramed}
 use Rattle.pdh_answers.specs.declared.file.File.TheVariants.{E1Line}
 use Rattle.pdh_answers.specs.declared.answer.Stop.{Stop}
 use Rattle.pdh_answers.specs.declared.answer.Stop.TheVariants.{ManyFrames}
 use Rattle.pdh_ops.proofs.Refusing.{refuses_since}
-use Rattle.pdh_ops.proofs.OneInput.{BeginsWith, missing_refuses, length_refuses}
+use Rattle.pdh_ops.proofs.OneInput.{missing_refuses, length_refuses}
 use Rattle.pdh_ops.proofs.E1Files.{long_framed, framed_missing, framed_long}
 use Rattle.pdh_shape.specs.OwnNumbers.{most_frames}
-
--- ---- `inspect` of a chain
-
-pub inspect_begins : (chain : Chain) (bits : Bits) → BeginsWith (inspecting chain bits) (line_file bits) (line_of (line_file bits) chain) (inspected chain)
-unfolding inspected
-inspect_begins chain bits = record { some = lit< tt; first = refl; missing = refl; comes = λ files. refl; due = λ files on. on; reaches = λ line. refl }
 
 -- ---- `inspect e1`
 

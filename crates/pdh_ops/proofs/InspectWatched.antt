@@ -1,5 +1,5 @@
 -- What an inspection comes to.
-use Rattle.std.proofs.Common.{◌≡◌, ℕ, ◌/◌, ◌≤◌, nat_lt, List, [], ◌∷◌, Bool, false, Some, Ok, refl, ap, sym, subst, ◌∙◌, rules, arith}
+use Rattle.std.proofs.Common.{◌≡◌, ℕ, ◌/◌, ◌≤◌, nat_lt, List, [], ◌∷◌, Bool, false, Ok, refl, ap, subst, ◌∙◌, arith}
 use Rattle.std.proofs.lemmas.Bool.Decides.{nat_tests}
 use Rattle.std.proofs.lemmas.Option.{same_Some}
 use Rattle.pdh_bits.specs.Bits.{bits_of}
@@ -28,38 +28,13 @@ use Rattle.pdh_answers.specs.declared.file.File.{File}
 use Rattle.pdh_answers.specs.declared.file.File.TheVariants.{E1Line}
 use Rattle.pdh_ops.specs.declared.port.Input.{Input}
 use Rattle.pdh_ops.proofs.E1Files.{whole_framed}
-use Rattle.pdh_ops.proofs.InspectFiles.{inspect_begins, framed_begins}
+use Rattle.pdh_ops.proofs.InspectFiles.{framed_begins}
 use Rattle.pdh_ops.proofs.LineComes.{few_bits}
 use Rattle.pdh_ops.proofs.LineRun.{ReadsWhole, line_prepared}
 use Rattle.pdh_ops.proofs.OneInput.{ServesAll}
 use Rattle.pdh_shape.specs.OwnNumbers.{most_frames}
 
 -- ---- a chain's line
-
-pub serves_line : (file : File) (chain : Chain) (bytes : ℕ) → bytes / frame_bytes_of chain ≤ most_frames → ServesAll (line_of file chain) bytes
-serves_line file chain bytes few content long =
-    let same : frames_of chain content ≡ bytes / frame_bytes_of chain = ap (λ (n : ℕ). n / frame_bytes_of chain) long in
-    let test : nat_lt most_frames (frames_of chain content) ≡ false = grind (arith, nat_tests) in
-    rw test refl
-
-inspect_reads : (chain : Chain) (bits : Bits) (line : Input) (b : ShelfState) → line.file ≡ line_file bits → IsLine chain line b → ReadsWhole (inspecting chain bits) (line_file bits) (line_of (line_file bits) chain) (inspected chain) line b
-inspect_reads chain bits line b file_is is = record {
-  begins = inspect_begins chain bits;
-  in_run = refl;
-  no_outputs = refl;
-  shows = λ view e. ap (λ (view : View). view.file) (same_Some _ view e);
-  file_is = file_is;
-  bytes = is.bytes;
-  bits_are = is.bits_are;
-  few = few_bits chain line b is;
-  long = subst (λ file. HasLength (name_of file) is.bytes b) file_is is.long;
-  serves = serves_line (line_file bits) chain is.bytes is.few;
-}
-
-pub inspect_prepared : (chain : Chain) (bits : Bits) (line : Input) (reads : List Input) → reads ≡ line ∷ [] → (writes : List File) → writes ≡ [] → (b : ShelfState) → line.file ≡ line_file bits → IsLine chain line b
-    → ArePrepared (inspecting chain bits) (CanRead line.bits) (IsLinePort (inspecting chain bits) (line_file bits) (inspected chain) line) b reads writes
-inspect_prepared chain bits line reads one writes none b file_is is =
-    line_prepared (inspecting chain bits) (line_file bits) (line_of (line_file bits) chain) (inspected chain) line b (inspect_reads chain bits line b file_is is) reads one writes none
 
 -- what was seen of all bits is what it comes to
 pub line_comes : (chain : Chain) (bytes : List ℕ) (given : List Bool) (old new : List State) (seen : LineSeen) → given ≡ bits_of bytes → SeesLine chain given old new seen → Ok (inspect_says chain seen.frames seen.events) ≡ inspected chain bytes

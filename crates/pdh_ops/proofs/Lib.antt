@@ -16,7 +16,6 @@ pub mod Refusing
 pub mod LineStops
 pub mod ScheduleComes
 pub mod MuxComes
-pub mod Lists
 pub mod Firsts
 pub mod Scheduled
 pub mod MuxMade
@@ -39,5 +38,7 @@ pub mod DisturbComes
 pub mod DisturbFiles
 pub mod DrillComes
 pub mod LineRun
+pub mod LineWorks
 pub mod InspectWatched
 pub mod NeverFailing
+pub mod Stopping

@@ -1,5 +1,5 @@
 -- A command that reads all bits of one file in its run, and writes nothing: the port that is prepared for it, and what was given.
-use Rattle.std.proofs.Common.{◌≡◌, ℕ, zero, suc, ◌*◌, ◌-◌, ◌^◌, ◌<◌, Bool, true, List, [], ◌∷◌, ◌++◌, length, map, take, Option, None, Some, slice_get, ap, sym, refl, subst, ◌∙◌, arith, lit<}
+use Rattle.std.proofs.Common.{◌≡◌, ℕ, ◌*◌, ◌-◌, ◌^◌, ◌<◌, Bool, true, List, [], ◌∷◌, ◌++◌, length, map, take, Option, None, Some, slice_get, ap, sym, refl, subst, ◌∙◌, arith, lit<}
 use Rattle.std.specs.Option.{option_map_or}
 use Rattle.std.specs.Prelude.{unwrap_or}
 use Rattle.std.proofs.lemmas.Option.{none-some, same_Some}
@@ -26,10 +26,10 @@ use Rattle.pdh_ops.specs.Operation.{Operation, View, bytes_in, Files, AreTold, O
 use Rattle.pdh_ops.specs.Run.{GoesOn, SeeEvents}
 use Rattle.pdh_ops.specs.PortFiles.{HasBits, AreFiles, AreRead, unread_file, opened_for, input_name}
 use Rattle.pdh_ops.specs.Running.{IsAlone, ArePrepared, SeesBefore}
-use Rattle.pdh_ops.specs.LineSteps.{CanRead, IsLinePort}
+use Rattle.pdh_ops.specs.LineSteps.{BeginsWith, Judge, CanRead, IsLinePort}
 use Rattle.pdh_answers.specs.declared.file.File.{File}
 use Rattle.pdh_ops.specs.declared.port.Input.{Input}
-use Rattle.pdh_ops.proofs.OneInput.{BeginsWith, Judge, ServesAll, file_told, held_of, comes_on}
+use Rattle.pdh_ops.proofs.OneInput.{ServesAll, file_told, held_of, comes_on, only_input}
 use Rattle.pdh_ops.proofs.OutputNames.{none_differ, one_more_differs}
 use Rattle.pdh_ops.proofs.PortOpen.{open_for, long_has, told_read, left_read, holds_read}
 use Rattle.pdh_ops.proofs.PortRun.{given_begins, all_given}
@@ -76,11 +76,7 @@ module _ (operation : Operation) (file : File) (judge : Judge) (next : List ℕ 
     first = ap (λ (all : List Input). slice_get all 0) one
 
     the_line : (k : ℕ) (input : Input) → slice_get reads k ≡ Some input → input ≡ line
-    the_line k input here = go k (ap (λ (all : List Input). slice_get all k) (sym one) ∙ here)
-      where
-        go : (k : ℕ) → slice_get (line ∷ []) k ≡ Some input → input ≡ line
-        go zero here = sym (same_Some _ _ here)
-        go (suc k) here = absurd (none-some input here)
+    the_line = only_input reads line one
 
     is_file : (k : ℕ) (input : Input) → slice_get reads k ≡ Some input → input.file ≡ file
     is_file k input here = ap (λ (input : Input). input.file) (the_line k input here) ∙ is.file_is

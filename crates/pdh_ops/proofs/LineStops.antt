@@ -1,15 +1,14 @@
 -- Why the step that asks for the line's size stops, and the commands that begin with it.
-use Rattle.std.proofs.Common.{◌≡◌, ℕ, List, Result, Err, true, refl, ap, sym, subst, ◌∙◌, inl, inr, arith}
+use Rattle.std.proofs.Common.{◌≡◌, ℕ, List, Result, Err, refl, ap, sym, subst, ◌∙◌, inl, inr, arith}
 use Rattle.pdh_edge.specs.declared.shelf.Call.TheVariants.{Size as SizeCall}
 use Rattle.pdh_edge.specs.Files.{ShelfState, WhereTold, FailsToRead}
 use Rattle.pdh_edge.specs.Files.Told.{Known}
-use Rattle.pdh_answers.specs.Names.{name_of, line_file}
+use Rattle.pdh_answers.specs.Names.{name_of}
 use Rattle.pdh_answers.specs.Answer.{Answer, and_then}
 use Rattle.pdh_ops.specs.Commands.Demux.{line_of}
 use Rattle.pdh_ops.specs.Reading.{IsSizeStop}
-use Rattle.pdh_words.specs.declared.commands.Bits.{Bits}
-use Rattle.pdh_words.specs.declared.commands.Bits.TheVariants.{Line as Recorded, Bent as Disturbed}
-use Rattle.pdh_ops.specs.Operation.{Operation, AreTold, reaches_outputs, IsReadDue, Files}
+use Rattle.pdh_ops.specs.LineSteps.{BeginsWith}
+use Rattle.pdh_ops.specs.Operation.{Operation, AreTold, Files}
 use Rattle.pdh_ops.specs.Run.{FailsInTurn, FailsEarly}
 use Rattle.pdh_ops.specs.Refusing.{Refuses}
 use Rattle.pdh_ops.specs.Steps.{IsLineCause}
@@ -17,7 +16,6 @@ use Rattle.pdh_answers.specs.declared.file.File.{File}
 use Rattle.pdh_answers.specs.declared.answer.Stop.{Stop}
 use Rattle.pdh_answers.specs.declared.answer.Stop.TheVariants.{Read, Missing, ManyFrames}
 use Rattle.pdh_ops.proofs.Refusing.{size_stop}
-use Rattle.pdh_ops.proofs.OneInput.{BeginsWith}
 use Rattle.pdh_chain.specs.declared.chain.Chain.{Chain}
 
 -- ---- the step

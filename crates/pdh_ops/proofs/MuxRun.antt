@@ -11,8 +11,7 @@ use Rattle.pdh_line.proofs.SentFrames.{take-front}
 use Rattle.pdh_nesting.specs.Chains.{top_len, width}
 use Rattle.pdh_nesting.specs.Sending.{chain_line}
 use Rattle.pdh_nesting.specs.Events.{first_event}
-use Rattle.pdh_line.specs.Events.{Event, Kind}
-use Rattle.pdh_line.specs.Events.Kind.{Overflow as StoreOverflow, Underflow as StoreUnderflow}
+use Rattle.pdh_line.specs.Events.{Event}
 use Rattle.pdh_shape.specs.declared.place.Place.{Place}
 use Rattle.pdh_clock.specs.Row.{Row}
 use Rattle.pdh_clock.specs.Contents.{counts, frame_count}

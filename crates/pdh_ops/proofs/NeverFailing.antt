@@ -1,13 +1,12 @@
 -- A run over devices that never fail tells what the inputs come to, or that memory was wanting.
-use Rattle.std.proofs.Common.{◌≡◌, ◌⊎◌, ℕ, List, Option, Some, None, Ok, Err, inl, inr, ap, ◌∙◌, arith}
+use Rattle.std.proofs.Common.{◌≡◌, ℕ, List, Option, Some, None, Ok, Err, inl, inr, ap, ◌∙◌, arith}
 use Rattle.pdh_edge.specs.Files.{ShelfState, SinkState, Counts, Rose}
 use Rattle.pdh_edge.specs.NeverFails.{no_faults}
 use Rattle.pdh_watch.specs.Monitors.{State}
-use Rattle.pdh_answers.specs.Answer.{Answer, status_of}
+use Rattle.pdh_answers.specs.Answer.{Answer}
 use Rattle.pdh_answers.specs.Lines.{IsTold}
 use Rattle.pdh_answers.specs.declared.answer.Stop.TheVariants.{Memory}
 use Rattle.pdh_words.specs.declared.commands.Command.{Command}
-use Rattle.pdh_ops.specs.Operation.{Files}
 use Rattle.pdh_ops.specs.Commands.{operation_of}
 use Rattle.pdh_ops.specs.Run.{Runs, Completes, CompletesAlways, status_with}
 

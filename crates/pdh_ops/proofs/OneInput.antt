@@ -1,7 +1,8 @@
 -- A command that begins with one file, of which the length alone decides whether it is refused.
-use Rattle.std.proofs.Common.{◌≡◌, ℕ, ◌<◌, List, Option, None, Some, Result, Ok, Err, true, false, length, refl, ap, sym, subst, ◌∙◌, arith}
+use Rattle.std.proofs.Common.{◌≡◌, ℕ, zero, suc, ◌<◌, List, [], ◌∷◌, slice_get, Option, None, Some, Result, Ok, Err, true, false, length, refl, ap, sym, subst, ◌∙◌, arith}
 use Rattle.std.specs.Prelude.{IfErr}
 use Rattle.std.specs.Option.{option_map}
+use Rattle.std.proofs.lemmas.Option.{none-some, same_Some}
 use Rattle.pdh_edge.specs.Files.{ShelfState, Holds}
 use Rattle.pdh_edge.specs.Files.Told.{Known}
 use Rattle.pdh_answers.specs.Names.{name_of}
@@ -10,23 +11,20 @@ use Rattle.pdh_ops.specs.Reading.{HasLength, IsSizeStop, IsReadStop}
 use Rattle.pdh_ops.specs.Operation.{Operation, AreTold, OfInputs, reaches_outputs, IsReadDue, Files}
 use Rattle.pdh_ops.specs.Run.{Comes, GoesOn}
 use Rattle.pdh_ops.specs.Refusing.{Refuses}
+use Rattle.pdh_ops.specs.LineSteps.{Judge, BeginsWith}
 use Rattle.pdh_answers.specs.declared.file.File.{File}
 use Rattle.pdh_answers.specs.declared.answer.Stop.{Stop}
 use Rattle.pdh_answers.specs.declared.answer.Stop.TheVariants.{Missing}
+use Rattle.pdh_ops.specs.declared.port.Input.{Input}
 use Rattle.pdh_ops.proofs.Refusing.{size_refuses, read_refuses}
 
--- the bytes that are held, or why they are refused
-abbrev pub Judge : Type 0
-Judge = Option (List ℕ) → Result (List ℕ) Stop
-
--- the file is its first input, and it comes to what that is judged to be, which nothing refuses before the outputs
-pub record BeginsWith (operation : Operation) (file : File) (judge : Judge) (next : List ℕ → Answer) : Type 0 where
-  pub some : 0 < operation.inputs.count
-  pub first : name_of file ≡ operation.inputs.name 0
-  pub missing : judge None ≡ Err (Missing file)
-  pub comes : (files : Files) → operation.comes_to files ≡ and_then (judge (files (name_of file))) next
-  pub due : (files : Files) → reaches_outputs (operation.comes_to files) ≡ true → IsReadDue operation file files
-  pub reaches : (bytes : List ℕ) → reaches_outputs (next bytes) ≡ true
+-- of one input there is no other
+pub only_input : (inputs : List Input) (one : Input) → inputs ≡ one ∷ [] → (k : ℕ) (input : Input) → slice_get inputs k ≡ Some input → input ≡ one
+only_input inputs one is k input here = go k (ap (λ (all : List Input). slice_get all k) (sym is) ∙ here)
+  where
+    go : (k : ℕ) → slice_get (one ∷ []) k ≡ Some input → input ≡ one
+    go zero here = sym (same_Some _ _ here)
+    go (suc k) here = absurd (none-some input here)
 
 -- all contents of so many bytes are refused, or none of them is
 abbrev pub RefusesAll : Judge → ℕ → Stop → Type 0

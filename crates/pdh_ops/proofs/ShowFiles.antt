@@ -8,13 +8,13 @@ use Rattle.pdh_edge.specs.Files.{ShelfState, Told, Looks}
 use Rattle.pdh_edge.specs.Files.Told.{Known}
 use Rattle.pdh_chain.specs.Chains.{frame_bytes_of}
 use Rattle.pdh_chain.specs.declared.chain.Chain.{Chain}
-use Rattle.pdh_blocks.specs.Lists.{inputs_of}
 use Rattle.pdh_blocks.specs.Held.{AllDiffer}
 use Rattle.pdh_answers.specs.Names.{name_of, line_name}
 use Rattle.pdh_answers.specs.Answer.{and_then}
 use Rattle.pdh_ops.specs.Commands.Demux.{frames_of}
 use Rattle.pdh_ops.specs.Commands.Inspect.{bytes_upto, line_to_show, frame_shown, showing}
 use Rattle.pdh_ops.specs.Reading.{HasLength, IsSizeStop}
+use Rattle.pdh_ops.specs.LineSteps.{BeginsWith}
 use Rattle.pdh_ops.specs.Refusing.{Refuses}
 use Rattle.pdh_ops.specs.Operation.{AreTold, OfInputs, reaches_outputs, IsReadDue, Files, bytes_in}
 use Rattle.pdh_ops.specs.Run.{GoesOn}
@@ -27,7 +27,7 @@ use Rattle.pdh_ops.specs.declared.port.Input.{Input}
 use Rattle.pdh_answers.specs.declared.answer.Stop.{Stop}
 use Rattle.pdh_answers.specs.declared.answer.Stop.TheVariants.{ManyFrames, Short}
 use Rattle.pdh_ops.proofs.Refusing.{refuses_since}
-use Rattle.pdh_ops.proofs.OneInput.{BeginsWith, RefusesAll, missing_refuses, length_refuses, held_of}
+use Rattle.pdh_ops.proofs.OneInput.{RefusesAll, missing_refuses, length_refuses, held_of}
 use Rattle.pdh_ops.proofs.OutputNames.{none_differ, one_more_differs}
 use Rattle.pdh_ops.proofs.PortOpen.{open_for, long_has, told_read, left_read, holds_read}
 use Rattle.pdh_shape.specs.OwnNumbers.{most_frames}

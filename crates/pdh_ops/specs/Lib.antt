@@ -19,3 +19,4 @@ pub mod PortFiles
 pub mod Running
 pub mod LineSteps
 pub mod ShowSteps
+pub mod laws

@@ -8,6 +8,7 @@ mod files;
 pub mod laws;
 mod leaf;
 mod line;
+mod line_work;
 mod never_failing;
 mod port;
 mod program;

@@ -146,6 +146,7 @@ impl PortFiles {
     {
         match port.failed_name() {
             Some(number) => self.stop_at(number),
+            // The port names no call only while none has failed, and one has.
             None => unreachable!(),
         }
     }

@@ -28,15 +28,21 @@ pub struct Ran<S, K> {
 /// a sink for its text, and hands both back on every path. `inspect` shows the events of its line to
 /// the monitors, and writes what each of them says; other commands leave them.
 ///
+/// The clauses `runs`, `gives_back`, `no_event` and `delay` carry the headline: Where every tributary of
+/// every multiplexer brings, over every run of k frames, between K·k-18 and (K+1)·k+18 bits, `mux` writes
+/// a line from which `demux` puts out each leaf's bits exactly and in order, behind arrival by at most the
+/// chain's stated delay, no elastic store passes 96 bits, and outside this tolerance the first overflow
+/// or underflow ends the run, named by its place.
+///
 /// The statuses: 0, the command did its work; 1, memory was wanting; 2, the words are no row of the
 /// table; 3, a call of the shelf failed to read; 4, a call of the shelf failed to write, or the sink
 /// failed to take the text of status 0; 5, an input isn't held; 6, the schedule's text has a fault; 7,
 /// the schedule has too few frames of a node below the top, a leaf's file too few bits, or the line no
 /// such frame to show; 8, an elastic store overflows or underflows, and the line ends before the frame
-/// in whose making that happens; 9, the script's text has a fault; 10, the line, or the schedule that
-/// is asked for, has too many frames; 11, no frame of the line, or in `e1unpack` no multiframe, was
-/// delivered, and the outputs hold what the search gives; 12, the payload doesn't fill whole
-/// multiframes.
+/// in whose making that happens; 9, the script's text has a fault; 10, the line, or the schedule or
+/// drill that is asked for, has too many frames; 11, no frame of the line, or in `e1unpack` no
+/// multiframe, was delivered, and the outputs hold what the search gives; 12, the payload doesn't fill
+/// whole multiframes.
 pub fn run<S: Shelf, K: Sink>(
     alloc: Global,
     words: &[String],

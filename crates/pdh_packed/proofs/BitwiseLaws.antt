@@ -1,10 +1,9 @@
 -- Operations on words bit by bit, in the forms of the code.
-use Rattle.std.proofs.Common.{◌≡◌, ℕ, zero, suc, ◌+◌, ◌-◌, ◌*◌, ◌/◌, ◌%◌, ◌^◌, ◌<◌, ◌≤◌, min, max, Bool, true, false, not, ◌&&◌, ◌||◌, cond, eqb, List, [], ◌∷◌, ◌++◌, length, map, take, drop, replicate, bit_and, bit_or, bit_xor, refl, sym, ◌∙◌, ap, inl, inr, arith}
+use Rattle.std.proofs.Common.{◌≡◌, ℕ, zero, suc, ◌+◌, ◌-◌, ◌*◌, ◌/◌, ◌%◌, ◌^◌, ◌<◌, ◌≤◌, min, max, Bool, true, false, not, ◌&&◌, ◌||◌, cond, eqb, List, [], ◌∷◌, ◌++◌, length, map, take, drop, replicate, bit_and, bit_or, bit_xor, refl, sym, ◌∙◌, ap, subst, inl, inr, arith}
 use Rattle.std.specs.Int.{w64, leading_zeros}
 use Rattle.std.specs.List.{prefix_len}
 use Rattle.std.proofs.lemmas.Bool.{cases_lt}
 use Rattle.std.proofs.lemmas.List.{replicate-append-replicate, nil_from_length}
-use Rattle.std.proofs.Math.Seq.{drop-append-add}
 use Rattle.std.proofs.lemmas.Nat.{leading_length, div_below, le-div, mul-mod_first, pow-add, pow_pos, shl_whole, shl_below}
 use Rattle.std.proofs.lemmas.Nat.Bits.{bit_at_and, bit_at_or, bit_at_xor, bit_at_ones, bit_at_above, bit_at-zero, ones_shr}
 use Rattle.std.proofs.Math.Nat.{pow-suc, mul_assoc}
@@ -16,41 +15,25 @@ use Rattle.pdh_packed.proofs.PackedLaws.{across_two}
 
 -- ---- place by place
 
-and_of : (x y : ℕ) → x < 2 → y < 2 → eqb (min x y) 1 ≡ (eqb x 1 && eqb y 1)
-and_of zero zero h h' = refl
-and_of zero (suc zero) h h' = refl
-and_of (suc zero) zero h h' = refl
-and_of (suc zero) (suc zero) h h' = refl
-and_of (suc (suc x)) y h h' = absurd (omega arith)
-and_of zero (suc (suc y)) h h' = absurd (omega arith)
-and_of (suc zero) (suc (suc y)) h h' = absurd (omega arith)
-
-xor_of : (x y : ℕ) → x < 2 → y < 2 → eqb ((x + y) % 2) 1 ≡ differs (eqb x 1) (eqb y 1)
-xor_of zero zero h h' = refl
-xor_of zero (suc zero) h h' = refl
-xor_of (suc zero) zero h h' = refl
-xor_of (suc zero) (suc zero) h h' = refl
-xor_of (suc (suc x)) y h h' = absurd (omega arith)
-xor_of zero (suc (suc y)) h h' = absurd (omega arith)
-xor_of (suc zero) (suc (suc y)) h h' = absurd (omega arith)
-
-or_of : (x y : ℕ) → x < 2 → y < 2 → eqb (max x y) 1 ≡ (eqb x 1 || eqb y 1)
-or_of zero zero h h' = refl
-or_of zero (suc zero) h h' = refl
-or_of (suc zero) zero h h' = refl
-or_of (suc zero) (suc zero) h h' = refl
-or_of (suc (suc x)) y h h' = absurd (omega arith)
-or_of zero (suc (suc y)) h h' = absurd (omega arith)
-or_of (suc zero) (suc (suc y)) h h' = absurd (omega arith)
+-- what holds of the bits 0 and 1 holds of all numbers below 2
+bits_make : (op : ℕ → ℕ → ℕ) (f : Bool → Bool → Bool) → eqb (op 0 0) 1 ≡ f false false → eqb (op 0 1) 1 ≡ f false true → eqb (op 1 0) 1 ≡ f true false → eqb (op 1 1) 1 ≡ f true true
+    → (x y : ℕ) → x < 2 → y < 2 → eqb (op x y) 1 ≡ f (eqb x 1) (eqb y 1)
+bits_make op f none last first all zero zero h h' = none
+bits_make op f none last first all zero (suc zero) h h' = last
+bits_make op f none last first all (suc zero) zero h h' = first
+bits_make op f none last first all (suc zero) (suc zero) h h' = all
+bits_make op f none last first all (suc (suc x)) y h h' = absurd (omega arith)
+bits_make op f none last first all zero (suc (suc y)) h h' = absurd (omega arith)
+bits_make op f none last first all (suc zero) (suc (suc y)) h h' = absurd (omega arith)
 
 bit-and : (a b k : ℕ) → bit (bit_and a b) k ≡ (bit a k && bit b k)
-bit-and a b k = ap (λ (v : ℕ). eqb v 1) (bit_at_and a b k) ∙ and_of (a / 2 ^ k % 2) (b / 2 ^ k % 2) (omega arith) (omega arith)
+bit-and a b k = ap (λ (v : ℕ). eqb v 1) (bit_at_and a b k) ∙ bits_make min (λ x y. x && y) refl refl refl refl (a / 2 ^ k % 2) (b / 2 ^ k % 2) (omega arith) (omega arith)
 
 bit-or : (a b k : ℕ) → bit (bit_or a b) k ≡ (bit a k || bit b k)
-bit-or a b k = ap (λ (v : ℕ). eqb v 1) (bit_at_or a b k) ∙ or_of (a / 2 ^ k % 2) (b / 2 ^ k % 2) (omega arith) (omega arith)
+bit-or a b k = ap (λ (v : ℕ). eqb v 1) (bit_at_or a b k) ∙ bits_make max (λ x y. x || y) refl refl refl refl (a / 2 ^ k % 2) (b / 2 ^ k % 2) (omega arith) (omega arith)
 
 bit-xor : (a b k : ℕ) → bit (bit_xor a b) k ≡ differs (bit a k) (bit b k)
-bit-xor a b k = ap (λ (v : ℕ). eqb v 1) (bit_at_xor a b k) ∙ xor_of (a / 2 ^ k % 2) (b / 2 ^ k % 2) (omega arith) (omega arith)
+bit-xor a b k = ap (λ (v : ℕ). eqb v 1) (bit_at_xor a b k) ∙ bits_make (λ x y. (x + y) % 2) differs refl refl refl refl (a / 2 ^ k % 2) (b / 2 ^ k % 2) (omega arith) (omega arith)
 
 pub low_bits-and : (k a b : ℕ) → low_bits k (bit_and a b) ≡ both (low_bits k a) (low_bits k b)
 unfolding low_bits
@@ -69,6 +52,17 @@ unfolding low_bits
 low_bits-xor zero a b = refl
 low_bits-xor (suc k) a b =
     ap (λ (x : Bool). x ∷ low_bits k (bit_xor a b)) (bit-xor a b k) ∙ ap (λ (x : List Bool). differs (bit a k) (bit b k) ∷ x) (low_bits-xor k a b)
+
+-- a law of each place, of the numbers that two words of one length write
+pub words_make : (op : ℕ → ℕ → ℕ) (f : List Bool → List Bool → List Bool) → ((k a b : ℕ) → low_bits k (op a b) ≡ f (low_bits k a) (low_bits k b))
+    → (xs ys made : List Bool) (k n m : ℕ) → made ≡ low_bits k (op n m) → k ≡ length xs → length xs ≡ length ys → low_bits (length xs) n ≡ xs → low_bits (length ys) m ≡ ys → made ≡ f xs ys
+words_make op f law xs ys made k n m is count alike first second =
+    is ∙ ap (λ (j : ℕ). low_bits j (op n m)) count ∙ law (length xs) n m ∙ ap (λ (x : List Bool). f x (low_bits (length xs) m)) first ∙ ap (f xs) (ap (λ (j : ℕ). low_bits j m) alike ∙ second)
+
+-- and a bound of them
+pub words_small : (op : ℕ → ℕ → ℕ) → ((k a b : ℕ) → a < 2 ^ k → b < 2 ^ k → op a b < 2 ^ k) → (j k l n m : ℕ) → j ≡ k → k ≡ l → n < 2 ^ k → m < 2 ^ l → op n m < 2 ^ j
+words_small op law j k l n m count alike first second =
+    subst (λ (i : ℕ). op n m < 2 ^ i) (sym count) (law k n m first (subst (λ (i : ℕ). m < 2 ^ i) (sym alike) second))
 
 -- bits that differ from ones are the other bits
 pub differing-ones : (xs : List Bool) → differing xs (replicate (length xs) true) ≡ map not xs
@@ -194,9 +188,3 @@ pub placed_none : (bits : List Bool) (place behind : ℕ) → length bits ≡ 0 
 placed_none bits place behind none whole =
     ap (λ (k : ℕ). replicate k false) (sym whole) ∙ sym (replicate-append-replicate place behind false)
     ∙ ap (λ (x : List Bool). replicate place false ++ (x ++ replicate behind false)) (sym (nil_from_length bits none))
-
--- no bit of the first list is left
-pub drop_past : (n : ℕ) (xs ys : List Bool) → length xs ≤ n → drop n (xs ++ ys) ≡ drop (n - length xs) ys
-drop_past n xs ys within =
-    let parts : length xs + (n - length xs) ≡ n = omega arith in
-    ap (λ (k : ℕ). drop k (xs ++ ys)) (sym parts) ∙ drop-append-add xs ys (n - length xs)

@@ -1,6 +1,7 @@
 pub mod PackedLaws
 pub mod AlteringLaws
 pub mod BoundedLaws
+pub mod RingLaws
 pub mod GainingLaws
 pub mod OnesLaws
 pub mod ByteLaws

@@ -74,7 +74,7 @@ take_past n xs ys within =
     ap (λ (k : ℕ). take k (xs ++ ys)) whole ∙ take-add (length xs) m (xs ++ ys)
     ∙ ap (λ (front : List Bool). front ++ take m (drop (length xs) (xs ++ ys))) first ∙ ap (λ (bits : List Bool). xs ++ take m bits) rest
 
-drop_past : (n : ℕ) (xs ys : List Bool) → length xs ≤ n → drop n (xs ++ ys) ≡ drop (n - length xs) ys
+pub drop_past : (n : ℕ) (xs ys : List Bool) → length xs ≤ n → drop n (xs ++ ys) ≡ drop (n - length xs) ys
 drop_past n xs ys within =
     let m : ℕ = n - length xs in
     let whole : n ≡ length xs + m = omega arith in

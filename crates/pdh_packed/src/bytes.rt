@@ -12,10 +12,10 @@ fn word_of(bytes: &[u8]) -> Word
     requires { length bytes.now ≡ 8 }
     ensures { result ≡ bits_of bytes.now }
 {
-    let [a, b, c, d, e, f, g, h] = bytes else {
-        unreachable!();
-    };
-    Word::of(u64::from_be_bytes([*a, *b, *c, *d, *e, *f, *g, *h]), 64)
+    let number = u64::from_be_bytes([
+        bytes[0], bytes[1], bytes[2], bytes[3], bytes[4], bytes[5], bytes[6], bytes[7],
+    ]);
+    Word::of(number, 64)
 }
 
 impl Packed {

@@ -13,6 +13,7 @@ use std::marker::{Model, PhantomData};
 
 /// How often in a row the alignment signal stands at each phase of a frame, for a shape whose frame
 /// begins with it (ITU-T G.742, 4). A bit is read once, when it is taken. Only `open` takes memory.
+#[derive(Drop)]
 pub struct Phases<S: Shape> {
     // the bits of the alignment signal
     signal: Word,
@@ -25,19 +26,6 @@ pub struct Phases<S: Shape> {
     // the run of each phase
     planes: Planes,
     of: PhantomData<S>,
-}
-
-impl<S: Shape> Drop for Phases<S> {
-    fn drop(self) {
-        let Self {
-            signal: _,
-            wrong: _,
-            last: _,
-            phase: _,
-            planes: _,
-            of: _,
-        } = self;
-    }
 }
 
 impl<S: Shape> Model for Phases<S> {

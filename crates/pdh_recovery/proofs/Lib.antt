@@ -6,6 +6,7 @@ pub mod RecoverLaws
 pub mod DownLaws
 pub mod OnceLaws
 pub mod FlippedLaws
+pub mod Imitations
 pub mod Worked
 pub mod WorkedSlip
 pub mod WorkedDrop

@@ -24,8 +24,8 @@ no_gap_among (f ∷ frames) (x ∷ a) b g h =
     let rest : map Delivered frames ≡ a ++ Gap g ∷ b = cc in
     no_gap_among frames a b g rest
 
-pub last_gap : (a b : List Piece) (g g' : ℕ) (fs fs' : List (List Bool)) → a ++ Gap g ∷ map Delivered fs ≡ b ++ Gap g' ∷ map Delivered fs' → (a ≡ b) × (g ≡ g')
-last_gap [] [] g g' fs fs' h = (refl, cc)
+pub last_gap : (a b : List Piece) (g g' : ℕ) (fs fs' : List (List Bool)) → a ++ Gap g ∷ map Delivered fs ≡ b ++ Gap g' ∷ map Delivered fs' → (a ≡ b) × (g ≡ g') × (map Delivered fs ≡ map Delivered fs')
+last_gap [] [] g g' fs fs' h = (refl, cc, cc)
 last_gap [] (x ∷ b) g g' fs fs' h =
     let rest : map Delivered fs ≡ b ++ Gap g' ∷ map Delivered fs' = cc in
     absurd (no_gap_among fs b (map Delivered fs') g' rest)
@@ -36,7 +36,7 @@ last_gap (x ∷ a) (y ∷ b) g g' fs fs' h =
     let rest : a ++ Gap g ∷ map Delivered fs ≡ b ++ Gap g' ∷ map Delivered fs' = cc in
     let head : x ≡ y = cc in
     let same = last_gap a b g g' fs fs' rest in
-    (ap (λ z. z ∷ a) head ∙ ap (λ z. y ∷ z) same.0, same.1)
+    (ap (λ z. z ∷ a) head ∙ ap (λ z. y ∷ z) same.0, same.1, same.2)
 
 some_frame : (s : FrameShape) (x : Piece) (a b : List Piece) (fs : List (List Bool)) → 0 < s.len → map Delivered fs ≡ x ∷ (a ++ b) → covered s (x ∷ a) ≡ 0 → ⊥
 some_frame s x a b [] some h none = cc
@@ -88,21 +88,9 @@ child_place_once s counts line e u j e1 u1 e2 u2 some a b =
 
 -- ---- a search
 
-frames_of_last : (a b : List Piece) (g g' : ℕ) (fs fs' : List (List Bool)) → a ++ Gap g ∷ map Delivered fs ≡ b ++ Gap g' ∷ map Delivered fs' → map Delivered fs ≡ map Delivered fs'
-frames_of_last [] [] g g' fs fs' h = cc
-frames_of_last [] (x ∷ b) g g' fs fs' h =
-    let rest : map Delivered fs ≡ b ++ Gap g' ∷ map Delivered fs' = cc in
-    absurd (no_gap_among fs b (map Delivered fs') g' rest)
-frames_of_last (x ∷ a) [] g g' fs fs' h =
-    let rest : map Delivered fs' ≡ a ++ Gap g ∷ map Delivered fs = cc in
-    absurd (no_gap_among fs' a (map Delivered fs) g rest)
-frames_of_last (x ∷ a) (y ∷ b) g g' fs fs' h =
-    let rest : a ++ Gap g ∷ map Delivered fs ≡ b ++ Gap g' ∷ map Delivered fs' = cc in
-    frames_of_last a b g g' fs fs' rest
-
 pub gap_or_frames : (s : FrameShape) (line : List Bool) (q p : ℕ) → EndsInGap s line q → EndsInFrames s line p → ⊥
 gap_or_frames s line q p a b =
-    let same : map Delivered [] ≡ map Delivered b.frames = frames_of_last a.before b.before a.gap b.gap [] b.frames (sym a.ends ∙ b.ends) in
+    let same : map Delivered [] ≡ map Delivered b.frames = (last_gap a.before b.before a.gap b.gap [] b.frames (sym a.ends ∙ b.ends)).2 in
     let some : 0 < length b.frames = b.some in
     let none : 0 ≡ length b.frames = ap length same ∙ length-map b.frames Delivered in
     omega arith

@@ -10,9 +10,12 @@ use Rattle.pdh_shape.specs.declared.role.Role.{Role}
 use Rattle.pdh_shape.specs.declared.role.Duty.{Duty}
 use Rattle.pdh_shape.specs.declared.role.Service.{Service}
 use Rattle.pdh_eframes.specs.declared.set_plan.SetPlan.{SetPlan}
-use Rattle.pdh_shape.specs.Frame.{clean}
+use Rattle.pdh_shape.specs.Frame.{clean, IsFrame}
+use Rattle.pdh_shape.specs.laws.LawsOfTest.{laws-is_frame}
 use Rattle.pdh_eframes.specs.Sets.{in_sets, signal_wrong, four_wrong}
 use Rattle.pdh_eframes.specs.Plans.{e2, e3, e4, e2_signal, e4_signal, e2_plan, e3_plan, e4_plan}
+use Rattle.pdh_eframes.specs.laws.E2Laws.{e2_keeps_laws}
+use Rattle.pdh_eframes.specs.laws.E3Laws.{e3_keeps_laws}
 use Rattle.pdh_ds.specs.declared.loss.LossRule.{LossRule}
 use Rattle.pdh_ds.specs.declared.block_plan.BlockPlan.{BlockPlan}
 use Rattle.pdh_ds.specs.Loss.{IsLossRule, is_wrong, wrong_of_two, wrong_in, ends_wrong, window_wrong}
@@ -138,6 +141,12 @@ blocks_keep plan overhead inverted duty service fits before a b c h =
     ap (λ w. w || (a.multi && b.multi && c.multi)) (window_keeps plan.loss b c fits.within window)
 
 -- ---- the six shapes
+
+pub e2_is_frame : IsFrame e2
+e2_is_frame = laws-is_frame e2 e2_keeps_laws
+
+pub e3_is_frame : IsFrame e3
+e3_is_frame = laws-is_frame e3 e3_keeps_laws
 
 pub e2_keeps : KeepsRight e2
 e2_keeps = sets_keep e2_signal e2_plan

@@ -8,7 +8,6 @@ use Rattle.pdh_shape.specs.Frame.{is_right, wrong}
 use Rattle.pdh_shape.specs.Tributary.{stripped, control_ones}
 use Rattle.pdh_eframes.specs.Sets.{set_role, set_mark, four_wrong}
 use Rattle.pdh_eframes.specs.Plans.{e2}
-use Rattle.pdh_eframes.specs.laws.E2Laws.{e2_is_frame}
 use Rattle.pdh_eframes.proofs.Worked.{zeros_frame}
 use Rattle.pdh_line.specs.Least.{least_below}
 use Rattle.pdh_line.specs.Tracking.{frame_of, frames_in, track, track_within, one_search, is_lost, after_loss, delivered, gap_of, completes_loss}
@@ -16,6 +15,7 @@ use Rattle.pdh_line.specs.Receiving.{received, piece_bits}
 use Rattle.pdh_line.proofs.Ranges.{list_all-at}
 use Rattle.pdh_line.proofs.RightLines.{every_right, every_right-at}
 use Rattle.pdh_recovery.specs.Flipped.{wrong_copies, IsOneAlignment, AreFewWrong, ReadsTheSame}
+use Rattle.pdh_recovery.proofs.RuleLaws.{e2_is_frame}
 use Rattle.pdh_recovery.proofs.FlippedLaws.{contained}
 
 -- a line with this bit flipped

@@ -97,10 +97,10 @@ abbrev first_then : ℕ → ℕ → ℕ
 first_then first zero = first
 first_then first (suc n) = 206
 
-pub first_frame_inside : first_outside 205 (first_then 214) 10 ≡ None
+pub first_frame_inside : first_outside 205 (first_then 224) 10 ≡ None
 unfolding first_outside
 first_frame_inside = refl
 
-pub first_frame_outside : first_outside 205 (first_then 215) 10 ≡ Some (record { from = 0; to = 1; sum = 215 })
+pub first_frame_outside : first_outside 205 (first_then 225) 10 ≡ Some (record { from = 0; to = 1; sum = 225 })
 unfolding first_outside
 first_frame_outside = refl

@@ -5,7 +5,7 @@
 //! each with the frames and the bits before it, so that a frame's count and the bits up to a frame are found by halves.
 //!
 //! A tributary is within the tolerance where over no run of frames more bits arrive than these carry at most, or fewer
-//! than they carry at least, each up to 8 bits. A table answers with the first run that isn't.
+//! than they carry at least, each up to the allowance. A table answers with the first run that isn't.
 #![tactic(auto)]
 
 mod outside;

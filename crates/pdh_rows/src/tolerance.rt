@@ -136,12 +136,13 @@ fn first_end(table: &Table, trib: usize, low: u32, bound: Bound) -> Option<u64>
     None
 }
 
-// The least first frame of a run that ends there and passes the bound.
-fn first_start(table: &Table, trib: usize, low: u32, bound: Bound, to: u64) -> u64
+// The least first frame of a run that ends there and passes the bound. Where such a run ends there is one.
+fn first_start(table: &Table, trib: usize, low: u32, bound: Bound, to: u64) -> Option<u64>
     requires table { IsTable table.now }
     requires in_range { trib < table.now.tribs }
     requires end { IsFirstEnd (gains bound low (node_counts (rows_of table.now) trib)) (losses bound low (node_counts (rows_of table.now) trib)) (node_frame_count (rows_of table.now)) to }
-    ensures { IsFirstStart (gains bound low (node_counts (rows_of table.now) trib)) (losses bound low (node_counts (rows_of table.now) trib)) to result }
+    ensures { MatchOption result ⊥
+        (IsFirstStart (gains bound low (node_counts (rows_of table.now) trib)) (losses bound low (node_counts (rows_of table.now) trib)) to) }
 {
     let end = balance_of(bound, low, to, table.total(to, trib));
     for row in 0..table.repeats.len() {
@@ -155,10 +156,10 @@ fn first_start(table: &Table, trib: usize, low: u32, bound: Bound, to: u64) -> u
             part.each.losses,
             part.frames,
         ) {
-            return part.first + frames;
+            return Some(part.first + frames);
         }
     }
-    unreachable!()
+    None
 }
 
 // The first run that passes the bound: the one with the least end, and for it the least first frame.
@@ -169,13 +170,9 @@ fn first_break(table: &Table, trib: usize, low: u32, bound: Bound) -> Option<Spa
         (AllKeep (gains bound low (node_counts (rows_of table.now) trib)) (losses bound low (node_counts (rows_of table.now) trib)) (node_frame_count (rows_of table.now)))
         (IsFirstBreak (gains bound low (node_counts (rows_of table.now) trib)) (losses bound low (node_counts (rows_of table.now) trib)) (node_frame_count (rows_of table.now))) }
 {
-    match first_end(table, trib, low, bound) {
-        Some(to) => Some(Span {
-            from: first_start(table, trib, low, bound, to),
-            to,
-        }),
-        None => None,
-    }
+    let to = first_end(table, trib, low, bound)?;
+    let from = first_start(table, trib, low, bound, to)?;
+    Some(Span { from, to })
 }
 
 // Of two runs the one that ends first, and of those that end together the one that begins first.

@@ -13,6 +13,7 @@ use std::marker::{Model, PhantomData};
 
 /// How a frame is put together from its tributaries and its overhead, and taken apart. Tributaries
 /// and slots are counted from 0. Only `open` takes memory.
+#[derive(Drop)]
 pub struct Layout<S: Shape> {
     // how many payload slots stand before each slot, and before the frame's end
     payload: Vec<u16>,
@@ -22,18 +23,6 @@ pub struct Layout<S: Shape> {
     ends: Vec<u16>,
     tributaries: Vec<Tributary>,
     of: PhantomData<S>,
-}
-
-impl<S: Shape> Drop for Layout<S> {
-    fn drop(self) {
-        let Self {
-            payload: _,
-            overhead: _,
-            ends: _,
-            tributaries: _,
-            of: _,
-        } = self;
-    }
 }
 
 impl<S: Shape> Model for Layout<S> {

@@ -16,6 +16,7 @@ use std::marker::Model;
 use std::rc::Rc;
 
 /// A frame taken apart, each tributary's bits by one call. Only `open` takes memory.
+#[derive(Drop)]
 pub struct Parts<S: Shape> {
     layout: Rc<Layout<S>>,
     frame: Packed,
@@ -27,20 +28,6 @@ pub struct Parts<S: Shape> {
     // and else its bits
     bits: Packed,
     ones: Packed,
-}
-
-impl<S: Shape> Drop for Parts<S> {
-    fn drop(self) {
-        let Self {
-            layout: _,
-            frame: _,
-            payload: _,
-            columns: _,
-            whole: _,
-            bits: _,
-            ones: _,
-        } = self;
-    }
 }
 
 impl<S: Shape> Model for Parts<S> {

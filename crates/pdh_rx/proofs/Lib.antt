@@ -4,6 +4,7 @@ pub mod Gains
 pub mod Keeping
 pub mod Playing
 pub mod SlotActs
+mod GapSteps
 pub mod StepActs
 pub mod NodeSteps
 pub mod NodePlays

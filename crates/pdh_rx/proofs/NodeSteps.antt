@@ -22,6 +22,7 @@ use Rattle.pdh_rx.specs.Node.{EachStands, received_lines, node_meaning, Gives, G
 use Rattle.pdh_rx.specs.laws.NodeLaws.{got_by_same}
 use Rattle.pdh_line.proofs.DeliveredLaws.{count_append, count_frames, count_gap, frames_delivered-le}
 use Rattle.pdh_line.proofs.RightLines.{piece_bits_gap, track-short, received-short}
+use Rattle.pdh_rx.proofs.GapSteps.{gap_step}
 use Rattle.pdh_rx.proofs.Gains.{each_same, gains_is, part_is}
 
 -- ---- what a step gives
@@ -37,32 +38,16 @@ frames_are s j (frame ∷ ready) = ap (λ v. stripped s j frame ++ v) (frames_ar
 
 -- one position more gives a frame's ones where it completes a frame's length
 gap_more : (s : FrameShape) (j n gap : ℕ) → IsFrame s → gap ≡ n % s.len → piece_bits s j (Gap (suc n)) ≡ piece_bits s j (Gap n) ++ step_bits s Rejected [] (gap_after s Rejected gap) j
-gap_more s j n gap shape is =
-    let q : ℕ = n / s.len in
-    let place : q * s.len + gap ≡ n = (let whole : n / s.len * s.len + n % s.len ≡ n = omega arith in ap (λ v. q * s.len + v) is ∙ whole) in
-    let inside : gap < s.len = omega (arith, is, shape.some_slots) in
-    elim (cases_eq (suc gap) s.len) [
-      | inl last ↦
-          let next : suc n ≡ suc q * s.len + 0 = omega (arith, place, last, suc-mul q s.len) in
-          let quotient : suc n / s.len ≡ suc q = ap (λ v. v / s.len) next ∙ div-mul-add (suc q) s.len 0 shape.some_slots in
-          let more : suc q * s.low ≡ q * s.low + s.low = suc-mul q s.low in
-          let now : gap_after s Rejected gap ≡ 0 = ap (λ b. cond b 0 (suc gap)) (eq-eqb (suc gap) s.len last) in
-          piece_bits_gap s j (suc n) ∙ ap (λ v. replicate (v * s.low) true) quotient ∙ ap (λ v. replicate v true) more
-          ∙ sym (replicate-append-replicate (q * s.low) s.low true) ∙ ap (λ v. v ++ replicate s.low true) (sym (piece_bits_gap s j n))
-          ∙ ap (λ v. piece_bits s j (Gap n) ++ cond (v == 0) (replicate s.low true) []) (sym now)
-      | inr more ↦
-          let next : suc n ≡ q * s.len + suc gap = omega (arith, place) in
-          let quotient : suc n / s.len ≡ q = ap (λ v. v / s.len) next ∙ div-mul-add q s.len (suc gap) (within gap s.len inside more) in
-          let now : gap_after s Rejected gap ≡ suc gap = ap (λ b. cond b 0 (suc gap)) (ne_eqb (suc gap) s.len more) in
-          piece_bits_gap s j (suc n) ∙ ap (λ v. replicate (v * s.low) true) quotient ∙ sym (piece_bits_gap s j n) ∙ sym (append-nil (piece_bits s j (Gap n)))
-          ∙ ap (λ b. piece_bits s j (Gap n) ++ cond b (replicate s.low true) []) (sym (ap (λ v. v == 0) now ∙ ne_eqb (suc gap) 0 (λ e. omega arith)))
-    ]
-  where
-    within : (a b : ℕ) → a < b → (suc a ≡ b → ⊥) → suc a < b
-    within a b lt ne = elim (cases_eq (suc a) b) [
-      | inl e ↦ absurd (ne e)
-      | inr ne' ↦ omega (arith, lt, ne')
-    ]
+gap_more s j n gap shape is = elim (gap_step s n gap shape is) [
+  | inl whole ↦
+      let more : suc (n / s.len) * s.low ≡ n / s.len * s.low + s.low = suc-mul (n / s.len) s.low in
+      piece_bits_gap s j (suc n) ∙ ap (λ v. replicate (v * s.low) true) whole.1 ∙ ap (λ v. replicate v true) more
+      ∙ sym (replicate-append-replicate (n / s.len * s.low) s.low true) ∙ ap (λ v. v ++ replicate s.low true) (sym (piece_bits_gap s j n))
+      ∙ ap (λ v. piece_bits s j (Gap n) ++ cond (v == 0) (replicate s.low true) []) (sym whole.0)
+  | inr part ↦
+      piece_bits_gap s j (suc n) ∙ ap (λ v. replicate (v * s.low) true) part.1 ∙ sym (piece_bits_gap s j n) ∙ sym (append-nil (piece_bits s j (Gap n)))
+      ∙ ap (λ b. piece_bits s j (Gap n) ++ cond b (replicate s.low true) []) (sym (ap (λ v. v == 0) part.0 ∙ ne_eqb (suc gap) 0 (λ e. omega arith)))
+]
 
 -- what a tributary gains by a step
 pub pieces_gain : (s : FrameShape) (j : ℕ) (step : Step) (ready : List (List Bool)) (before after : List Piece) (gap : ℕ) → IsFrame s → IsGap s gap before → Grows step ready before after
@@ -113,24 +98,10 @@ ends_delivered (frame ∷ next ∷ ready) before others n some e =
     ends_delivered (next ∷ ready) (before ++ Delivered frame ∷ []) others n (omega arith) (append_assoc before (Delivered frame ∷ []) (map Delivered (next ∷ ready)) ∙ e)
 
 mod_next : (s : FrameShape) (n gap : ℕ) → IsFrame s → gap ≡ n % s.len → gap_after s Rejected gap ≡ suc n % s.len
-mod_next s n gap shape is =
-    let q : ℕ = n / s.len in
-    let place : q * s.len + gap ≡ n = (let whole : n / s.len * s.len + n % s.len ≡ n = omega arith in ap (λ v. q * s.len + v) is ∙ whole) in
-    let inside : gap < s.len = omega (arith, is, shape.some_slots) in
-    elim (cases_eq (suc gap) s.len) [
-      | inl last ↦
-          let next : suc n ≡ suc q * s.len + 0 = omega (arith, place, last, suc-mul q s.len) in
-          ap (λ b. cond b 0 (suc gap)) (eq-eqb (suc gap) s.len last) ∙ sym (ap (λ v. v % s.len) next ∙ mod-mul-add (suc q) s.len 0 shape.some_slots)
-      | inr more ↦
-          let next : suc n ≡ q * s.len + suc gap = omega (arith, place) in
-          ap (λ b. cond b 0 (suc gap)) (ne_eqb (suc gap) s.len more) ∙ sym (ap (λ v. v % s.len) next ∙ mod-mul-add q s.len (suc gap) (within gap s.len inside more))
-    ]
-  where
-    within : (a b : ℕ) → a < b → (suc a ≡ b → ⊥) → suc a < b
-    within a b lt ne = elim (cases_eq (suc a) b) [
-      | inl e ↦ absurd (ne e)
-      | inr ne' ↦ omega (arith, lt, ne')
-    ]
+mod_next s n gap shape is = elim (gap_step s n gap shape is) [
+  | inl whole ↦ whole.0 ∙ sym whole.2
+  | inr part ↦ part.0 ∙ sym part.2
+]
 
 pub gap_goes : (s : FrameShape) (step : Step) (ready : List (List Bool)) (before after : List Piece) (gap : ℕ) → IsFrame s → IsGap s gap before → Grows step ready before after → IsGap s (gap_after s step gap) after
 gap_goes s Nothing ready before after gap shape is g others n e = is others n (sym g.1 ∙ e)

@@ -1,13 +1,14 @@
 -- Bits for one child: what all the children then stand for, what leaves have got, what is noted, and the room for the others' bits.
-use Rattle.std.proofs.Common.{◌≡◌, ◌≤◌, ◌⊎◌, inl, inr, ℕ, zero, suc, Bool, true, false, IsTrue, ◌||◌, List, [], ◌∷◌, ◌++◌, cond, refl, sym, ◌∙◌, ap, subst, arith, map, Some, slice_get, slice_set, eq-eqb}
+use Rattle.std.proofs.Common.{◌≡◌, ◌≤◌, ◌⊎◌, inl, inr, ℕ, zero, suc, Bool, true, false, IsTrue, ◌||◌, List, [], ◌∷◌, ◌++◌, cond, refl, sym, ◌∙◌, ap, subst, arith, length, map, get_or, Some, slice_get, slice_set, eq-eqb, ◌<◌, Result}
 use Rattle.std.specs.Option.{option_map}
-use Rattle.std.proofs.lemmas.Option.{slice_get-map}
-use Rattle.std.proofs.lemmas.List.{append-nil}
+use Rattle.std.proofs.lemmas.Option.{slice_get_read, slice_get-map}
+use Rattle.std.proofs.lemmas.List.{append-nil, length-map}
+use Rattle.std.proofs.Math.Seq.{map-set_same}
 use Rattle.std.proofs.lemmas.Bool.{cases_Bool, cases_eq, ne_eqb}
-use Rattle.pdh_edge.specs.Ports.{Outputs, for_leaf}
-use Rattle.pdh_rx.specs.Meaning.{Meaning, IsSound, Gains, GainsPart}
+use Rattle.pdh_edge.specs.Ports.{Outputs, for_leaf, HasCause}
+use Rattle.pdh_rx.specs.Meaning.{Meaning, HoldsAll, IsSound, Gains, GainsPart}
 use Rattle.pdh_events.specs.Acts.{with_more}
-use Rattle.pdh_rx.specs.Node.{EachStands, IsDisjoint, ChildFits, any_leaf, got_by, child_notes}
+use Rattle.pdh_rx.specs.Node.{EachStands, IsDisjoint, AreChildren, AreReady, ChildFits, Keeps, any_leaf, got_by, child_notes}
 use Rattle.pdh_rx.specs.laws.NodeLaws.{got_by_same}
 
 -- what lies at j after a write at i
@@ -63,6 +64,37 @@ leaf_of_all (x ∷ ms) (suc t) m k e h = right (x.leaves k) (any_leaf ms k) (lea
     right : (a b : Bool) → IsTrue b → IsTrue (a || b)
     right true b h = refl
     right false b h = h
+
+-- the child of a tributary, and what it receives, among all
+pub record IsChildOf {C : Type 0} (meaning : C → Meaning) (cs : List C) (t : ℕ) (child : C) : Type 0 where
+  pub here : slice_get cs t ≡ Some child
+  pub known : slice_get (map meaning cs) t ≡ Some (meaning child)
+
+pub child_of : {C : Type 0} (meaning : C → Meaning) (cs : List C) (tribs t : ℕ) (child : C) → AreChildren tribs (map meaning cs) → t < tribs → child ≡ get_or cs t child → IsChildOf meaning cs t child
+child_of meaning cs tribs t child are below found =
+    let inside : t < length cs = omega (arith, are.count, length-map cs meaning) in
+    let here : slice_get cs t ≡ Some child = slice_get_read cs _ t child refl inside found in
+    record { here = here; known = slice_get-map meaning cs t ∙ ap (option_map meaning) here }
+
+-- it can take bits where all can
+pub child_ready : {C : Type 0} (stands : C → List Bool → Type 0) (meaning : C → Meaning) (cs seen : List C) (t : ℕ) (child : C) (outputs : Outputs) → IsChildOf meaning cs t child → cs ≡ seen
+    → AreReady stands meaning seen outputs → ((line : List Bool) × stands child line) × HoldsAll (meaning child).leaves outputs
+child_ready {C = C} stands meaning cs seen t child outputs is same ready =
+    let inside = subst (λ (list : List C). AreReady stands meaning list outputs) (sym same) ready in
+    ((inside.lines t, inside.each t child is.here), λ k leaf. inside.lists k (leaf_of_all (map meaning cs) t (meaning child) k is.known leaf))
+
+-- and a call after which it means the same leaves what all mean
+pub child_same : {C : Type 0} (meaning : C → Meaning) (cs : List C) (t : ℕ) (child new : C) → meaning new ≡ meaning child → child ≡ get_or cs t child → map meaning (slice_set cs t new) ≡ map meaning cs
+child_same meaning cs t child new same found = map-set_same meaning cs t new child (same ∙ ap meaning found)
+
+pub still_children : {C : Type 0} (meaning : C → Meaning) (cs : List C) (tribs t : ℕ) (child new : C) → meaning new ≡ meaning child → child ≡ get_or cs t child → AreChildren tribs (map meaning cs)
+    → AreChildren tribs (map meaning (slice_set cs t new))
+still_children meaning cs tribs t child new same found are = subst (AreChildren tribs) (sym (child_same meaning cs t child new same found)) are
+
+pub child_keeps : {C D T E : Type 0} (meaning : C → Meaning) (faults : D → ℕ) (drained : D → D → Type 0) (cs : List C) (t : ℕ) (child new : C) (before after : D) (result : Result T E) → meaning new ≡ meaning child → child ≡ get_or cs t child
+    → drained before after → HasCause (faults before) (faults after) result → Keeps meaning faults drained cs (slice_set cs t new) before after result
+child_keeps meaning faults drained cs t child new before after result same found drains cause =
+    record { same = child_same meaning cs t child new same found; drains = drains; cause = cause }
 
 -- what a bit for a child brings is what the child notes
 pub child_notes_at : (ms : List Meaning) (j : ℕ) (m : Meaning) (line : List Bool) (bit : Bool) → slice_get ms j ≡ Some m → child_notes ms j line bit ≡ m.notes line bit
@@ -123,22 +155,19 @@ got_step (x ∷ ms) lines (suc t) bits m e dis more elsewhere gained k =
 more_elsewhere : (m : Meaning) → IsSound m → (l l' : List Bool) (more : ℕ → List Bool) → ((k : ℕ) → m.got l' k ≡ m.got l k ++ more k) → (k : ℕ) → m.leaves k ≡ false → more k ≡ []
 more_elsewhere m s l l' more h k e = sym (ap (λ v. v ++ more k) (s.elsewhere l k e)) ∙ sym (h k) ∙ s.elsewhere l' k e
 
+-- what comes to a child's leaves comes to those of all
+got_of_one : (ms : List Meaning) (lines : ℕ → List Bool) (t : ℕ) (bits : List Bool) (m : Meaning) → slice_get ms t ≡ Some m → IsDisjoint ms → IsSound m → (more : ℕ → List Bool)
+    → ((k : ℕ) → m.got (lines t ++ bits) k ≡ m.got (lines t) k ++ more k) → (k : ℕ) → got_by ms (with_more lines (for_leaf t bits)) k ≡ got_by ms lines k ++ more k
+got_of_one ms lines t bits m e dis s more gained = got_step ms lines t bits m e dis more (more_elsewhere m s _ _ more gained) gained
+
 -- what a child's call did, as seen from all the children
 pub gains_of_one : (ms : List Meaning) (lines : ℕ → List Bool) (t : ℕ) (bits : List Bool) (m : Meaning) → slice_get ms t ≡ Some m → IsDisjoint ms → IsSound m → (old new : Outputs)
     → Gains (m.got (lines t)) (m.got (lines t ++ bits)) old new → Gains (got_by ms lines) (got_by ms (with_more lines (for_leaf t bits))) old new
-gains_of_one ms lines t bits m e dis s old new p = record {
-  more = p.more;
-  gained = got_step ms lines t bits m e dis p.more (more_elsewhere m s _ _ p.more p.gained) p.gained;
-  puts = p.puts;
-}
+gains_of_one ms lines t bits m e dis s old new p = record { more = p.more; gained = got_of_one ms lines t bits m e dis s p.more p.gained; puts = p.puts }
 
 pub part_of_one : (ms : List Meaning) (lines : ℕ → List Bool) (t : ℕ) (bits : List Bool) (m : Meaning) → slice_get ms t ≡ Some m → IsDisjoint ms → IsSound m → (old new : Outputs)
     → GainsPart (m.got (lines t)) (m.got (lines t ++ bits)) old new → GainsPart (got_by ms lines) (got_by ms (with_more lines (for_leaf t bits))) old new
-part_of_one ms lines t bits m e dis s old new p = record {
-  more = p.more;
-  gained = got_step ms lines t bits m e dis p.more (more_elsewhere m s _ _ p.more p.gained) p.gained;
-  puts = p.puts;
-}
+part_of_one ms lines t bits m e dis s old new p = record { more = p.more; gained = got_of_one ms lines t bits m e dis s p.more p.gained; puts = p.puts }
 
 -- there is as much room for the bits of another child as before, where only this one's leaves took room
 pub fits_other : {C : Type 0} (meaning : C → Meaning) (fits : C → (ℕ → ℕ) → ℕ → Type 0) → ((m : C) (r r' : ℕ → ℕ) (n n' : ℕ) → ((k : ℕ) → (meaning m).leaves k ≡ true → r k ≡ r' k) → n' ≤ n → fits m r n → fits m r' n')

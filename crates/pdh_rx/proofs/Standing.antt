@@ -393,6 +393,13 @@ loaded_stands s false frame j turns has known bits k i p is lt in_gap in_frame e
     let few : k < length (stripped s j frame) = omega (arith, lt, ap length is) in
     subst (λ b. StandsAt s.tribs (frame_cell s frame) (s.tribs * suc s.low) j b k p) (sym is) (frame_stands s turns has j known frame k i p few (in_frame refl) e)
 
+-- with the numbers as the code has them
+pub in_turn : (s : FrameShape) (gap : Bool) (frame bits : List Bool) (j before turn tribs last : ℕ) → PayloadInTurn s → HasTributaries s → j < s.tribs → bits ≡ loaded_bits s gap frame j → before < length bits
+    → (gap ≡ true → turn ≡ before) → (gap ≡ false → StandsInTurn s j frame before turn) → tribs ≡ s.tribs → last ≡ j
+    → StandsAt s.tribs (loaded_cell s gap frame) (loaded_places s gap) j bits before (turn * tribs + last)
+in_turn s gap frame bits j before turn tribs last turns has known is lt in_gap in_frame count own =
+    loaded_stands s gap frame j turns has known bits before turn (turn * tribs + last) is lt in_gap in_frame (ap (λ n. turn * n + last) count ∙ ap (λ n. turn * s.tribs + n) own)
+
 pub loaded_last : (s : FrameShape) (gap : Bool) (frame : List Bool) (j : ℕ) → PayloadInTurn s → HasTributaries s → j < s.tribs → (bits : List Bool) (k p : ℕ) → bits ≡ loaded_bits s gap frame j → k ≡ length bits → p ≡ loaded_places s gap
     → StandsAt s.tribs (loaded_cell s gap frame) (loaded_places s gap) j bits k p
 loaded_last s gap frame j turns has known bits k p is all e =

@@ -6,8 +6,7 @@ use Rattle.std.proofs.lemmas.List.{append-nil, map-append}
 use Rattle.std.proofs.lemmas.List.Sums.{sum_by-cons, sum_by-append}
 use Rattle.std.proofs.lemmas.List.Elements.{filter_map-append}
 use Rattle.std.proofs.lemmas.Bool.{cases_eq, eq-eqb, ne_eqb}
-use Rattle.std.proofs.lemmas.Nat.{div-mul-add}
-use Rattle.std.proofs.Math.Nat.{zero-div, suc-mul}
+use Rattle.std.proofs.Math.Nat.{zero-div}
 use Rattle.std.proofs.Math.Seq.{drop-append_seam}
 use Rattle.pdh_edge.specs.Ports.{only}
 use Rattle.pdh_shape.specs.declared.place.Path.{Path}
@@ -29,6 +28,7 @@ use Rattle.pdh_events.specs.laws.KeepingLaws.{last_gap, last_more, remembers_gap
 use Rattle.pdh_events.specs.laws.ActsLaws.{bits_to, bits_to-append, bits_to-each, acts_push}
 use Rattle.pdh_rx.specs.Node.{IsGap, gap_after, ones_bits, step_acts, step_pieces, step_bits}
 use Rattle.pdh_rx.proofs.SlotActs.{frames_give}
+use Rattle.pdh_rx.proofs.GapSteps.{gap_step}
 
 -- ---- the machine's cases
 
@@ -121,30 +121,14 @@ lengths_delivered s (frame ∷ ready) = sum_by-cons (piece_lengths s) (Delivered
 
 -- one position more is a length more where it completes one
 one_more : (s : FrameShape) (n gap : ℕ) → IsFrame s → gap ≡ n % s.len → suc n / s.len ≡ n / s.len + cond (gap_after s Rejected gap == 0) 1 0
-one_more s n gap shape is =
-    let q : ℕ = n / s.len in
-    let place : q * s.len + gap ≡ n = (let whole : n / s.len * s.len + n % s.len ≡ n = omega arith in ap (λ v. q * s.len + v) is ∙ whole) in
-    let inside : gap < s.len = omega (arith, is, shape.some_slots) in
-    elim (cases_eq (suc gap) s.len) [
-      | inl last ↦
-          let next : suc n ≡ suc q * s.len + 0 = omega (arith, place, last, suc-mul q s.len) in
-          let quotient : suc n / s.len ≡ suc q = ap (λ v. v / s.len) next ∙ div-mul-add (suc q) s.len 0 shape.some_slots in
-          let now : gap_after s Rejected gap ≡ 0 = ap (λ b. cond b 0 (suc gap)) (eq-eqb (suc gap) s.len last) in
-          let one : ◌≡◌ {A = ℕ} (cond (gap_after s Rejected gap == 0) 1 0) 1 = ap (λ b. cond b 1 0) (eq-eqb (gap_after s Rejected gap) 0 now) in
-          omega (arith, quotient, one)
-      | inr more ↦
-          let next : suc n ≡ q * s.len + suc gap = omega (arith, place) in
-          let quotient : suc n / s.len ≡ q = ap (λ v. v / s.len) next ∙ div-mul-add q s.len (suc gap) (within gap s.len inside more) in
-          let now : gap_after s Rejected gap ≡ suc gap = ap (λ b. cond b 0 (suc gap)) (ne_eqb (suc gap) s.len more) in
-          let none : ◌≡◌ {A = ℕ} (cond (gap_after s Rejected gap == 0) 1 0) 0 = ap (λ b. cond b 1 0) (ne_eqb (gap_after s Rejected gap) 0 (λ e. omega (arith, now, e))) in
-          omega (arith, quotient, none)
-    ]
-  where
-    within : (a b : ℕ) → a < b → (suc a ≡ b → ⊥) → suc a < b
-    within a b lt ne = elim (cases_eq (suc a) b) [
-      | inl e ↦ absurd (ne e)
-      | inr ne' ↦ omega (arith, lt, ne')
-    ]
+one_more s n gap shape is = elim (gap_step s n gap shape is) [
+  | inl whole ↦
+      let one : ◌≡◌ {A = ℕ} (cond (gap_after s Rejected gap == 0) 1 0) 1 = ap (λ b. cond b 1 0) (eq-eqb (gap_after s Rejected gap) 0 whole.0) in
+      omega (arith, whole.1, one)
+  | inr part ↦
+      let none : ◌≡◌ {A = ℕ} (cond (gap_after s Rejected gap == 0) 1 0) 0 = ap (λ b. cond b 1 0) (ne_eqb (gap_after s Rejected gap) 0 (λ e. omega (arith, part.0, e))) in
+      omega (arith, part.1, none)
+]
 
 -- ---- what the tracking gained
 

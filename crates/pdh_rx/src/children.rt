@@ -15,15 +15,10 @@ use pdh_watch::Watch;
 use std::marker::{Model, PhantomData};
 
 /// The children of a demultiplexer, one for each tributary. No leaf is below two of them.
+#[derive(Drop)]
 pub struct Children<S: Shape, C: Rx> {
     list: Vec<C>,
     of: PhantomData<S>,
-}
-
-impl<S: Shape, C: Rx> Drop for Children<S, C> {
-    fn drop(self) {
-        let Self { list: _, of: _ } = self;
-    }
 }
 
 impl<S: Shape, C: Rx> Model for Children<S, C> {

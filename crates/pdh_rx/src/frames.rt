@@ -55,7 +55,11 @@ fn deliver<S: Shape, C: Rx, D: Drain, W: Watch>(
         → Remembers S.shape teller.new (pieces ++ Delivered (frame_back aligner.now.ready back) ∷ []) }
 {
     split.strip.load(aligner, back);
-    let odd = split.strip.is_odd();
+    let odd = if teller.tells_parity() {
+        split.strip.is_odd()
+    } else {
+        false
+    };
     teller.note(split.strip.frame(), odd, at.path, at.number, watch);
     give_loaded::<S, C, D, W>(children, split, drain, watch)
 }

@@ -28,15 +28,10 @@ pub struct Due {
 }
 
 /// How far each tributary is.
+#[derive(Drop)]
 pub struct Dues<S: Shape> {
     list: Vec<Due>,
     of: PhantomData<S>,
-}
-
-impl<S: Shape> Drop for Dues<S> {
-    fn drop(self) {
-        let Self { list: _, of: _ } = self;
-    }
 }
 
 impl<S: Shape> Model for Dues<S> {
@@ -60,17 +55,12 @@ impl<S: Shape> Dues<S> {
 }
 
 /// What is given to the tributaries: a frame or a gap, taken apart, and how far each of them is in it.
+#[derive(Drop)]
 pub struct Split<S: Shape> {
     /// What is loaded.
     pub strip: Strip<S>,
     /// How far each tributary is in it.
     pub due: Dues<S>,
-}
-
-impl<S: Shape> Drop for Split<S> {
-    fn drop(self) {
-        let Self { strip: _, due: _ } = self;
-    }
 }
 
 impl<S: Shape> Split<S> {

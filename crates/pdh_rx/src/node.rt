@@ -65,6 +65,7 @@ pub struct RxNode<S: Shape, C: Rx> {
     of: PhantomData<S>,
 }
 
+// By hand: whoever drops a node makes one call, and not one for each of its parts.
 impl<S: Shape, C: Rx> Drop for RxNode<S, C> {
     fn drop(self) {
         let Self {
@@ -125,45 +126,9 @@ impl<S: Shape, C: Rx> RxNode<S, C> {
         self.frames
     }
 
-    // Takes bits from a place on, none or more of those by which it notes nothing and gives its children nothing. It answers
-    // how many.
-    fn wait(&mut self, bits: &Packed, from: usize) -> usize
-        requires begun { from ≤ length bits.now.bits }
-        ensures count { from + result ≤ length bits.now.bits }
-        ensures taken { TakesQuietly (⟦<RxNode<S, C> as Rx>⟧.meaning self.old) (take result (drop from bits.now.bits))
-            (⟦<RxNode<S, C> as Rx>⟧.stands self.old) (⟦<RxNode<S, C> as Rx>⟧.stands self.new) }
-        ensures same { ⟦<RxNode<S, C> as Rx>⟧.meaning self.new ≡ ⟦<RxNode<S, C> as Rx>⟧.meaning self.old }
-    {
-        let most = (bits.len() - from).min(S::LEN as usize);
-        let calm = self.ais.calm(bits, from, most);
-        let count = self.aligner.take(bits, from, calm);
-        self.ais.skip(bits, from, count);
-        self.bits = self.bits.saturating_add(count as u64);
-        count
-    }
-
-    // The same where a search passes over positions of a gap, short of a whole frame's length of it.
-    fn pass_gap(&mut self, bits: &Packed, from: usize) -> usize
-        requires begun { from ≤ length bits.now.bits }
-        requires inside { self.old.gap < S.LEN }
-        ensures count { from + result ≤ length bits.now.bits }
-        ensures taken { TakesQuietly (⟦<RxNode<S, C> as Rx>⟧.meaning self.old) (take result (drop from bits.now.bits))
-            (⟦<RxNode<S, C> as Rx>⟧.stands self.old) (⟦<RxNode<S, C> as Rx>⟧.stands self.new) }
-        ensures same { ⟦<RxNode<S, C> as Rx>⟧.meaning self.new ≡ ⟦<RxNode<S, C> as Rx>⟧.meaning self.old }
-    {
-        let most = (bits.len() - from).min((S::LEN - 1 - self.gap) as usize);
-        let calm = self.ais.calm(bits, from, most);
-        let count = self.aligner.pass(bits, from, calm);
-        if count == 0 {
-            return 0;
-        }
-        self.gap += count as u32;
-        self.ais.skip(bits, from, count);
-        self.bits = self.bits.saturating_add(count as u64);
-        count
-    }
-
-    // The same in either way.
+    // Takes bits from a place on, none or more of those by which it notes nothing and gives its children nothing, and answers
+    // how many: positions of a gap that a search passes over, short of a whole frame's length of it, or bits up to the one
+    // at which frames end.
     fn idle(&mut self, bits: &Packed, from: usize) -> usize
         requires begun { from ≤ length bits.now.bits }
         requires stands { (line : List Bool) × ⟦<RxNode<S, C> as Rx>⟧.stands self.old line }
@@ -172,11 +137,17 @@ impl<S: Shape, C: Rx> RxNode<S, C> {
             (⟦<RxNode<S, C> as Rx>⟧.stands self.old) (⟦<RxNode<S, C> as Rx>⟧.stands self.new) }
         ensures same { ⟦<RxNode<S, C> as Rx>⟧.meaning self.new ≡ ⟦<RxNode<S, C> as Rx>⟧.meaning self.old }
     {
-        let waited = self.wait(bits, from);
-        if waited > 0 {
-            return waited;
+        let most = (bits.len() - from).min(S::LEN as usize);
+        let calm = self.ais.calm(bits, from, most);
+        let short = calm.min((S::LEN - 1 - self.gap) as usize);
+        let mut count = self.aligner.pass(bits, from, short);
+        self.gap += count as u32;
+        if count == 0 {
+            count = self.aligner.take(bits, from, calm);
         }
-        self.pass_gap(bits, from)
+        self.ais.skip(bits, from, count);
+        self.bits = self.bits.saturating_add(count as u64);
+        count
     }
 }
 

@@ -15,22 +15,13 @@ use std::marker::Model;
 use std::rc::Rc;
 
 /// Takes ready frames apart. Only `open` takes memory.
+#[derive(Drop)]
 pub struct Strip<S: Shape> {
     // room for a frame
     frame: Packed,
     parts: Parts<S>,
     // the ones of a gap are read, and not the frame
     gap: bool,
-}
-
-impl<S: Shape> Drop for Strip<S> {
-    fn drop(self) {
-        let Self {
-            frame: _,
-            parts: _,
-            gap: _,
-        } = self;
-    }
 }
 
 impl<S: Shape> Model for Strip<S> {

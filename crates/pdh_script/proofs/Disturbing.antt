@@ -1,15 +1,18 @@
 -- A line that is disturbed row by row.
-use Rattle.std.proofs.Common.{◌-◌, ◌≡◌, ℕ, ◌+◌, ◌<◌, ◌≤◌, Bool, List, [], ◌∷◌, ◌++◌, length, take, drop, get_or, refl, sym, ap, subst, ◌∙◌, arith, append_assoc, slice_range, Result, Ok, Err, OnOk, IfErr}
+use Rattle.std.proofs.Common.{◌-◌, ◌≡◌, ℕ, ◌+◌, ◌<◌, ◌≤◌, Bool, List, [], ◌∷◌, ◌++◌, length, take, drop, get_or, refl, sym, ap, subst, ◌∙◌, arith, append_assoc, slice_range, Result, Ok}
 use Rattle.std.proofs.lemmas.List.{append-nil, length-append, length-drop, take_all, take-append-le, drop_at, drop_all, drop-append-le, drop_more, take_rest}
 use Rattle.pdh_script.specs.declared.step.Edit.TheVariants.{Alter}
 use Rattle.pdh_script.specs.declared.step.Effect.TheVariants.{Flip}
 use Rattle.pdh_edge.specs.Ports.{Inputs, Outputs, IsPrefix}
-use Rattle.pdh_script.specs.Applying.{Passes, Applies, IsPassStop, IsApplyStop}
+use Rattle.pdh_edge.specs.declared.port.Feed as feed
+use Rattle.pdh_edge.specs.declared.port.Drain as drain
+use Rattle.pdh_edge.proofs.Progress.{goes_on}
+use Rattle.pdh_script.specs.Applying.{PassesSo, PassesBy, Applies, IsApplyStop}
 use Rattle.pdh_script.specs.Scripts.{Row, FitFrom, FitIn, altered, bits_changed, end_of, disturbed, disturbed_from}
 use Rattle.pdh_script.specs.Stored.{change_in, count_added, row_in, rows_in, steps_add}
 use Rattle.pdh_script.specs.declared.step.Step.{Step}
 use Rattle.pdh_script.specs.declared.stop.ApplyStop.{ApplyStop}
-use Rattle.pdh_script.proofs.Parts.{passes_none, passes_then, stop_then, prefix_after, prefix_of_taken}
+use Rattle.pdh_script.proofs.Parts.{passes_none, passes_then, stop_then, no_less, prefix_after, prefix_of_taken}
 
 -- ---- parts of a line
 
@@ -109,6 +112,10 @@ pub record Disturbing (rows : List Row) (bits place : ℕ) (left : List Step) (a
   pub enough : steps_add left ≤ length added
   pub applied : Applies seen place x y o p
 
+-- calls of a port did that, or this is why its line isn't disturbed to its end
+abbrev pub Disturbs : {P : Type 0} → feed.Ghosts P → drain.Ghosts P → (P → P → Type 0) → List Row → ℕ → ℕ → List Step → List ℕ → P → P → Result (Unit {0}) ApplyStop → Type 0
+Disturbs feeds drains keeps rows bits place left added = PassesSo feeds drains keeps (Disturbing rows bits place left added) (λ line. disturbed line rows) bits
+
 pub disturbing_begins : (bits : ℕ) (steps : List Step) (added : List ℕ) (x : Inputs) (o : Outputs) → FitIn bits (rows_in steps added) → steps_add steps ≤ length added
     → Disturbing (rows_in steps added) bits 0 steps added x x o o
 disturbing_begins bits steps added x o fits enough = record {
@@ -132,111 +139,92 @@ kept_begins seen later bits place n xs ys rest fits after lens more =
     subst (λ v. IsPrefix v (disturbed ((xs ++ ys) ++ rest) (seen ++ later))) (sym (kept_joined seen place n xs ys fits lens more))
     (front_begins seen later 0 bits (xs ++ ys) rest (omega arith) (subst (λ k. FitFrom 0 k seen) (sym whole) (fit_longer seen 0 place (place + n) (omega arith) fits)) (subst (λ k. FitFrom k bits later) (sym whole) after))
 
--- the bits before the next row
-pub kept_passes : (rows : List Row) (bits place at : ℕ) (step : Step) (left : List Step) (added : List ℕ) (x y z : Inputs) (o p q : Outputs) (d : Disturbing rows bits place (step ∷ left) added x y o p) → at ≡ step.at
-    → Passes (λ line. line) (at - place) y z p q → Applies d.seen step.at x z o q
-kept_passes rows bits place at step left added x y z o p q d same passes =
-    let ordered = d.later.0 in
-    passes_then (λ line. disturbed line d.seen) (λ line. line) (λ line. disturbed line d.seen) place (at - place) step.at x y z o p q (omega (arith, ordered, same))
-    (λ xs ys lens more. kept_joined d.seen place (at - place) xs ys d.fits lens more) d.applied passes
-
-pub kept_stops : (rows : List Row) (bits place at : ℕ) (step : Step) (left : List Step) (added : List ℕ) (x y z : Inputs) (o p q : Outputs) (first reads now first' writes now' : ℕ) (stop : ApplyStop) → Disturbing rows bits place (step ∷ left) added x y o p → at ≡ step.at
-    → first ≤ reads → first' ≤ writes → IsPassStop (λ line. line) (at - place) y z p q reads now writes now' stop → IsApplyStop rows bits x z o q first now first' now' stop
-kept_stops rows bits place at step left added x y z o p q first reads now first' writes now' stop d same since since' stops =
-    let ordered = d.later.0 in
-    let behind : step.at ≤ bits = omega (arith, d.later.1) in
-    let after : FitFrom (place + (at - place)) bits (rows_in (step ∷ left) added) = (omega (arith, ordered, same), d.later.1, d.later.2) in
-    subst (λ rows. IsApplyStop rows bits x z o q first now first' now' stop) (sym d.split)
-    (stop_then (λ line. disturbed line d.seen) (λ line. line) (λ line. disturbed line (d.seen ++ rows_in (step ∷ left) added)) place (at - place) bits x y z o p q first reads now first' writes now' stop (omega (arith, ordered, behind, same))
-    (λ xs ys rest lens more all. kept_begins d.seen (rows_in (step ∷ left) added) bits place (at - place) xs ys rest d.fits after lens more) since since' d.applied stops)
-
--- the row after them
-row_fits : (rows : List Row) (bits place : ℕ) (step : Step) (left : List Step) (added : List ℕ) (x y : Inputs) (o p : Outputs) (d : Disturbing rows bits place (step ∷ left) added x y o p)
-    → FitIn step.at d.seen
-row_fits rows bits place step left added x y o p d = fit_longer d.seen 0 place step.at d.later.0 d.fits
-
+-- the row after bits that no row changes
 row_joined : (seen : List Row) (row : Row) (xs ys : List Bool) → FitIn row.at seen → length xs ≡ row.at → length ys ≡ bits_changed row.change
     → disturbed xs seen ++ altered row.change ys ≡ disturbed (xs ++ ys) (seen ++ row ∷ [])
 row_joined seen row xs ys fits lens more = row_behind seen row 0 xs ys (omega arith) (subst (λ k. FitFrom 0 k seen) (sym lens) fits) lens more
-
-pub change_passes : (rows : List Row) (bits place : ℕ) (step : Step) (left : List Step) (added : List ℕ) (x y z w : Inputs) (o p q r : Outputs) (d : Disturbing rows bits place (step ∷ left) added x y o p)
-    → Applies d.seen step.at x z o q → (let change = change_in step.edit added in Passes (altered change) (bits_changed change) z w q r)
-    → Disturbing rows bits (end_of (row_in step added)) left (drop (count_added step.edit) added) x w o r
-change_passes rows bits place step left added x y z w o p q r d before passes =
-    let row = row_in step added in
-    let later = rows_in left (drop (count_added step.edit) added) in
-    let fits = row_fits rows bits place step left added x y o p d in
-    record {
-      seen = d.seen ++ row ∷ [];
-      split = d.split ∙ sym (append_assoc d.seen (row ∷ []) later);
-      fits = fit_push d.seen row 0 step.at (omega arith) (omega arith) fits;
-      later = d.later.2;
-      within = d.later.1;
-      enough = omega (arith, d.enough, length-drop (count_added step.edit) added);
-      applied = passes_then (λ line. disturbed line d.seen) (altered row.change) (λ line. disturbed line (d.seen ++ row ∷ [])) step.at (bits_changed row.change) (end_of row) x z w o q r refl
-          (λ xs ys lens more. row_joined d.seen row xs ys fits lens more) before passes;
-    }
-
-pub change_stops : (rows : List Row) (bits place : ℕ) (step : Step) (left : List Step) (added : List ℕ) (x y z w : Inputs) (o p q r : Outputs) (first reads now first' writes now' : ℕ) (stop : ApplyStop) (d : Disturbing rows bits place (step ∷ left) added x y o p)
-    → Applies d.seen step.at x z o q → first ≤ reads → first' ≤ writes
-    → (let change = change_in step.edit added in IsPassStop (altered change) (bits_changed change) z w q r reads now writes now' stop) → IsApplyStop rows bits x w o r first now first' now' stop
-change_stops rows bits place step left added x y z w o p q r first reads now first' writes now' stop d before since since' stops =
-    let row = row_in step added in
-    let later = rows_in left (drop (count_added step.edit) added) in
-    let fits = row_fits rows bits place step left added x y o p d in
-    let push : FitIn (end_of row) (d.seen ++ row ∷ []) = fit_push d.seen row 0 step.at (omega arith) (omega arith) fits in
-    let split : rows ≡ (d.seen ++ row ∷ []) ++ later = d.split ∙ sym (append_assoc d.seen (row ∷ []) later) in
-    subst (λ rows. IsApplyStop rows bits x w o r first now first' now' stop) (sym split)
-    (stop_then (λ line. disturbed line d.seen) (altered row.change) (λ line. disturbed line ((d.seen ++ row ∷ []) ++ later)) step.at (bits_changed row.change) bits x z w o q r first reads now first' writes now' stop d.later.1
-    (λ xs ys rest lens more all.
-    let whole : length (xs ++ ys) ≡ end_of row = omega (arith, length-append xs ys, lens, more) in
-    subst (λ v. IsPrefix v (disturbed ((xs ++ ys) ++ rest) ((d.seen ++ row ∷ []) ++ later))) (sym (row_joined d.seen row xs ys fits lens more))
-    (front_begins (d.seen ++ row ∷ []) later 0 bits (xs ++ ys) rest (omega arith) (subst (λ k. FitFrom 0 k (d.seen ++ row ∷ [])) (sym whole) push) (subst (λ k. FitFrom k bits later) (sym whole) d.later.2)))
-    since since' before stops)
-
--- the same, with what is left as it is stored
-pub change_done : (rows : List Row) (bits place end n : ℕ) (step : Step) (left : List Step) (added : List ℕ) (x y z w : Inputs) (o p q r : Outputs) (d : Disturbing rows bits place (step ∷ left) added x y o p)
-    → Applies d.seen step.at x z o q → (let change = change_in step.edit added in Passes (altered change) (bits_changed change) z w q r)
-    → end ≡ end_of (row_in step added) → n ≡ count_added step.edit → Disturbing rows bits end left (take (length added - n) (drop n added)) x w o r
-change_done rows bits place end n step left added x y z w o p q r d before passes ends count =
-    subst (λ e. Disturbing rows bits e left (take (length added - n) (drop n added)) x w o r) (sym ends)
-    (subst (λ bytes. Disturbing rows bits (end_of (row_in step added)) left bytes x w o r) (ap (λ k. drop k added) (sym count) ∙ sym (take_rest added n))
-    (change_passes rows bits place step left added x y z w o p q r d before passes))
 
 -- the step that comes next
 abbrev pub no_step : Step
 no_step = record { at = 0; edit = Alter Flip 0 }
 
-pub step_next : (rows : List Row) (bits place : ℕ) (steps : List Step) (i : ℕ) (added : List ℕ) (x y : Inputs) (o p : Outputs) → i < length steps → Disturbing rows bits place (drop i steps) added x y o p
-    → Disturbing rows bits place (get_or steps i no_step ∷ drop (i + 1) steps) added x y o p
-step_next rows bits place steps i added x y o p h d = subst (λ left. Disturbing rows bits place left added x y o p) (drop_more steps i no_step h) d
+-- ---- a port whose line is disturbed
 
-pub no_step_left : (rows : List Row) (bits place : ℕ) (steps : List Step) (i : ℕ) (added : List ℕ) (x y : Inputs) (o p : Outputs) → length steps ≤ i → Disturbing rows bits place (drop i steps) added x y o p
-    → Disturbing rows bits place [] added x y o p
-no_step_left rows bits place steps i added x y o p h d = subst (λ left. Disturbing rows bits place left added x y o p) (drop_all i steps h) d
+module _ {P : Type 0} (feeds : feed.Ghosts P) (drains : drain.Ghosts P) (keeps : P → P → Type 0) (rows : List Row) (bits place : ℕ) (left : List Step) (added : List ℕ) (a b c : P) (result : Result (Unit {0}) ApplyStop) (join : keeps a b → keeps b c → keeps a c) where
+  -- bits up to a place pass, which no row changes, or don't
+  kept_so : (at : ℕ) (Whole : Inputs → Inputs → Outputs → Outputs → Type 0) → (FitFrom place bits (rows_in left added) → place ≤ bits → (place ≤ at) × (at ≤ bits) × FitFrom at bits (rows_in left added))
+      → ((x z : Inputs) (o q : Outputs) → Disturbing rows bits at left added x z o q → Whole x z o q) → Disturbs feeds drains keeps rows bits place left added a b (Ok tt)
+      → PassesBy feeds drains keeps (λ line. line) (at - place) b c result → PassesSo feeds drains keeps Whole (λ line. disturbed line rows) bits a c result
+  kept_so at Whole fit so first next =
+      goes_on result first next join
+      (λ d passes.
+      let f = fit d.later d.within in
+      so _ _ _ _ (record {
+        seen = d.seen;
+        split = d.split;
+        fits = fit_longer d.seen 0 place at f.0 d.fits;
+        later = f.2;
+        within = f.1;
+        enough = d.enough;
+        applied = passes_then (λ line. disturbed line d.seen) (λ line. line) (λ line. disturbed line d.seen) place (at - place) at _ _ _ _ _ _ (omega (arith, f.0)) (λ xs ys lens more. kept_joined d.seen place (at - place) xs ys d.fits lens more) d.applied passes;
+      }))
+      (λ stop same d stops.
+      let f = fit d.later d.within in
+      let since = no_less _ _ same in
+      let there : at ≡ place + (at - place) = omega (arith, f.0) in
+      subst (λ rows. IsApplyStop rows bits (feeds.inputs a) (feeds.inputs c) (drains.outputs a) (drains.outputs c) (feeds.feed_faults a) (feeds.feed_faults c) (drains.drain_faults a) (drains.drain_faults c) stop) (sym d.split)
+      (stop_then (λ line. disturbed line d.seen) (λ line. line) (λ line. disturbed line (d.seen ++ rows_in left added)) place (at - place) bits _ _ (feeds.inputs c) _ _ (drains.outputs c) _ _ (feeds.feed_faults c) _ _ (drains.drain_faults c) stop (omega (arith, f.0, f.1))
+      (λ xs ys rest lens more all. kept_begins d.seen (rows_in left added) bits place (at - place) xs ys rest d.fits (subst (λ k. FitFrom k bits (rows_in left added)) there f.2) lens more) since.0 since.1 d.applied stops))
 
--- the bits behind the last row
-pub end_passes : (rows : List Row) (bits place : ℕ) (added : List ℕ) (x y z : Inputs) (o p q : Outputs) → Disturbing rows bits place [] added x y o p
-    → Passes (λ line. line) (bits - place) y z p q → Applies rows bits x z o q
-end_passes rows bits place added x y z o p q d passes =
-    subst (λ rows. Applies rows bits x z o q) (sym (d.split ∙ append-nil d.seen))
-    (passes_then (λ line. disturbed line d.seen) (λ line. line) (λ line. disturbed line d.seen) place (bits - place) bits x y z o p q (omega (arith, d.within))
-    (λ xs ys lens more. kept_joined d.seen place (bits - place) xs ys d.fits lens more) d.applied passes)
+  -- the bits behind the last row
+  pub end_goes_on : left ≡ [] → Disturbs feeds drains keeps rows bits place left added a b (Ok tt) → PassesBy feeds drains keeps (λ line. line) (bits - place) b c result
+      → PassesBy feeds drains keeps (λ line. disturbed line rows) bits a c result
+  end_goes_on none =
+      let last : FitFrom bits bits (rows_in left added) = subst (λ (left : List Step). FitFrom bits bits (rows_in left added)) (sym none) tt in
+      kept_so bits (Applies rows bits) (λ later within. (within, omega arith, last))
+      (λ x z o q d. subst (λ rows. Applies rows bits x z o q) (sym (d.split ∙ ap (λ (left : List Step). d.seen ++ rows_in left added) none ∙ append-nil d.seen)) d.applied)
 
-pub end_stops : (rows : List Row) (bits place : ℕ) (added : List ℕ) (x y z : Inputs) (o p q : Outputs) (first reads now first' writes now' : ℕ) (stop : ApplyStop) → Disturbing rows bits place [] added x y o p
-    → first ≤ reads → first' ≤ writes → IsPassStop (λ line. line) (bits - place) y z p q reads now writes now' stop → IsApplyStop rows bits x z o q first now first' now' stop
-end_stops rows bits place added x y z o p q first reads now first' writes now' stop d since since' stops =
-    subst (λ rows. IsApplyStop rows bits x z o q first now first' now' stop) (sym d.split)
-    (stop_then (λ line. disturbed line d.seen) (λ line. line) (λ line. disturbed line (d.seen ++ [])) place (bits - place) bits x y z o p q first reads now first' writes now' stop (omega (arith, d.within))
-    (λ xs ys rest lens more all. kept_begins d.seen [] bits place (bits - place) xs ys rest d.fits tt lens more) since since' d.applied stops)
+module _ {P : Type 0} (feeds : feed.Ghosts P) (drains : drain.Ghosts P) (keeps : P → P → Type 0) (rows : List Row) (bits place : ℕ) (steps : List Step) (i : ℕ) (added : List ℕ) (a b c : P) (result : Result (Unit {0}) ApplyStop) (join : keeps a b → keeps b c → keeps a c) (within : i < length steps) where
+  -- the bits before the next row
+  pub kept_goes_on : (at : ℕ) → at ≡ (get_or steps i no_step).at → Disturbs feeds drains keeps rows bits place (drop i steps) added a b (Ok tt) → PassesBy feeds drains keeps (λ line. line) (at - place) b c result
+      → Disturbs feeds drains keeps rows bits at (get_or steps i no_step ∷ drop (i + 1) steps) added a c result
+  kept_goes_on at same first =
+      let left = get_or steps i no_step ∷ drop (i + 1) steps in
+      kept_so feeds drains keeps rows bits place left added a b c result join at (Disturbing rows bits at left added)
+      (λ later fit. (omega (arith, later.0, same), omega (arith, later.1, same), (omega (arith, same), later.1, later.2))) (λ x z o q d. d)
+      (subst (λ (left : List Step). Disturbs feeds drains keeps rows bits place left added a b (Ok tt)) (drop_more steps i no_step within) first)
 
-pub end_ok : (result : Result Unit ApplyStop) (rows : List Row) (bits place : ℕ) (added : List ℕ) (x y z : Inputs) (o p q : Outputs) → Disturbing rows bits place [] added x y o p
-    → OnOk result (Passes (λ line. line) (bits - place) y z p q) → OnOk result (Applies rows bits x z o q)
-end_ok (Ok done) rows bits place added x y z o p q d passes = end_passes rows bits place added x y z o p q d passes
-end_ok (Err stop) rows bits place added x y z o p q d passes = tt
-
-pub end_err : (result : Result Unit ApplyStop) (rows : List Row) (bits place : ℕ) (added : List ℕ) (x y z : Inputs) (o p q : Outputs) (first reads now first' writes now' : ℕ) → Disturbing rows bits place [] added x y o p
-    → first ≤ reads → first' ≤ writes → IfErr result (IsPassStop (λ line. line) (bits - place) y z p q reads now writes now') → IfErr result (IsApplyStop rows bits x z o q first now first' now')
-end_err (Ok done) rows bits place added x y z o p q first reads now first' writes now' d since since' stops = tt
-end_err (Err stop) rows bits place added x y z o p q first reads now first' writes now' d since since' stops =
-    end_stops rows bits place added x y z o p q first reads now first' writes now' stop d since since' stops
+module _ {P : Type 0} (feeds : feed.Ghosts P) (drains : drain.Ghosts P) (keeps : P → P → Type 0) (rows : List Row) (bits at : ℕ) (step : Step) (left : List Step) (added : List ℕ) (a b c : P) (result : Result (Unit {0}) ApplyStop) (join : keeps a b → keeps b c → keeps a c) (same : at ≡ step.at) where
+  -- the next row
+  pub change_goes_on : (end n : ℕ) → end ≡ end_of (row_in step added) → n ≡ count_added step.edit → Disturbs feeds drains keeps rows bits at (step ∷ left) added a b (Ok tt)
+      → (let change = change_in step.edit added in PassesBy feeds drains keeps (altered change) (bits_changed change) b c result)
+      → Disturbs feeds drains keeps rows bits end left (take (length added - n) (drop n added)) a c result
+  change_goes_on end n ends count first next =
+      let row = row_in step added in
+      let behind = drop (count_added step.edit) added in
+      let later = rows_in left behind in
+      let gone : behind ≡ take (length added - n) (drop n added) = ap (λ k. drop k added) (sym count) ∙ sym (take_rest added n) in
+      let wide : at + bits_changed row.change ≡ end_of row = omega (arith, same) in
+      subst (λ e. Disturbs feeds drains keeps rows bits e left (take (length added - n) (drop n added)) a c result) (sym ends)
+      (subst (λ (bytes : List ℕ). Disturbs feeds drains keeps rows bits (end_of row) left bytes a c result) gone
+      (goes_on result first next join
+      (λ d passes. record {
+        seen = d.seen ++ row ∷ [];
+        split = d.split ∙ sym (append_assoc d.seen (row ∷ []) later);
+        fits = fit_push d.seen row 0 at (omega arith) (omega (arith, same)) d.fits;
+        later = d.later.2;
+        within = d.later.1;
+        enough = omega (arith, d.enough, length-drop (count_added step.edit) added);
+        applied = passes_then (λ line. disturbed line d.seen) (altered row.change) (λ line. disturbed line (d.seen ++ row ∷ [])) at (bits_changed row.change) (end_of row) _ _ _ _ _ _ wide
+            (λ xs ys lens more. row_joined d.seen row xs ys (subst (λ k. FitIn k d.seen) same d.fits) (lens ∙ same) more) d.applied passes;
+      })
+      (λ stop unfailed d stops.
+      let since = no_less _ _ unfailed in
+      let push : FitIn (end_of row) (d.seen ++ row ∷ []) = fit_push d.seen row 0 at (omega arith) (omega (arith, same)) d.fits in
+      subst (λ rows. IsApplyStop rows bits (feeds.inputs a) (feeds.inputs c) (drains.outputs a) (drains.outputs c) (feeds.feed_faults a) (feeds.feed_faults c) (drains.drain_faults a) (drains.drain_faults c) stop) (sym (d.split ∙ sym (append_assoc d.seen (row ∷ []) later)))
+      (stop_then (λ line. disturbed line d.seen) (altered row.change) (λ line. disturbed line ((d.seen ++ row ∷ []) ++ later)) at (bits_changed row.change) bits _ _ (feeds.inputs c) _ _ (drains.outputs c) _ _ (feeds.feed_faults c) _ _ (drains.drain_faults c) stop (omega (arith, d.later.1, same))
+      (λ xs ys rest lens more all.
+      let whole : length (xs ++ ys) ≡ end_of row = omega (arith, length-append xs ys, lens, more, same) in
+      subst (λ v. IsPrefix v (disturbed ((xs ++ ys) ++ rest) ((d.seen ++ row ∷ []) ++ later))) (sym (row_joined d.seen row xs ys (subst (λ k. FitIn k d.seen) same d.fits) (lens ∙ same) more))
+      (front_begins (d.seen ++ row ∷ []) later 0 bits (xs ++ ys) rest (omega arith) (subst (λ k. FitFrom 0 k (d.seen ++ row ∷ [])) (sym whole) push) (subst (λ k. FitFrom k bits later) (sym whole) d.later.2)))
+      since.0 since.1 d.applied stops))))

@@ -3,5 +3,4 @@ pub mod Words
 pub mod Rows
 pub mod Parts
 pub mod Disturbing
-pub mod Left
 pub mod Lengths

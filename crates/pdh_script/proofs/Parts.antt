@@ -1,23 +1,28 @@
 -- Bits that pass from list 0 to list 0, one part after another.
-use Rattle.std.proofs.Common.{◌-◌, ◌≡◌, ℕ, zero, suc, ◌+◌, ◌==◌, ◌<◌, ◌≤◌, Bool, true, false, not, cond, List, [], ◌∷◌, ◌++◌, length, take, drop, refl, sym, ap, subst, ◌∙◌, arith, append_assoc, Some, None, Option, Result, Ok, Err, IfErr}
+use Rattle.std.proofs.Common.{◌≡◌, ℕ, zero, suc, ◌+◌, ◌==◌, ◌<◌, ◌≤◌, Bool, true, false, not, cond, List, [], ◌∷◌, ◌++◌, length, take, drop, refl, sym, ap, subst, ◌∙◌, arith, append_assoc, Some, None, Option, Result, Ok, Err, OnOk, IfErr}
+use mathlib.Core.Path.{fun_ext}
 use Rattle.std.proofs.lemmas.List.{append-nil, map-append, length-append, length-take-le, take-append-drop}
 use Rattle.std.proofs.lemmas.List.Concat.{flat_map-append}
 use Rattle.std.proofs.Math.Seq.{take-add}
 use Rattle.pdh_bits.specs.Bits.{bits_of, bits_of_byte}
 use Rattle.pdh_bits.specs.BitOut.{BoundedBits}
 use Rattle.pdh_packed.specs.Gaining.{gained, IsGrown}
+use Rattle.pdh_edge.specs.Counts.{one_more}
 use Rattle.pdh_edge.specs.Files.{Rose}
-use Rattle.pdh_edge.specs.Ports.{Inputs, Outputs, Takes, Puts, PutsPart, IsPrefix, PrefixOf, before, for_leaf, nothing}
+use Rattle.pdh_edge.specs.Ports.{Inputs, Outputs, Takes, Puts, PutsPart, IsPrefix, PrefixOf, before, faults_fed, for_leaf, nothing}
+use Rattle.pdh_edge.specs.declared.port.Feed as feed
+use Rattle.pdh_edge.specs.declared.port.Drain as drain
 use Rattle.pdh_edge.specs.declared.port.FeedStop.{FeedStop}
 use Rattle.pdh_edge.specs.declared.port.FeedStop.TheVariants.{Failed as FeedFailed, Ended as FeedEnded}
-use Rattle.pdh_edge.proofs.Runs.{for_leaf_then, puts_begin, puts_then, puts_part}
+use Rattle.pdh_edge.proofs.Progress.{starts, goes_on, both_counts}
+use Rattle.pdh_edge.proofs.Runs.{for_leaf_then, puts_begin, puts_then, puts_part, rose_of, rose_of_feed}
 use Rattle.pdh_script.specs.Scripts.{altered, bits_changed}
 use Rattle.pdh_script.specs.Stored.{becomes, change_by, change_in}
 use Rattle.pdh_script.specs.declared.step.Edit.{Edit}
 use Rattle.pdh_script.specs.declared.step.Edit.TheVariants as edits
 use Rattle.pdh_script.specs.declared.step.Effect.{Effect}
 use Rattle.pdh_script.specs.declared.step.Effect.TheVariants as effects
-use Rattle.pdh_script.specs.Applying.{Passes, PassesPart, IsPassStop, feed_stop}
+use Rattle.pdh_script.specs.Applying.{Passes, PassesPart, PassesSo, PassesBy, IsPassStop, apply_reads, apply_writes, counted_at, feed_stop, reads_at_stop, writes_at_stop}
 use Rattle.pdh_script.specs.declared.stop.ApplyStop.{ApplyStop}
 use Rattle.pdh_script.specs.declared.stop.ApplyStop.TheVariants.{Ended, ReadFailed, WriteFailed}
 
@@ -146,19 +151,6 @@ put_stops f m bits put x y z o p q reads reads_now writes writes_now inputs outp
   },
 )
 
--- bits that couldn't all be put, where none were taken
-pub put_stops_alone : (bits put : List Bool) (x y : Inputs) (o p : Outputs) (reads reads_now writes writes_now : ℕ) → y ≡ x → IsPrefix put bits → PutsPart (for_leaf 0 put) o p → Rose writes writes_now
-    → IsPassStop (λ line. bits) 0 x y o p reads reads_now writes writes_now WriteFailed
-put_stops_alone bits put x y o p reads reads_now writes writes_now same begins puts rose = (
-  rose,
-  record {
-    given = [];
-    upto = omega arith;
-    takes = subst (Takes (for_leaf 0 []) x) (sym same) (takes_none x x (takes_same x));
-    puts = λ line count started. puts_part 0 [] put bits o o p (puts_begin 0 o) puts begins;
-  },
-)
-
 -- the first bits of a list that begins with others
 pub prefix_of_taken : (xs rest : List Bool) (m : ℕ) → length xs ≤ m → IsPrefix xs (take m (xs ++ rest))
 prefix_of_taken [] rest m h = (take m rest, refl)
@@ -232,32 +224,6 @@ pub joined_begins : (effect : Option Effect) (xs ys rest : List Bool) → IsPref
 joined_begins effect xs ys rest =
     subst (λ v. IsPrefix v (becomes effect ((xs ++ ys) ++ rest))) (sym (becomes_joined effect xs ys)) (becomes_longer effect (xs ++ ys) rest)
 
--- ---- the passing of bits, where some passed so far
-
--- some bits more
-pub passes_more : (effect : Option Effect) (n : ℕ) (bits put : List Bool) (x y z w : Inputs) (o p q r : Outputs) → w ≡ z → q ≡ p → put ≡ becomes effect bits
-    → Passes (becomes effect) n x y o p → Takes (for_leaf 0 bits) y z → Puts (for_leaf 0 put) q r → Passes (becomes effect) (n + length bits) x w o r
-passes_more effect n bits put x y z w o p q r inputs outputs same passes takes puts =
-    let f = becomes effect in
-    passes_then f f f n (length bits) (n + length bits) x y w o p r refl (λ xs ys lens more. becomes_joined effect xs ys) passes
-    (passes_bits f bits put y z w p q r inputs outputs same takes puts)
-
--- a call for bits gave none
-pub pass_ends : (effect : Option Effect) (n bits : ℕ) (x y z : Inputs) (o p q : Outputs) (first reads now first' writes now' : ℕ) (why : FeedStop) → n < bits → q ≡ p → Passes (becomes effect) n x y o p → Takes nothing y z
-    → first ≤ reads → first' ≤ writes → (why ≡ FeedFailed → Rose reads now) → (why ≡ FeedEnded → y.left 0 ≡ 0) → IsPassStop (becomes effect) bits x z o q first now first' now' (feed_stop why)
-pass_ends effect n bits x y z o p q first reads now first' writes now' why less outputs passes takes since since' failed ended =
-    let f = becomes effect in
-    stop_then f f f n (bits - n) bits x y z o p q first reads now first' writes now' (feed_stop why) (omega (arith, less)) (λ xs ys rest lens more all. joined_begins effect xs ys rest) since since' passes
-    (feed_stops f (bits - n) y z p q reads now writes now' why (omega (arith, less)) outputs takes failed ended)
-
--- of bits that were taken, not all could be put that become of them
-pub pass_fails : (effect : Option Effect) (n bits : ℕ) (taken put : List Bool) (x y z w : Inputs) (o p q r : Outputs) (first reads now first' writes now' : ℕ) → n + length taken ≤ bits → w ≡ z → q ≡ p → put ≡ becomes effect taken
-    → Passes (becomes effect) n x y o p → Takes (for_leaf 0 taken) y z → PutsPart (for_leaf 0 put) q r → first ≤ reads → first' ≤ writes → Rose writes now' → IsPassStop (becomes effect) bits x w o r first now first' now' WriteFailed
-pass_fails effect n bits taken put x y z w o p q r first reads now first' writes now' upto inputs outputs same passes takes puts since since' rose =
-    let f = becomes effect in
-    stop_then f f f n (bits - n) bits x y w o p r first reads now first' writes now' WriteFailed (omega (arith, upto)) (λ xs ys rest lens more all. joined_begins effect xs ys rest) since since' passes
-    (put_stops f (bits - n) taken put y z w p q r reads now writes now' inputs outputs same (omega (arith, upto)) (λ rest. becomes_longer effect taken rest) takes puts rose)
-
 -- what is put of a list that was empty, got bits and was then altered
 pub put_is : (effect : Option Effect) (buffer empty filled put : BoundedBits) (count : ℕ) → empty ≡ record buffer { bits = [] } → IsGrown empty filled count → put ≡ record filled { bits = becomes effect filled.bits }
     → put.bits ≡ becomes effect (gained empty filled)
@@ -286,35 +252,96 @@ pub bytes_are : (buffer empty put : BoundedBits) (bytes : List ℕ) (i n k : ℕ
 bytes_are buffer empty put bytes i n k cleared appended same =
     ap (λ (list : BoundedBits). list.bits) appended ∙ ap (λ (list : BoundedBits). list.bits ++ bits_of (take k (drop i bytes))) cleared ∙ ap (λ m. bits_of (take m (drop i bytes))) same
 
--- the bits of some bytes more
-pub bytes_pass : (bytes : List ℕ) (i n next : ℕ) (put : List Bool) (x y z : Inputs) (o p q : Outputs) → next ≡ i + n → z ≡ y → put ≡ bits_of (take n (drop i bytes))
-    → Passes (λ line. bits_of (take i bytes)) 0 x y o p → Puts (for_leaf 0 put) p q → Passes (λ line. bits_of (take next bytes)) 0 x z o q
-bytes_pass bytes i n next put x y z o p q is inputs same passes puts =
-    passes_then (λ line. bits_of (take i bytes)) (λ line. put) (λ line. bits_of (take next bytes)) 0 0 0 x y z o p q (omega arith)
-    (λ xs ys lens more. ap (λ v. bits_of (take i bytes) ++ v) same ∙ bytes_more bytes i n ∙ ap (λ k. bits_of (take k bytes)) (sym is)) passes (passes_put put y z p q inputs puts)
+-- ---- a port that bits pass
 
-pub bytes_fail : (bytes : List ℕ) (i n : ℕ) (put : List Bool) (x y z : Inputs) (o p q : Outputs) (first now first' writes now' : ℕ) → z ≡ y → put ≡ bits_of (take n (drop i bytes))
-    → Passes (λ line. bits_of (take i bytes)) 0 x y o p → PutsPart (for_leaf 0 put) p q → first' ≤ writes → Rose writes now' → IsPassStop (λ line. bits_of bytes) 0 x z o q first now first' now' WriteFailed
-bytes_fail bytes i n put x y z o p q first now first' writes now' inputs same passes puts since rose =
-    stop_then (λ line. bits_of (take i bytes)) (λ line. put) (λ line. bits_of bytes) 0 0 0 x y z o p q first first now first' writes now' WriteFailed (omega arith)
-    (λ xs ys rest lens more all. subst (λ v. IsPrefix (bits_of (take i bytes) ++ v) (bits_of bytes)) (sym same) (bytes_begin bytes i n)) (omega arith) since passes
-    (put_stops_alone put put y z p q first now writes now' inputs (prefix_same put) puts rose)
+-- the counts where the line gives no bits
+feed_counts : (why : FeedStop) (r r' w w' : ℕ) → r' ≡ faults_fed why r → w' ≡ w → ◌≡◌ {A = ℕ × ℕ} (r', w') (counted_at (feed_stop why) (r, w))
+feed_counts FeedFailed r r' w w' counted same = both_counts counted same
+feed_counts FeedEnded r r' w w' counted same = both_counts counted same
 
--- ---- what ends the passing of bits that a row changes, as it is stored
+-- counts that are the same are no less
+pub no_less : (old new : ℕ × ℕ) → new ≡ old → (old.0 ≤ new.0) × (old.1 ≤ new.1)
+no_less old new same =
+    let first : new.0 ≡ old.0 = ap (λ (n : ℕ × ℕ). n.0) same in
+    let second : new.1 ≡ old.1 = ap (λ (n : ℕ × ℕ). n.1) same in
+    (omega (arith, first), omega (arith, second))
 
-part_as : (f g : List Bool → List Bool) (n : ℕ) (x y : Inputs) (o p : Outputs) → ((bits : List Bool) → g bits ≡ f bits) → PassesPart f n x y o p → PassesPart g n x y o p
-part_as f g n x y o p same h = record {
-  given = h.given;
-  upto = h.upto;
-  takes = h.takes;
-  puts = λ line count begins. subst (λ bits. PutsPart (for_leaf 0 bits) o p) (sym (same line)) (h.puts line count begins);
-}
+module _ {P : Type 0} (feeds : feed.Ghosts P) (drains : drain.Ghosts P) (keeps : P → P → Type 0) where
+  -- nothing passed so far
+  pub passing_starts : (f g : List Bool → List Bool) (m : ℕ) (a : P) → keeps a a → f [] ≡ [] → PassesSo {T = Unit {0}} feeds drains keeps (Passes f 0) g m a a (Ok tt)
+  passing_starts f g m a kept none = starts kept (passes_none f (feeds.inputs a) (drains.outputs a) none)
 
-pub stop_as : (f g : List Bool → List Bool) (n : ℕ) (x y : Inputs) (o p : Outputs) (reads now writes now' : ℕ) (stop : ApplyStop) → ((bits : List Bool) → g bits ≡ f bits)
-    → IsPassStop f n x y o p reads now writes now' stop → IsPassStop g n x y o p reads now writes now' stop
-stop_as f g n x y o p reads now writes now' Ended same h = (h.0, h.1, part_as f g n x y o p same h.2)
-stop_as f g n x y o p reads now writes now' ReadFailed same h = (h.0, part_as f g n x y o p same h.1)
-stop_as f g n x y o p reads now writes now' WriteFailed same h = (h.0, part_as f g n x y o p same h.1)
+  -- bits pass after others, or don't
+  pub passing_goes_on : (f g h e : List Bool → List Bool) (n m k l : ℕ) (a b c : P) (result : Result (Unit {0}) ApplyStop) → n + m ≡ k → n + m ≤ l
+      → ((xs ys : List Bool) → length xs ≡ n → length ys ≡ m → f xs ++ g ys ≡ h (xs ++ ys))
+      → ((xs ys rest : List Bool) → length xs ≡ n → length ys ≡ m → length ((xs ++ ys) ++ rest) ≡ l → IsPrefix (f xs ++ g ys) (e ((xs ++ ys) ++ rest)))
+      → (keeps a b → keeps b c → keeps a c) → PassesSo {T = Unit {0}} feeds drains keeps (Passes f n) e l a b (Ok tt) → PassesBy feeds drains keeps g m b c result → PassesSo feeds drains keeps (Passes h k) e l a c result
+  passing_goes_on f g h e n m k l a b c result all within joined begins join first next =
+      goes_on result first next join (passes_then f g h n m k _ _ _ _ _ _ all joined)
+      (λ stop same. let since = no_less _ _ same in stop_then f g e n m l _ _ (feeds.inputs c) _ _ (drains.outputs c) _ _ (feeds.feed_faults c) _ _ (drains.drain_faults c) stop within begins since.0 since.1)
+
+  -- the same of bits that have one effect, or none
+  pub pass_goes_on : (effect : Option Effect) (n m k l : ℕ) (a b c : P) (result : Result (Unit {0}) ApplyStop) → n + m ≡ k → n + m ≤ l
+      → (keeps a b → keeps b c → keeps a c) → PassesSo {T = Unit {0}} feeds drains keeps (Passes (becomes effect) n) (becomes effect) l a b (Ok tt) → PassesBy feeds drains keeps (becomes effect) m b c result
+      → PassesSo feeds drains keeps (Passes (becomes effect) k) (becomes effect) l a c result
+  pass_goes_on effect n m k l a b c result all within =
+      let f = becomes effect in
+      passing_goes_on f f f f n m k l a b c result all within (λ xs ys lens more. becomes_joined effect xs ys) (λ xs ys rest lens more whole. joined_begins effect xs ys rest)
+
+  -- a call for bits gave none
+  pub feed_fails : (f : List Bool → List Bool) (a b : P) (why : FeedStop) → keeps a b → (drains.outputs b ≡ drains.outputs a) × (drains.drain_faults b ≡ drains.drain_faults a) → Takes nothing (feeds.inputs a) (feeds.inputs b)
+      → feeds.feed_faults b ≡ faults_fed why (feeds.feed_faults a) → (why ≡ FeedEnded → (feeds.inputs a).left 0 ≡ 0) → PassesBy {T = Unit {0}} feeds drains keeps f 1 a b (Err (feed_stop why))
+  feed_fails f a b why kept same takes counted ended = record {
+    kept = kept;
+    counts = feed_counts why _ _ _ _ counted same.1;
+    does = feed_stops f 1 _ _ _ _ _ _ _ _ why (omega arith) same.0 takes (rose_of_feed why _ _ counted) ended;
+  }
+
+  -- bits were taken, and what becomes of them was put, or not all of it
+  module _ (effect : Option Effect) (bits put : List Bool) (a b c : P) (kept : keeps a c) (fed : (drains.outputs b ≡ drains.outputs a) × (drains.drain_faults b ≡ drains.drain_faults a)) (drained : (feeds.inputs c ≡ feeds.inputs b) × (feeds.feed_faults c ≡ feeds.feed_faults b)) (same : put ≡ becomes effect bits) (read : feeds.feed_faults b ≡ feeds.feed_faults a) (takes : Takes (for_leaf 0 bits) (feeds.inputs a) (feeds.inputs b)) where
+    pub bits_pass : drains.drain_faults c ≡ drains.drain_faults b → Puts (for_leaf 0 put) (drains.outputs b) (drains.outputs c) → PassesBy {T = Unit {0}} feeds drains keeps (becomes effect) (length bits) a c (Ok tt)
+    bits_pass written puts = record {
+      kept = kept;
+      counts = both_counts (drained.1 ∙ read) (written ∙ fed.1);
+      does = passes_bits (becomes effect) bits put _ _ _ _ _ _ drained.0 fed.0 same takes puts;
+    }
+
+    pub bits_fail : drains.drain_faults c ≡ one_more (drains.drain_faults b) → PutsPart (for_leaf 0 put) (drains.outputs b) (drains.outputs c) → PassesBy {T = Unit {0}} feeds drains keeps (becomes effect) (length bits) a c (Err WriteFailed)
+    bits_fail counted puts =
+        let all : drains.drain_faults c ≡ one_more (drains.drain_faults a) = counted ∙ ap one_more fed.1 in
+        record {
+          kept = kept;
+          counts = both_counts (drained.1 ∙ read) all;
+          does = put_stops (becomes effect) (length bits) bits put _ _ _ _ _ _ (feeds.feed_faults a) (feeds.feed_faults c) _ _ drained.0 fed.0 same (omega arith) (λ rest. becomes_longer effect bits rest) takes puts (rose_of _ _ all);
+        }
+
+  -- bytes whose bits were put after those of others, or not all of them
+  module _ (bytes : List ℕ) (i n next : ℕ) (put : List Bool) (a b c : P) (is : next ≡ i + n) (same : put ≡ bits_of (take n (drop i bytes))) (kept : keeps b c) (drained : (feeds.inputs c ≡ feeds.inputs b) × (feeds.feed_faults c ≡ feeds.feed_faults b)) (join : keeps a b → keeps b c → keeps a c) (first : PassesSo {T = Unit {0}} feeds drains keeps (Passes (λ line. bits_of (take i bytes)) 0) (λ line. bits_of bytes) 0 a b (Ok tt)) where
+    bytes_go_on : (result : Result (Unit {0}) ApplyStop) → PassesBy feeds drains keeps (λ line. put) 0 b c result → PassesSo feeds drains keeps (Passes (λ line. bits_of (take next bytes)) 0) (λ line. bits_of bytes) 0 a c result
+    bytes_go_on result =
+        passing_goes_on (λ line. bits_of (take i bytes)) (λ line. put) (λ line. bits_of (take next bytes)) (λ line. bits_of bytes) 0 0 0 0 a b c result (omega arith) (omega arith)
+        (λ xs ys lens more. ap (λ v. bits_of (take i bytes) ++ v) same ∙ bytes_more bytes i n ∙ ap (λ k. bits_of (take k bytes)) (sym is))
+        (λ xs ys rest lens more all. subst (λ v. IsPrefix (bits_of (take i bytes) ++ v) (bits_of bytes)) (sym same) (bytes_begin bytes i n)) join first
+
+    pub bytes_pass : drains.drain_faults c ≡ drains.drain_faults b → Puts (for_leaf 0 put) (drains.outputs b) (drains.outputs c) → PassesSo {T = Unit {0}} feeds drains keeps (Passes (λ line. bits_of (take next bytes)) 0) (λ line. bits_of bytes) 0 a c (Ok tt)
+    bytes_pass written puts = bytes_go_on (Ok tt) (record { kept = kept; counts = both_counts drained.1 written; does = passes_put put _ _ _ _ drained.0 puts })
+
+    pub bytes_fail : drains.drain_faults c ≡ one_more (drains.drain_faults b) → PutsPart (for_leaf 0 put) (drains.outputs b) (drains.outputs c) → PassesSo {T = Unit {0}} feeds drains keeps (Passes (λ line. bits_of (take next bytes)) 0) (λ line. bits_of bytes) 0 a c (Err WriteFailed)
+    bytes_fail counted puts =
+        let none : Takes (for_leaf 0 []) (feeds.inputs b) (feeds.inputs b) = takes_none _ _ (takes_same (feeds.inputs b)) in
+        bytes_go_on (Err WriteFailed) (record { kept = kept; counts = both_counts drained.1 counted; does = put_stops (λ line. put) 0 [] put _ _ _ _ _ _ (feeds.feed_faults b) (feeds.feed_faults c) _ _ drained.0 refl refl (omega arith) (λ rest. prefix_same put) none puts (rose_of _ _ counted) })
+
+  -- what passed after a start, and was counted
+  pub after_start : (f : List Bool → List Bool) (n : ℕ) (a b c : P) (result : Result (Unit {0}) ApplyStop) → feeds.inputs b ≡ feeds.inputs a → drains.outputs b ≡ drains.outputs a → feeds.feed_faults b ≡ feeds.feed_faults a → drains.drain_faults b ≡ drains.drain_faults a
+      → PassesBy feeds drains keeps f n b c result → (feeds.feed_faults c ≡ apply_reads result (feeds.feed_faults a)) × (drains.drain_faults c ≡ apply_writes result (drains.drain_faults a))
+      × OnOk result (Passes f n (feeds.inputs a) (feeds.inputs c) (drains.outputs a) (drains.outputs c))
+      × IfErr result (IsPassStop f n (feeds.inputs a) (feeds.inputs c) (drains.outputs a) (drains.outputs c) (feeds.feed_faults a) (feeds.feed_faults c) (drains.drain_faults a) (drains.drain_faults c))
+  after_start f n a b c (Ok done) inputs outputs reads writes passed =
+      (ap (λ (k : ℕ × ℕ). k.0) passed.counts ∙ reads, ap (λ (k : ℕ × ℕ). k.1) passed.counts ∙ writes, rw (sym inputs, sym outputs) passed.does, tt)
+  after_start f n a b c (Err stop) inputs outputs reads writes passed =
+      (ap (λ (k : ℕ × ℕ). k.0) passed.counts ∙ ap (reads_at_stop stop) reads, ap (λ (k : ℕ × ℕ). k.1) passed.counts ∙ ap (writes_at_stop stop) writes, tt, rw (sym inputs, sym outputs, sym reads, sym writes) passed.does)
+
+-- ---- what becomes of bits that a row changes, as it is stored
 
 bits_changed_is : (effect : Effect) (n : ℕ) → n ≡ bits_changed (change_by effect n)
 bits_changed_is effects.Flip n = refl
@@ -322,29 +349,15 @@ bits_changed_is effects.Ones n = refl
 bits_changed_is effects.Zeros n = refl
 bits_changed_is effects.Drop n = refl
 
-err_as : (P Q : ApplyStop → Type 0) (r : Result Unit ApplyStop) → ((stop : ApplyStop) → P stop → Q stop) → IfErr r P → IfErr r Q
-err_as P Q (Ok done) goes h = h
-err_as P Q (Err stop) goes h = goes stop h
-
--- bits that are altered
-pub altering_stops : (edit : Edit) (effect : Effect) (bits n : ℕ) (added : List ℕ) (x y : Inputs) (o p : Outputs) (reads now writes now' : ℕ) (r : Result Unit ApplyStop) → edit ≡ edits.Alter effect bits → n ≡ bits
-    → IfErr r (IsPassStop (becomes (Some effect)) n x y o p reads now writes now')
-    → IfErr r (IsPassStop (altered (change_in edit added)) (bits_changed (change_in edit added)) x y o p reads now writes now')
-altering_stops edit effect bits n added x y o p reads now writes now' r is same h =
-    let P : Edit → Type 0 = λ e. IfErr r (IsPassStop (altered (change_in e added)) (bits_changed (change_in e added)) x y o p reads now writes now') in
+-- whatever is so of what becomes of bits that have an effect is so of the change
+pub altering : (Q : (List Bool → List Bool) → ℕ → Type 0) (edit : Edit) (effect : Effect) (bits n : ℕ) (added : List ℕ) → edit ≡ edits.Alter effect bits → n ≡ bits → Q (becomes (Some effect)) n → Q (altered (change_in edit added)) (bits_changed (change_in edit added))
+altering Q edit effect bits n added is same h =
     let change = change_by effect bits in
-    let Q : ℕ → Type 0 = λ k. IfErr r (IsPassStop (altered change) k x y o p reads now writes now') in
-    subst P (sym is) (subst Q (same ∙ bits_changed_is effect bits)
-    (err_as (IsPassStop (becomes (Some effect)) n x y o p reads now writes now') (IsPassStop (altered change) n x y o p reads now writes now') r
-    (λ stop. stop_as (becomes (Some effect)) (altered change) n x y o p reads now writes now' stop (altered_is effect bits)) h))
+    subst (λ (e : Edit). Q (altered (change_in e added)) (bits_changed (change_in e added))) (sym is)
+    (subst (λ k. Q (altered change) k) (same ∙ bits_changed_is effect bits) (subst (λ (f : List Bool → List Bool). Q f n) (sym (fun_ext (altered_is effect bits))) h))
 
--- bits that are added
-pub adding_stops : (edit : Edit) (count : ℕ) (added : List ℕ) (x y : Inputs) (o p : Outputs) (reads now writes now' : ℕ) (r : Result Unit ApplyStop) → edit ≡ edits.Add count
-    → IfErr r (IsPassStop (λ line. bits_of (take count added)) 0 x y o p reads now writes now')
-    → IfErr r (IsPassStop (altered (change_in edit added)) (bits_changed (change_in edit added)) x y o p reads now writes now')
-adding_stops edit count added x y o p reads now writes now' r is h =
-    let P : Edit → Type 0 = λ e. IfErr r (IsPassStop (altered (change_in e added)) (bits_changed (change_in e added)) x y o p reads now writes now') in
-    subst P (sym is) h
+pub adding : (Q : (List Bool → List Bool) → ℕ → Type 0) (edit : Edit) (count : ℕ) (added : List ℕ) → edit ≡ edits.Add count → Q (λ line. bits_of (take count added)) 0 → Q (altered (change_in edit added)) (bits_changed (change_in edit added))
+adding Q edit count added is h = subst (λ (e : Edit). Q (altered (change_in e added)) (bits_changed (change_in e added))) (sym is) h
 
 -- ---- a start that failed
 

@@ -3,6 +3,9 @@ use Rattle.std.specs.Prelude.{◌≡◌, ℕ, ◌<◌, ◌≤◌, ◌⊎◌, Boo
 use Rattle.pdh_edge.specs.Counts.{one_more}
 use Rattle.pdh_edge.specs.Files.{Rose}
 use Rattle.pdh_edge.specs.Ports.{Inputs, Outputs, Takes, Puts, PutsPart, IsPrefix, for_leaf}
+use Rattle.pdh_edge.specs.Progress.{Works, port_faults}
+use Rattle.pdh_edge.specs.declared.port.Feed as feed
+use Rattle.pdh_edge.specs.declared.port.Drain as drain
 use Rattle.pdh_edge.specs.declared.port.FeedStop.{FeedStop}
 use Rattle.pdh_edge.specs.declared.port.FeedStop.TheVariants.{Failed as FeedFailed, Ended as FeedEnded}
 use Rattle.pdh_script.specs.declared.stop.ApplyStop.{ApplyStop}
@@ -76,3 +79,18 @@ apply_writes (Err stop) faults = writes_at_stop stop faults
 abbrev pub feed_stop : FeedStop → ApplyStop
 feed_stop FeedFailed = ReadFailed
 feed_stop FeedEnded = Ended
+
+-- both counts
+abbrev pub counted_at : ApplyStop → ℕ × ℕ → ℕ × ℕ
+counted_at stop faults = (reads_at_stop stop faults.0, writes_at_stop stop faults.1)
+
+-- calls of a port, which may change so much of it, did this with its lists, or this is why not all of so many bits passed
+abbrev pub PassesSo : {P T : Type 0} → feed.Ghosts P → drain.Ghosts P → (P → P → Type 0) → (Inputs → Inputs → Outputs → Outputs → Type 0) → (List Bool → List Bool) → ℕ → P → P → Result T ApplyStop → Type 0
+PassesSo feeds drains keeps Whole becomes bits =
+    Works keeps (port_faults feeds drains) counted_at (λ old new. Whole (feeds.inputs old) (feeds.inputs new) (drains.outputs old) (drains.outputs new))
+    (λ stop old new. IsPassStop becomes bits (feeds.inputs old) (feeds.inputs new) (drains.outputs old) (drains.outputs new)
+    (feeds.feed_faults old) (feeds.feed_faults new) (drains.drain_faults old) (drains.drain_faults new) stop)
+
+-- they passed all of them on, or this is why they didn't
+abbrev pub PassesBy : {P T : Type 0} → feed.Ghosts P → drain.Ghosts P → (P → P → Type 0) → (List Bool → List Bool) → ℕ → P → P → Result T ApplyStop → Type 0
+PassesBy feeds drains keeps becomes bits = PassesSo feeds drains keeps (Passes becomes bits) becomes bits

@@ -1,10 +1,10 @@
 //! Passing bits of a port's list 0 on to its list 0, as they are or altered.
 
-ghost use Rattle.std.specs.Prelude.{◌≡◌, ◌<◌, ◌≤◌, length, OnOk, IfErr, IsTrue};
+ghost use Rattle.std.specs.Prelude.{◌≡◌, ◌<◌, ◌≤◌, length, IsTrue};
 ghost use Rattle.pdh_bits.specs.Bits.{bits_of};
-ghost use Rattle.pdh_script.specs.Scripts.{altered, bits_changed, FitIn};
+ghost use Rattle.pdh_script.specs.Scripts.{altered, bits_changed, disturbed, FitIn};
 ghost use Rattle.pdh_script.specs.Stored.{becomes, change_in, count_added, rows_in, steps_add};
-ghost use Rattle.pdh_script.specs.Applying.{Passes, IsPassStop, Applies, IsApplyStop, apply_reads, apply_writes};
+ghost use Rattle.pdh_script.specs.Applying.{PassesBy};
 
 use crate::step::{Edit, Effect, Step};
 use crate::stop::ApplyStop;
@@ -46,15 +46,7 @@ fn pass<P: Port>(
     requires line { IsTrue ((P.inputs port.old).holds 0) }
     requires out { IsTrue ((P.outputs port.old).holds 0) }
     ensures capacity { buffer.new.capacity ≡ buffer.old.capacity }
-    ensures kept { P.kept port.old port.new }
-    ensures reads { P.feed_faults port.new ≡ apply_reads result (P.feed_faults port.old) }
-    ensures writes { P.drain_faults port.new ≡ apply_writes result (P.drain_faults port.old) }
-    ensures ok { OnOk result (Passes (becomes effect) bits
-        (P.inputs port.old) (P.inputs port.new) (P.outputs port.old) (P.outputs port.new)) }
-    ensures err { IfErr result (IsPassStop (becomes effect) bits
-        (P.inputs port.old) (P.inputs port.new) (P.outputs port.old) (P.outputs port.new)
-        (P.feed_faults port.old) (P.feed_faults port.new)
-        (P.drain_faults port.old) (P.drain_faults port.new)) }
+    ensures passed { PassesBy P.Feed P.Drain P.kept (becomes effect) bits port.old port.new result }
 {
     let mut passed = 0;
     while passed < bits {
@@ -73,15 +65,7 @@ fn put_bytes<P: Port>(bytes: &[u8], buffer: &mut Packed, port: &mut P) -> Result
     requires room { 8 ≤ buffer.old.capacity }
     requires out { IsTrue ((P.outputs port.old).holds 0) }
     ensures capacity { buffer.new.capacity ≡ buffer.old.capacity }
-    ensures kept { P.kept port.old port.new }
-    ensures reads { P.feed_faults port.new ≡ apply_reads result (P.feed_faults port.old) }
-    ensures writes { P.drain_faults port.new ≡ apply_writes result (P.drain_faults port.old) }
-    ensures ok { OnOk result (Passes (λ line. bits_of bytes.now) 0
-        (P.inputs port.old) (P.inputs port.new) (P.outputs port.old) (P.outputs port.new)) }
-    ensures err { IfErr result (IsPassStop (λ line. bits_of bytes.now) 0
-        (P.inputs port.old) (P.inputs port.new) (P.outputs port.old) (P.outputs port.new)
-        (P.feed_faults port.old) (P.feed_faults port.new)
-        (P.drain_faults port.old) (P.drain_faults port.new)) }
+    ensures passed { PassesBy P.Feed P.Drain P.kept (λ line. bits_of bytes.now) 0 port.old port.new result }
 {
     let most = buffer.capacity() / 8;
     let mut done = 0;
@@ -107,15 +91,8 @@ fn make_change<P: Port>(
     requires line { IsTrue ((P.inputs port.old).holds 0) }
     requires out { IsTrue ((P.outputs port.old).holds 0) }
     ensures capacity { buffer.new.capacity ≡ buffer.old.capacity }
-    ensures kept { P.kept port.old port.new }
-    ensures reads { P.feed_faults port.new ≡ apply_reads result (P.feed_faults port.old) }
-    ensures writes { P.drain_faults port.new ≡ apply_writes result (P.drain_faults port.old) }
-    ensures ok { let change = change_in edit added.now in OnOk result (Passes (altered change) (bits_changed change)
-        (P.inputs port.old) (P.inputs port.new) (P.outputs port.old) (P.outputs port.new)) }
-    ensures err { let change = change_in edit added.now in IfErr result (IsPassStop (altered change) (bits_changed change)
-        (P.inputs port.old) (P.inputs port.new) (P.outputs port.old) (P.outputs port.new)
-        (P.feed_faults port.old) (P.feed_faults port.new)
-        (P.drain_faults port.old) (P.drain_faults port.new)) }
+    ensures passed { let change = change_in edit added.now in PassesBy P.Feed P.Drain P.kept
+        (altered change) (bits_changed change) port.old port.new result }
 {
     match edit {
         Edit::Alter { effect, bits } => pass(u64::from(bits), Some(effect), buffer, port),
@@ -136,15 +113,8 @@ pub fn disturb<P: Port>(
     requires room { 8 ≤ buffer.old.capacity }
     requires line { IsTrue ((P.inputs port.old).holds 0) }
     requires out { IsTrue ((P.outputs port.old).holds 0) }
-    ensures kept { P.kept port.old port.new }
-    ensures reads { P.feed_faults port.new ≡ apply_reads result (P.feed_faults port.old) }
-    ensures writes { P.drain_faults port.new ≡ apply_writes result (P.drain_faults port.old) }
-    ensures ok { OnOk result (Applies (rows_in steps.now bytes.now) bits
-        (P.inputs port.old) (P.inputs port.new) (P.outputs port.old) (P.outputs port.new)) }
-    ensures err { IfErr result (IsApplyStop (rows_in steps.now bytes.now) bits
-        (P.inputs port.old) (P.inputs port.new) (P.outputs port.old) (P.outputs port.new)
-        (P.feed_faults port.old) (P.feed_faults port.new)
-        (P.drain_faults port.old) (P.drain_faults port.new)) }
+    ensures { PassesBy P.Feed P.Drain P.kept (λ line. disturbed line (rows_in steps.now bytes.now)) bits
+        port.old port.new result }
 {
     let mut place = 0;
     let mut added = bytes;

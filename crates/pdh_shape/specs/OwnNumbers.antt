@@ -4,23 +4,27 @@ use Rattle.std.specs.Prelude.{ℕ}
 
 -- how many bits of each tributary are taken into its store before slot 0 of frame 0
 abbrev pub lead : ℕ
-lead = 24
+lead = 48
 
 -- the fill of a store at a frame's start from which the frame carries an additional bit
 abbrev pub threshold : ℕ
-threshold = 24
+threshold = 48
 
 -- how many bits a store holds at most
 abbrev pub store_size : ℕ
-store_size = 48
+store_size = 96
 
 -- by how many bits the arrivals of a run of frames may pass what the run carries at least and at most
 abbrev pub allowance : ℕ
-allowance = 8
+allowance = 18
 
 -- the most frames of a line, or of the top of a made schedule
 abbrev pub most_frames : ℕ
-most_frames = 16384
+most_frames = 131072
+
+-- the most frames of a drill, so that its line fits memory
+abbrev pub most_drilled : ℕ
+most_drilled = 16384
 
 -- the most bytes of a schedule's text
 abbrev pub most_bytes : ℕ

@@ -8,7 +8,9 @@ mod place;
 mod role;
 mod shape;
 
-pub use own_numbers::{ALLOWANCE, LEAD, MOST_BYTES, MOST_FRAMES, STORE_SIZE, THRESHOLD};
+pub use own_numbers::{
+    ALLOWANCE, LEAD, MOST_BYTES, MOST_DRILLED, MOST_FRAMES, STORE_SIZE, THRESHOLD,
+};
 pub use place::{Level, Path, Place, TOP};
 pub use role::{Duty, Mark, Marks, Role, Service};
 pub use shape::{Shape, majority};

@@ -8,7 +8,7 @@ ghost use Rattle.pdh_shape.specs.Tributary.{is_majority, HasTributaries, ReadsEv
 use crate::{Duty, Mark, Marks, Role, Service};
 
 /// The shape of a multiplexer's frame. Slots, tributaries, copies and numbers are counted from 0.
-pub trait Shape {
+pub trait Shape: Drop {
     /// The shape as a value, which definitions take.
     ghost shape: { FrameShape };
 

@@ -1,9 +1,7 @@
 -- Bits of a line that are taken, one piece after another.
-use Rattle.std.proofs.Common.{◌≡◌, ℕ, ◌+◌, ◌*◌, Bool, List, ◌++◌, length, sym, ap, ◌∙◌, subst, arith, Result, Ok, Err, OnOk}
+use Rattle.std.proofs.Common.{◌≡◌, ℕ, ◌+◌, ◌*◌, Bool, List, ◌++◌, length, sym, ap, ◌∙◌, arith, Result, Ok, Err, OnOk}
 use Rattle.std.proofs.lemmas.List.{length-append, length-drop, drop_at}
 use Rattle.std.proofs.Math.Nat.{suc-mul}
-use Rattle.pdh_bits.specs.BitOut.{BoundedBits}
-use Rattle.pdh_packed.specs.Gaining.{gained, IsGrown}
 use Rattle.pdh_edge.specs.Ports.{Inputs, Takes, for_leaf}
 use Rattle.pdh_show.specs.Showing.{TakesSome, TakesFrame}
 use Rattle.pdh_chain.proofs.Lists.{takes_line}
@@ -29,11 +27,6 @@ then_frame len number frame x y z before takes whole =
 -- a frame that was taken has its length
 pub frame_len : (len number : ℕ) (frame : List Bool) (x y : Inputs) → TakesFrame len number frame x y → length frame ≡ len
 frame_len len number frame x y takes = ap length takes.frame_is ∙ omega (arith, length-drop (number * len) takes.given, takes.count, suc-mul number len)
-
--- the bits that a list has, of which it gained some
-pub takes_grown : (old new : BoundedBits) (count : ℕ) (x y z : Inputs) → Takes (for_leaf 0 old.bits) x y → IsGrown old new count → Takes (for_leaf 0 (gained old new)) y z → Takes (for_leaf 0 new.bits) x z
-takes_grown old new count x y z before grown takes =
-    subst (λ (bits : List Bool). Takes (for_leaf 0 bits) x z) (sym grown.bits) (takes_line old.bits (gained old new) x y z before takes)
 
 -- what follows of two facts of a call that succeeded
 pub on_ok_both : {T E P Q R : Type 0} (r : Result T E) → OnOk r P → OnOk r Q → (P → Q → R) → OnOk r R

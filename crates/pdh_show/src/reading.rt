@@ -4,7 +4,7 @@ ghost use Rattle.std.specs.Prelude.{◌≡◌, ◌<◌, ◌≤◌, ◌*◌, ◌^
 ghost use Rattle.pdh_edge.specs.Ports.{Takes, HasCause, for_leaf};
 ghost use Rattle.pdh_show.specs.Showing.{TakesSome, TakesFrame};
 
-use pdh_edge::{Failed, Feed, FeedStop};
+use pdh_edge::{Failed, Feed, take_bits};
 use pdh_packed::Packed;
 
 // Takes so many bits and lets go of them; `held` has those that were taken last.
@@ -21,11 +21,8 @@ fn pass_over<F: Feed>(bits: u64, held: &mut Packed, feed: &mut F) -> Result<(), 
     while passed < bits {
         held.clear();
         let most = (bits - passed).min(held.capacity() as u64) as usize;
-        match feed.bits(0, most, held) {
-            Ok(count) => passed += count as u64,
-            Err(FeedStop::Failed) => return Err(Failed),
-            Err(FeedStop::Ended) => unreachable!(),
-        }
+        take_bits(feed, 0, most, held)?;
+        passed += most as u64;
     }
     Ok(())
 }
@@ -40,15 +37,7 @@ fn take_whole<F: Feed>(held: &mut Packed, feed: &mut F) -> Result<(), Failed>
     ensures full { OnOk result (length held.new.bits ≡ held.old.capacity) }
 {
     held.clear();
-    let mut taken = 0;
-    while taken < held.capacity() {
-        match feed.bits(0, held.capacity() - taken, held) {
-            Ok(count) => taken += count,
-            Err(FeedStop::Failed) => return Err(Failed),
-            Err(FeedStop::Ended) => unreachable!(),
-        }
-    }
-    Ok(())
+    take_bits(feed, 0, held.capacity(), held)
 }
 
 /// Takes the frames up to one of this number, whose bits `held` has then. A frame has as many bits as

@@ -1,15 +1,15 @@
 //! An elastic store, and its decision on justification.
 
-ghost use Rattle.std.specs.Prelude.{◌≡◌, ◌<◌, ◌≤◌, ◌+◌, ◌↔◌, [], ◌∷◌, ◌++◌, length, nat_le, IsErr, IfOk, OnOk, OnErr};
+ghost use Rattle.std.specs.Prelude.{◌≡◌, ◌<◌, ◌≤◌, ◌+◌, ◌↔◌, [], ◌∷◌, ◌++◌, length, take, drop, nat_le, IsErr, IfOk, OnOk, OnErr};
 ghost use Rattle.pdh_shape.specs.OwnNumbers.{threshold, store_size};
 
-use pdh_packed::{BitRing, Word};
+use pdh_packed::{BitRing, Packed};
 use pdh_shape::{STORE_SIZE, THRESHOLD};
 use std::alloc::{AllocError, Global};
 use std::marker::Model;
 
-// The bits that a store's ring has room for, the fewest that there may be.
-const RING_SIZE: u32 = 64;
+// The bits that a store's ring has room for: whole words, no fewer than a store may hold.
+const RING_SIZE: u32 = 128;
 
 /// The refusal of a store that holds as many bits as it may.
 #[derive(Clone, Copy, Debug, PartialEq, Eq)]
@@ -36,7 +36,7 @@ impl Model for Store {
 
     ghost view = { λ s. s.ring.bits };
 
-    ghost invariant = { λ s. (s.ring.capacity ≡ 64) × (length s.ring.bits ≤ store_size) };
+    ghost invariant = { λ s. (s.ring.capacity ≡ 128) × (length s.ring.bits ≤ store_size) };
 }
 
 impl Store {
@@ -77,24 +77,25 @@ impl Store {
         Ok(oldest)
     }
 
-    /// Takes out all bits.
-    pub fn take_all(&mut self) -> Word
-        ensures taken { result ≡ self.old }
-        ensures few { length result ≤ store_size }
+    /// Takes out all bits and appends them to a list, which has room for them.
+    pub fn move_to(&mut self, list: &mut Packed)
+        requires room { length list.old.bits + store_size ≤ list.old.capacity }
+        ensures moved { list.new ≡ record list.old { bits = list.old.bits ++ self.old } }
+        ensures few { length self.old ≤ store_size }
         ensures empty { self.new ≡ [] }
     {
         let fill = self.fill();
-        let bits = self.ring.read(0, fill);
-        self.ring.drop_oldest(fill);
-        bits
+        self.ring.append_to(0, fill, list);
+        self.ring.clear();
     }
 
-    /// Appends bits, which the store has room for.
-    pub fn put_all(&mut self, bits: Word)
-        requires room { length self.old + length bits ≤ store_size }
-        ensures { self.new ≡ self.old ++ bits }
+    /// Appends bits of a list, so many from a place on, which the store has room for.
+    pub fn put_from(&mut self, list: &Packed, place: usize, count: usize)
+        requires within { place + count ≤ length list.now.bits }
+        requires room { length self.old + count ≤ store_size }
+        ensures { self.new ≡ self.old ++ take count (drop place list.now.bits) }
     {
-        self.ring.push_word(bits);
+        self.ring.append_from(list, place, count);
     }
 
     /// How many bits are held, from 0 to [`STORE_SIZE`].

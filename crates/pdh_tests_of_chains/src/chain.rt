@@ -3,6 +3,7 @@
 ghost use Rattle.std.specs.Prelude.{◌≡◌, length, IfOk};
 ghost use Rattle.pdh_chain.specs.Chains.{leaves_of};
 
+use crate::ports::port_of_line;
 use pdh_chain::{Chain, DemuxStop, MuxStop, demux, leaves, mux};
 use pdh_clock::Schedule;
 use pdh_edge::MemPort;
@@ -58,55 +59,55 @@ fn event(over: bool, trib: u8, frame: u64, slot: u32) -> Result<(), MuxStop> {
     })
 }
 
-// A leaf gives 24 bits before the first frame, and then the counts of the frames.
+// A leaf gives 48 bits before the first frame, and then the counts of the frames.
 #[test]
 fn ends_and_lengths(rt: HostRuntime) -> Result<(), Fail> {
     let two: &[u8] = b"/ 2 205 205 205 205\n";
     let over: &[u8] = b"/ 1 206 206 206 206\n/ 1 848 848 848 848\n";
     let under: &[u8] = b"/ 1 0 206 206 206\n";
     let cases = [
-        (Chain::E12, two, [434; 4], Ok(()), 1_696),
+        (Chain::E12, two, [458; 4], Ok(()), 1_696),
         (
             Chain::E12,
             two,
-            [434, 434, 433, 434],
+            [458, 458, 457, 458],
             Err(MuxStop::Ended { leaf: 2 }),
             848,
         ),
         (
             Chain::E12,
             two,
-            [434, 23, 0, 434],
+            [458, 47, 0, 458],
             Err(MuxStop::Ended { leaf: 1 }),
             0,
         ),
-        (Chain::E12, over, [1_078; 4], event(true, 4, 1, 27), 848),
-        (Chain::E12, under, [230; 4], event(false, 1, 0, 108), 0),
+        (Chain::E12, over, [1_102; 4], event(true, 4, 1, 59), 848),
+        (Chain::E12, under, [254; 4], event(false, 1, 0, 204), 0),
         (
             Chain::M12,
             b"/ 1 288 288 288 288\n",
-            [312; 4],
+            [336; 4],
             Ok(()),
             1_176,
         ),
         (
             Chain::E23,
             b"/ 1 378 378 378 378\n",
-            [402; 4],
+            [426; 4],
             Ok(()),
             1_536,
         ),
         (
             Chain::E34,
             b"/ 1 723 723 723 723\n",
-            [747; 4],
+            [771; 4],
             Ok(()),
             2_928,
         ),
         (
             Chain::E34,
             b"/ 1 722 722 722 722\n",
-            [745; 4],
+            [769; 4],
             Err(MuxStop::Ended { leaf: 0 }),
             0,
         ),
@@ -127,15 +128,9 @@ fn run_demux(
     zeros: usize,
     bits: u32,
 ) -> Result<(Result<u64, DemuxStop>, usize), Fail> {
-    let mut lists = Vec::new(alloc);
-    lists.push(no_ones(alloc, zeros)?)?;
-    let count = leaves(chain);
-    let mut port = MemPort::open(alloc, lists, count)?;
-    for leaf in 0..count {
-        port.room(leaf, zeros / count as usize + 1)?;
-    }
+    let mut port = port_of_line(alloc, no_ones(alloc, zeros)?, chain)?;
     let end = demux(alloc, chain, u64::from(bits), &mut port, &mut Quiet);
-    Ok((end, port.output(count - 1).len()))
+    Ok((end, port.output(leaves(chain) - 1).len()))
 }
 
 // No position of a line of zeros is confirmed, and each whole frame's length of positions gives ones. Nor is one of a line of
@@ -216,16 +211,10 @@ fn demuxed<W: Watch>(
     watch: &mut W,
 ) -> Result<(Result<u64, DemuxStop>, Vec<bool>), Fail> {
     let bits = line.len();
-    let mut lists = Vec::new(alloc);
-    lists.push(Packed::of_bits(alloc, &line)?)?;
-    let count = leaves(chain);
-    let mut port = MemPort::open(alloc, lists, count)?;
-    for leaf in 0..count {
-        port.room(leaf, bits)?;
-    }
+    let mut port = port_of_line(alloc, Packed::of_bits(alloc, &line)?, chain)?;
     let end = demux(alloc, chain, bits as u64, &mut port, watch);
     let mut got = Vec::new(alloc);
-    for leaf in 0..count {
+    for leaf in 0..leaves(chain) {
         got.extend_from_slice(&port.output(leaf).to_bits(alloc)?)?;
     }
     Ok((end, got))

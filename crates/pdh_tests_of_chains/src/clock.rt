@@ -4,7 +4,7 @@ ghost use Rattle.std.specs.Prelude.{◌<◌};
 
 use pdh_chain::{DS2_LOCKED_LEVEL, DS3_LOCKED_LEVEL, E2_LEVEL, E3_LEVEL, E4_LEVEL};
 use pdh_clock::{Bias, Outside, Schedule, ScheduleFault, Short};
-use pdh_shape::{Level, MOST_BYTES, Path, TOP};
+use pdh_shape::{LEAD, Level, MOST_BYTES, Path, TOP};
 use std::alloc::Global;
 use std::process::Abort;
 use std::test::Fail;
@@ -244,28 +244,28 @@ fn assert_row(rt: &impl Abort, alloc: Global, row: (&str, u8, Result<(), Outside
     assert_eq!(rt; answer, Ok(expected), "at {text}, {trib}");
 }
 
-// A run of k frames may bring from 205 k - 8 to 206 k + 8 bits.
+// A run of k frames may bring from 205 k - 18 to 206 k + 18 bits.
 #[test]
 fn finds_the_first_run_outside(rt: HostRuntime) {
     let rows = [
         ("", 0, Ok(())),
-        ("/ 1 214 206 206 206\n/ 9 206 206 206 206", 0, Ok(())),
-        ("/ 1 214 206 206 206\n/ 9 206 206 206 206", 1, Ok(())),
-        ("/ 1 214 206 206 206\n/ 9 206 206 206 206", 2, Ok(())),
-        ("/ 1 214 206 206 206\n/ 9 206 206 206 206", 3, Ok(())),
+        ("/ 1 224 206 206 206\n/ 9 206 206 206 206", 0, Ok(())),
+        ("/ 1 224 206 206 206\n/ 9 206 206 206 206", 1, Ok(())),
+        ("/ 1 224 206 206 206\n/ 9 206 206 206 206", 2, Ok(())),
+        ("/ 1 224 206 206 206\n/ 9 206 206 206 206", 3, Ok(())),
         (
-            "/ 1 215 206 206 206\n/ 9 206 206 206 206",
+            "/ 1 225 206 206 206\n/ 9 206 206 206 206",
             0,
-            outside(0, 1, 215),
+            outside(0, 1, 225),
         ),
-        ("/ 1 215 206 206 206\n/ 9 206 206 206 206", 1, Ok(())),
-        // Each frame lacks one bit, so 8 frames are inside, and 9 aren't.
-        ("/ 8 204 206 206 206", 0, Ok(())),
-        ("/ 9 204 206 206 206", 0, outside(0, 9, 1_836)),
-        ("/ 9 206 206 206 204", 3, outside(0, 9, 1_836)),
+        ("/ 1 225 206 206 206\n/ 9 206 206 206 206", 1, Ok(())),
+        // Each frame lacks one bit, so 18 frames are inside, and 19 aren't.
+        ("/ 18 204 206 206 206", 0, Ok(())),
+        ("/ 19 204 206 206 206", 0, outside(0, 19, 3_876)),
+        ("/ 19 206 206 206 204", 3, outside(0, 19, 3_876)),
         // And with one bit too many in each.
-        ("/ 8 207 206 206 206", 0, Ok(())),
-        ("/ 999999999 207 206 206 206", 0, outside(0, 9, 1_863)),
+        ("/ 18 207 206 206 206", 0, Ok(())),
+        ("/ 999999999 207 206 206 206", 0, outside(0, 19, 3_933)),
     ];
     for row in rows {
         assert_row(&rt, rt.alloc(), row);
@@ -277,26 +277,26 @@ fn finds_where_the_first_run_outside_begins(rt: HostRuntime) {
     let rows = [
         // Frames of 206 bits leave what is above 206 as it is, so the first run begins with the first of them.
         (
-            "/ 100 206 206 206 206\n/ 1 215 206 206 206",
+            "/ 100 206 206 206 206\n/ 1 225 206 206 206",
             0,
-            outside(0, 101, 20_815),
+            outside(0, 101, 20_825),
         ),
         // Each frame of 205 bits takes one away from what is above 206.
         (
-            "/ 100 205 206 206 206\n/ 1 216 206 206 206",
+            "/ 100 205 206 206 206\n/ 1 226 206 206 206",
             0,
-            outside(99, 101, 421),
+            outside(99, 101, 431),
         ),
         // Each frame of 206 bits takes one away from what is below 205.
         (
             "/ 1000 206 206 206 206\n/ 50 203 206 206 206",
             0,
-            outside(999, 1_005, 1_221),
+            outside(999, 1_010, 2_236),
         ),
         (
             "/ 1000 205 206 206 206\n/ 50 203 206 206 206",
             0,
-            outside(0, 1_005, 206_015),
+            outside(0, 1_010, 207_030),
         ),
     ];
     for row in rows {
@@ -308,27 +308,27 @@ fn finds_where_the_first_run_outside_begins(rt: HostRuntime) {
 fn finds_a_run_over_several_rows(rt: HostRuntime) {
     let rows = [
         (
-            "/ 4 207 206 206 206\n/ 4 206 206 206 206\n/ 5 207 206 206 206",
+            "/ 9 207 206 206 206\n/ 4 206 206 206 206\n/ 10 207 206 206 206",
             0,
-            outside(0, 13, 2_687),
+            outside(0, 23, 4_757),
         ),
         (
-            "/ 4 207 206 206 206\n/ 4 205 206 206 206\n/ 8 207 206 206 206",
+            "/ 4 207 206 206 206\n/ 4 205 206 206 206\n/ 18 207 206 206 206",
             0,
             Ok(()),
         ),
         (
-            "/ 4 207 206 206 206\n/ 4 205 206 206 206\n/ 9 207 206 206 206",
+            "/ 4 207 206 206 206\n/ 4 205 206 206 206\n/ 19 207 206 206 206",
             0,
-            outside(0, 17, 3_511),
+            outside(0, 27, 5_581),
         ),
         // First too many bits or too few, and too many after a few that lack, but not enough to be outside.
         ("/ 1 300 0 0 0\n/ 1 0 400 400 400", 0, outside(0, 1, 300)),
         ("/ 1 300 0 0 0\n/ 1 0 400 400 400", 1, outside(0, 1, 0)),
         (
-            "/ 5 204 206 206 206\n/ 1 215 206 206 206",
+            "/ 5 204 206 206 206\n/ 1 225 206 206 206",
             0,
-            outside(5, 6, 215),
+            outside(5, 6, 225),
         ),
     ];
     for row in rows {
@@ -345,14 +345,14 @@ fn finds_a_run_in_long_rows(rt: HostRuntime) {
             Ok(()),
         ),
         (
-            "/ 999999999 206 206 206 206\n/ 1 215 206 206 206",
+            "/ 999999999 206 206 206 206\n/ 1 225 206 206 206",
             0,
-            outside(0, 1_000_000_000, 206_000_000_009),
+            outside(0, 1_000_000_000, 206_000_000_019),
         ),
         (
-            "/ 999999999 205 206 206 206\n/ 1 216 206 206 206",
+            "/ 999999999 205 206 206 206\n/ 1 226 206 206 206",
             0,
-            outside(999_999_998, 1_000_000_000, 421),
+            outside(999_999_998, 1_000_000_000, 431),
         ),
     ];
     for row in rows {
@@ -387,7 +387,7 @@ fn reads_two_levels(rt: HostRuntime) -> Result<(), Fail> {
         Some(Short { node, have, need })
     };
     let rows: [(&str, u64, &str, Option<Short>); 4] = [
-        // Three frames of 377 bits and the lead of 24 are 1155 bits: one frame of 848 and a part of another.
+        // Three frames of 377 bits and the lead of 48 are 1179 bits: one frame of 848 and a part of another.
         (
             "/ 3 377 377 377 377",
             3,
@@ -455,7 +455,7 @@ fn makes_three_levels(rt: HostRuntime) -> Result<(), Fail> {
     assert_eq!(rt; schedule.frames(&TOP), 200);
     assert!(rt; 200 <= schedule.frames(&TOP));
     assert!(rt; schedule.short(200).is_none());
-    let bits = 24 + u128::from(schedule.total(&TOP, 200, 0));
+    let bits = u128::from(LEAD) + u128::from(schedule.total(&TOP, 200, 0));
     assert_eq!(rt; u128::from(schedule.frames(&FIRST)), bits.div_ceil(1_536));
     let text = schedule.text(rt.alloc())?;
     let again = Schedule::read(rt.alloc(), &levels, &text)?;
@@ -567,7 +567,7 @@ fn enters_bits_below_a_top_without_stores(rt: HostRuntime) -> Result<(), Fail> {
     assert!(rt; 17 <= schedule.frames(&TOP));
     assert!(rt; schedule.short(17).is_none());
     assert_eq!(rt; schedule.begun(&FIRST, 17), 10);
-    for (leaf, bits) in [(0, 2_904), (3, 2_904), (26, 2_904), (27, 2_894)] {
+    for (leaf, bits) in [(0, 2_928), (3, 2_928), (26, 2_928), (27, 2_918)] {
         assert!(rt; leaf < 28);
         assert_eq!(rt; schedule.entered(leaf, 17), bits, "at {leaf}");
     }

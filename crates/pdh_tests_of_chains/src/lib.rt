@@ -13,6 +13,8 @@ mod inspect;
 #[cfg(test)]
 mod lab;
 #[cfg(test)]
+mod ports;
+#[cfg(test)]
 mod recovery;
 #[cfg(test)]
 mod script;

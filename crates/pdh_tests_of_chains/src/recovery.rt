@@ -4,6 +4,7 @@ ghost use Rattle.std.specs.Prelude.{◌≡◌, length, IfOk};
 ghost use Rattle.pdh_chain.specs.Chains.{leaves_of};
 
 use crate::chain_sending::sent;
+use crate::ports::port_of_line;
 use pdh_chain::{Chain, demux, leaves};
 use pdh_clock::{Bias, Schedule};
 use pdh_edge::MemPort;
@@ -48,18 +49,12 @@ fn bent(alloc: Global, line: &[bool], text: &str) -> Result<Vec<bool>, Fail> {
 // What each leaf receives of a line.
 fn received(alloc: Global, chain: Chain, line: &[bool]) -> Result<Vec<Vec<bool>>, Fail> {
     let bits = line.len();
-    let mut lists = Vec::new(alloc);
-    lists.push(Packed::of_bits(alloc, line)?)?;
-    let count = leaves(chain);
-    let mut port = MemPort::open(alloc, lists, count)?;
-    for leaf in 0..count {
-        port.room(leaf, bits)?;
-    }
+    let mut port = port_of_line(alloc, Packed::of_bits(alloc, line)?, chain)?;
     if demux(alloc, chain, bits as u64, &mut port, &mut Quiet).is_err() {
         return Err(Fail::new("demux stopped"));
     }
     let mut got = Vec::new(alloc);
-    for leaf in 0..count {
+    for leaf in 0..leaves(chain) {
         got.push(port.output(leaf).to_bits(alloc)?)?;
     }
     Ok(got)

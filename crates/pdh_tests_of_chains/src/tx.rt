@@ -55,10 +55,10 @@ fn zeros(alloc: Global) -> Result<MemPort, AllocError>
         → IsTrue ((⟦<MemPort as Feed>⟧.inputs feed).holds k)) }
 {
     let mut lists = Vec::new(alloc);
-    lists.push(zero_bits(alloc, 229)?)?;
-    lists.push(zero_bits(alloc, 229)?)?;
-    lists.push(zero_bits(alloc, 229)?)?;
-    lists.push(zero_bits(alloc, 229)?)?;
+    lists.push(zero_bits(alloc, 253)?)?;
+    lists.push(zero_bits(alloc, 253)?)?;
+    lists.push(zero_bits(alloc, 253)?)?;
+    lists.push(zero_bits(alloc, 253)?)?;
     MemPort::open(alloc, lists, 0)
 }
 
@@ -100,6 +100,6 @@ fn frame_of_zeros(rt: HostRuntime) -> Result<(), Fail> {
     }
     assert_eq!(rt; stop, Some(TxStop::NoFrame { node: TOP }));
     assert!(rt; node.stopped());
-    assert_eq!(rt; node.fill(0), 23);
+    assert_eq!(rt; node.fill(0), 47);
     Ok(())
 }

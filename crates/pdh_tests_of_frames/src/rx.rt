@@ -1,9 +1,9 @@
 //! Worked lines: what the leaves of a demultiplexer get, and its events.
 
-ghost use Rattle.std.specs.Prelude.{◌≡◌, ◌<◌, ℕ, IsTrue, Bool, List, [], map, IfOk};
+ghost use Rattle.std.specs.Prelude.{◌≡◌, Bool, List, [], map, IfOk};
 ghost use Rattle.pdh_eframes.specs.Plans.{e2};
 ghost use Rattle.pdh_rx.specs.Meaning.{HoldsAll};
-ghost use Rattle.pdh_tests_of_frames.specs.FourTails.{four_tails};
+ghost use Rattle.pdh_tests_of_frames.specs.FourTails.{four_tails, HoldsFour};
 ghost use Rattle.pdh_rx.specs.Node.{node_meaning};
 
 use pdh_edge::{Drain, Failed, MemPort};
@@ -32,6 +32,17 @@ fn node(alloc: Global) -> Result<RxNode<E2, Tail>, AllocError>
 {
     let layout = Rc::new(alloc, Layout::open(alloc)?)?;
     RxNode::open(alloc, TOP, layout, tails(alloc)?)
+}
+
+// A port of the lists 0 to 3, each with room for so many bits.
+fn port_with_rooms(alloc: Global, rooms: [usize; 4]) -> Result<MemPort, AllocError>
+    ensures { IfOk result (λ port. HoldsFour (⟦<MemPort as Drain>⟧.outputs port)) }
+{
+    let mut port = MemPort::open(alloc, Vec::new(alloc), 4)?;
+    for leaf in 0..4 {
+        port.room(leaf, rooms[leaf as usize])?;
+    }
+    Ok(port)
 }
 
 // Adds so many bits of one value.
@@ -115,7 +126,7 @@ fn are_packed(bits: &[bool], packed: &Packed) -> bool {
 
 // Whether each of the leaves 0 to 3 got these bits.
 fn each_got(port: &MemPort, bits: &[bool]) -> bool
-    requires { (k : ℕ) → k < 4 → IsTrue ((⟦<MemPort as Drain>⟧.outputs port.now).holds k) }
+    requires { HoldsFour (⟦<MemPort as Drain>⟧.outputs port.now) }
 {
     for leaf in 0..4 {
         if !are_packed(bits, port.output(leaf)) {
@@ -128,10 +139,7 @@ fn each_got(port: &MemPort, bits: &[bool]) -> bool
 // Whether each leaf gets these bits of a line, and how many frames are delivered.
 fn run(alloc: Global, line: &[bool], bits: &[bool]) -> Result<(bool, u64), Fail> {
     let mut node = node(alloc)?;
-    let mut port = MemPort::open(alloc, Vec::new(alloc), 4)?;
-    for leaf in 0..4 {
-        port.room(leaf, line.len())?;
-    }
+    let mut port = port_with_rooms(alloc, [line.len(); 4])?;
     receive(&mut node, line, &mut port, &mut Quiet)?;
     Ok((each_got(&port, bits), node.frames()))
 }
@@ -139,10 +147,7 @@ fn run(alloc: Global, line: &[bool], bits: &[bool]) -> Result<(bool, u64), Fail>
 // The same where the node takes all bits of the line in one call.
 fn run_at_once(alloc: Global, line: &[bool], bits: &[bool]) -> Result<(bool, u64), Fail> {
     let mut node = node(alloc)?;
-    let mut port = MemPort::open(alloc, Vec::new(alloc), 4)?;
-    for leaf in 0..4 {
-        port.room(leaf, line.len())?;
-    }
+    let mut port = port_with_rooms(alloc, [line.len(); 4])?;
     let line = packed(alloc, line)?;
     take_watched(&mut node, &line, &mut port, &mut Quiet)?;
     Ok((each_got(&port, bits), node.frames()))
@@ -173,7 +178,7 @@ fn lines_and_leaves(rt: HostRuntime) -> Result<(), Fail> {
 
 // How many bits each of the leaves 0 to 3 has got.
 fn counts(port: &MemPort) -> [usize; 4]
-    requires { (k : ℕ) → k < 4 → IsTrue ((⟦<MemPort as Drain>⟧.outputs port.now).holds k) }
+    requires { HoldsFour (⟦<MemPort as Drain>⟧.outputs port.now) }
 {
     [
         port.output(0).len(),
@@ -190,10 +195,7 @@ fn run_in_room(
     rooms: [usize; 4],
 ) -> Result<([usize; 4], bool), Fail> {
     let mut node = node(alloc)?;
-    let mut port = MemPort::open(alloc, Vec::new(alloc), 4)?;
-    for leaf in 0..4 {
-        port.room(leaf, rooms[leaf as usize])?;
-    }
+    let mut port = port_with_rooms(alloc, rooms)?;
     let failed = receive(&mut node, line, &mut port, &mut Quiet).is_err();
     Ok((counts(&port), failed))
 }
@@ -205,10 +207,7 @@ fn run_in_room_at_once(
     rooms: [usize; 4],
 ) -> Result<([usize; 4], bool), Fail> {
     let mut node = node(alloc)?;
-    let mut port = MemPort::open(alloc, Vec::new(alloc), 4)?;
-    for leaf in 0..4 {
-        port.room(leaf, rooms[leaf as usize])?;
-    }
+    let mut port = port_with_rooms(alloc, rooms)?;
     let line = packed(alloc, line)?;
     let failed = take_watched(&mut node, &line, &mut port, &mut Quiet).is_err();
     Ok((counts(&port), failed))
@@ -254,10 +253,7 @@ impl Watch for Recorder {
 // The kinds and the bits of the first four events of a line.
 fn events_of(alloc: Global, line: &[bool]) -> Result<[Option<(Kind, u64)>; 4], Fail> {
     let mut node = node(alloc)?;
-    let mut port = MemPort::open(alloc, Vec::new(alloc), 4)?;
-    for leaf in 0..4 {
-        port.room(leaf, line.len())?;
-    }
+    let mut port = port_with_rooms(alloc, [line.len(); 4])?;
     let mut recorder = Recorder {
         seen: [None; 4],
         count: 0,

@@ -1,6 +1,7 @@
 //! A store filled and emptied, and the laws of stores for a frame of the standards.
 
 use pdh_eframes::E2;
+use pdh_shape::{STORE_SIZE, THRESHOLD};
 use pdh_store::{Overflow, Store, Underflow, laws};
 use std::test::Fail;
 
@@ -8,14 +9,14 @@ use std::test::Fail;
 fn bits_leave_in_the_order_of_their_arrival(rt: HostRuntime) -> Result<(), Fail> {
     let mut store = Store::open(rt.alloc())?;
     assert_eq!(rt; store.leave(), Err(Underflow));
-    for place in 0..48u32 {
+    for place in 0..STORE_SIZE as u32 {
         assert_eq!(rt; store.fill(), place);
-        assert_eq!(rt; store.carries_more(), place >= 24, "at {place}");
+        assert_eq!(rt; store.carries_more(), place >= THRESHOLD, "at {place}");
         assert_eq!(rt; store.arrive(place % 3 == 0), Ok(()), "at {place}");
     }
     assert_eq!(rt; store.arrive(true), Err(Overflow));
-    assert_eq!(rt; store.fill(), 48);
-    for place in 0..48u32 {
+    assert_eq!(rt; store.fill() as usize, STORE_SIZE);
+    for place in 0..STORE_SIZE as u32 {
         assert_eq!(rt; store.leave(), Ok(place % 3 == 0), "at {place}");
     }
     assert_eq!(rt; store.leave(), Err(Underflow));

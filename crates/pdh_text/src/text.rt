@@ -87,9 +87,11 @@ impl Text {
         let mut room = [0u8; 320];
         let digits = &mut room[..2 * bytes.len()];
         let Ok(()) = hex::encode_to_slice(bytes, digits) else {
+            // There are two bytes of room for each byte, as the call wants.
             unreachable!();
         };
         let Ok(digits) = str::from_utf8(digits) else {
+            // Hexadecimal digits are ASCII.
             unreachable!();
         };
         self.held.push_str(digits);

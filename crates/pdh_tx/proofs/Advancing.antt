@@ -159,19 +159,26 @@ flat_split f n m h =
     let e : m ≡ n + (m - n) = omega arith in
     ap (λ k. flat_map f (range_with_len 0 k)) e ∙ ap (flat_map f) (range_append 0 n (m - n)) ∙ flat_map-append f (range_with_len 0 n) (range_with_len (0 + n) (m - n))
 
-module _ {W : Type 0} (placed : W → Plan → ℕ → ℕ → Type 0) (held : W → Supply → ℕ → ℕ → Type 0) (meaning : W → Meaning) (plan : Plan) where
-  pub loop_step : (ms : List Meaning) (u v w : List W) (x y z read : ℕ → ℕ) (f : (ℕ → ℕ) → ℕ → List (Option TxStop)) (i : ℕ) (a b c : Inputs)
-      → Advance placed held ms plan u v x y read (λ size. flat_map (f size) (range_with_len 0 i)) a b → Advance placed held ms plan v w y z read (λ size. f size i) b c
-      → Advance placed held ms plan u w x z read (λ size. flat_map (f size) (range_with_len 0 (suc i))) a c
-  loop_step ms u v w x y z read f i a b c first second =
-      advance_steps placed held meaning plan ms u w x z read (λ size. flat_map (f size) (range_with_len 0 i) ++ f size i) (λ size. flat_map (f size) (range_with_len 0 (suc i))) a c (λ size. flat_push (f size) i)
-      (advance_join placed held meaning plan ms u v w x y z read (λ size. flat_map (f size) (range_with_len 0 i)) (λ size. f size i) a b c first second)
+-- A loop over the tributaries, which mean what they did at its start: `to i` tells how far each has come after i of them, and `f`
+-- what each may meet.
+module _ {W : Type 0} (placed : W → Plan → ℕ → ℕ → Type 0) (held : W → Supply → ℕ → ℕ → Type 0) (meaning : W → Meaning) (plan : Plan) (to : ℕ → ℕ → ℕ) (read : ℕ → ℕ) (f : List Meaning → (ℕ → ℕ) → ℕ → List (Option TxStop)) (ms now : List Meaning) (same : now ≡ ms) (u v : List W) (i : ℕ) (a b : Inputs) (first : Advance placed held ms plan u v (to 0) (to i) read (λ size. flat_map (f ms size) (range_with_len 0 i)) a b) where
+  pub loop_step : (w : List W) (c : Inputs) → Advance placed held now plan v w (to i) (to (suc i)) read (λ size. f now size i) b c → Advance placed held ms plan u w (to 0) (to (i + 1)) read (λ size. flat_map (f ms size) (range_with_len 0 (i + 1))) a c
+  loop_step w c second =
+      let here = subst (λ (ms : List Meaning). Advance placed held ms plan v w (to i) (to (suc i)) read (λ size. f ms size i) b c) same second in
+      let next : suc i ≡ i + 1 = omega arith in
+      subst (λ k. Advance placed held ms plan u w (to 0) (to k) read (λ size. flat_map (f ms size) (range_with_len 0 k)) a c) next
+      (advance_steps placed held meaning plan ms u w (to 0) (to (suc i)) read (λ size. flat_map (f ms size) (range_with_len 0 i) ++ f ms size i) (λ size. flat_map (f ms size) (range_with_len 0 (suc i))) a c (λ size. flat_push (f ms size) i)
+      (advance_join placed held meaning plan ms u v w (to 0) (to i) (to (suc i)) read (λ size. flat_map (f ms size) (range_with_len 0 i)) (λ size. f ms size i) a b c first here))
 
-  pub loop_stop : (ms : List Meaning) (u v : List W) (x y most read : ℕ → ℕ) (f : (ℕ → ℕ) → ℕ → List (Option TxStop)) (i n : ℕ) (stop : TxStop) (a b c : Inputs) (j k l : ℕ) → i < n → k ≡ j
-      → Advance placed held ms plan u v x y read (λ size. flat_map (f size) (range_with_len 0 i)) a b → Blocked ms plan y most (λ size. f size i) stop b c k l
-      → Blocked ms plan x most (λ size. flat_map (f size) (range_with_len 0 n)) stop a c j l
-  loop_stop ms u v x y most read f i n stop a b c j k l less later first second =
-      blocked_more placed held meaning plan ms x most (λ size. flat_map (f size) (range_with_len 0 i) ++ f size i) (λ size. flat_map (f size) (range_with_len (0 + suc i) (n - suc i)))
-      (λ size. flat_map (f size) (range_with_len 0 n)) stop a c j l
-      (λ size. flat_split (f size) (suc i) n (omega arith) ∙ ap (λ r. r ++ flat_map (f size) (range_with_len (0 + suc i) (n - suc i))) (flat_push (f size) i))
-      (blocked_join placed held meaning plan ms u v x y most read (λ size. flat_map (f size) (range_with_len 0 i)) (λ size. f size i) stop a b c j k l later first second)
+  pub loop_stop : (most : ℕ → ℕ) (n : ℕ) (stop : TxStop) (c : Inputs) (j k l : ℕ) → i < n → k ≡ j → Blocked now plan (to i) most (λ size. f now size i) stop b c k l → Blocked ms plan (to 0) most (λ size. flat_map (f ms size) (range_with_len 0 n)) stop a c j l
+  loop_stop most n stop c j k l less later second =
+      let here = subst (λ (ms : List Meaning). Blocked ms plan (to i) most (λ size. f ms size i) stop b c k l) same second in
+      blocked_more placed held meaning plan ms (to 0) most (λ size. flat_map (f ms size) (range_with_len 0 i) ++ f ms size i) (λ size. flat_map (f ms size) (range_with_len (0 + suc i) (n - suc i)))
+      (λ size. flat_map (f ms size) (range_with_len 0 n)) stop a c j l
+      (λ size. flat_split (f ms size) (suc i) n (omega arith) ∙ ap (λ r. r ++ flat_map (f ms size) (range_with_len (0 + suc i) (n - suc i))) (flat_push (f ms size) i))
+      (blocked_join placed held meaning plan ms u v (to 0) (to i) most read (λ size. flat_map (f ms size) (range_with_len 0 i)) (λ size. f ms size i) stop a b c j k l later first here)
+
+  pub loop_end : (n tribs : ℕ) → i ≡ n → tribs ≡ n → Advance placed held ms plan u v (to 0) (to n) read (λ size. flat_map (f ms size) (range_with_len 0 tribs)) a b
+  loop_end n tribs end all =
+      let here = subst (λ k. Advance placed held ms plan u v (to 0) (to k) read (λ size. flat_map (f ms size) (range_with_len 0 k)) a b) end first in
+      subst (λ k. Advance placed held ms plan u v (to 0) (to n) read (λ size. flat_map (f ms size) (range_with_len 0 k)) a b) (sym all) here

@@ -1,6 +1,7 @@
 -- One tributary that takes bits of its child, one after another.
 use Rattle.std.proofs.Common.{◌≡◌, ℕ, suc, ◌<◌, ◌≤◌, [], ◌∷◌, ◌++◌, cond, leb, refl, sym, ap, ◌∙◌, arith, Option, Some, None, length-append, Result, Ok, Err, IfErr, OnErr}
 use Rattle.std.proofs.lemmas.Bool.{lt-leb}
+use Rattle.pdh_shape.specs.OwnNumbers.{lead, store_size}
 use Rattle.pdh_edge.specs.Ports.{Inputs, nothing}
 use Rattle.pdh_shape.specs.declared.place.Place.{Place}
 use Rattle.pdh_tx.specs.declared.tx.TxStop.{TxStop}
@@ -71,15 +72,15 @@ no_first None p h = refl
 no_first (Some x) p h = h
 
 pub arrival_none : (m : Meaning) (plan : Plan) (place : Place) (size : ℕ → ℕ) (made fill : ℕ) → first_some (arrival m plan place size made fill) ≡ None → m.obstacle plan size made ≡ None
-arrival_none m plan place size made fill h = no_first (m.obstacle plan size made) (cond (leb 48 fill) (Some (Overflow place)) None) h
+arrival_none m plan place size made fill h = no_first (m.obstacle plan size made) (cond (leb store_size fill) (Some (Overflow place)) None) h
 
-pub lead_met : (m : Meaning) (plan : Plan) (place : Place) (fits fits' : (ℕ → ℕ) → Type 0) (made fill : ℕ) (stop : TxStop) (f g f' : ℕ) → made < 24 → fill < 48 → f ≡ f'
+pub lead_met : (m : Meaning) (plan : Plan) (place : Place) (fits fits' : (ℕ → ℕ) → Type 0) (made fill : ℕ) (stop : TxStop) (f g f' : ℕ) → made < lead → fill < store_size → f ≡ f'
     → ((size : ℕ → ℕ) → fits' size → fits size) → ((size : ℕ → ℕ) → fits' size → (k : ℕ) → k < made → m.obstacle plan size k ≡ None)
     → Met fits (λ size. first_some (arrival m plan place size made fill)) stop f g → Met fits' (λ size. first_some (lead_of m plan size)) stop f' g
 lead_met m plan place fits fits' made fill stop f g f' few room less narrower before met =
     met_weaker fits fits' _ _ stop f g f' less narrower
     (λ size fit e.
-    let none : cond (leb 48 fill) (Some (Overflow place)) None ≡ None = ap (λ b. cond b (Some (Overflow place)) None) (lt-leb _ _ room) in
+    let none : cond (leb store_size fill) (Some (Overflow place)) None ≡ None = ap (λ b. cond b (Some (Overflow place)) None) (lt-leb _ _ room) in
     let here : m.obstacle plan size made ≡ Some stop = sym (first_of_two (m.obstacle plan size made)) ∙ ap (λ o. first_some (m.obstacle plan size made ∷ o ∷ [])) (sym none) ∙ e in
-    map_some (m.obstacle plan size) stop 0 24 made (omega arith) (omega arith) (λ k l l'. before size fit k l') here)
+    map_some (m.obstacle plan size) stop 0 lead made (omega arith) (omega arith) (λ k l l'. before size fit k l') here)
     met

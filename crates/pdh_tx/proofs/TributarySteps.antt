@@ -3,6 +3,7 @@ use Rattle.std.proofs.Common.{◌≡◌, ℕ, suc, ◌+◌, ◌<◌, Bool, true,
 use Rattle.std.specs.List.{range_with_len}
 use Rattle.std.proofs.lemmas.Bool.{lt-leb}
 use Rattle.std.proofs.lemmas.List.{map-append}
+use Rattle.pdh_shape.specs.OwnNumbers.{store_size}
 use Rattle.pdh_line.proofs.Ranges.{range_push}
 use Rattle.pdh_edge.specs.Counts.{one_more}
 use Rattle.pdh_edge.specs.Ports.{Inputs}
@@ -81,10 +82,10 @@ module _ {C : Type 0} (stands_at : C → Plan → ℕ → Type 0) (stands_for : 
         };
   }
 
-  pub arrival_free : (place : Place) (now : Service) (bit : Bool) (store : List Bool) (made : ℕ) (before after : Inputs) (size : ℕ → ℕ) → length store < 48
+  pub arrival_free : (place : Place) (now : Service) (bit : Bool) (store : List Bool) (made : ℕ) (before after : Inputs) (size : ℕ → ℕ) → length store < store_size
       → Makes (meaning old) now (stands_at new plan) (stands_for old) (stands_for new) plan made bit before after → Fits (meaning old) plan made before size
       → first_some (arrival (meaning old) plan place size made (length store)) ≡ None
   arrival_free place now bit store made before after size room makes fits =
-      let room' : cond (leb 48 (length store)) (Some (Overflow place)) None ≡ None = ap (λ b. cond b (Some (Overflow place)) None) (lt-leb _ _ room) in
-      ap (λ o. first_some (o ∷ cond (leb 48 (length store)) (Some (Overflow place)) None ∷ [])) (makes.free size fits)
+      let room' : cond (leb store_size (length store)) (Some (Overflow place)) None ≡ None = ap (λ b. cond b (Some (Overflow place)) None) (lt-leb _ _ room) in
+      ap (λ o. first_some (o ∷ cond (leb store_size (length store)) (Some (Overflow place)) None ∷ [])) (makes.free size fits)
       ∙ ap (λ o. first_some (o ∷ [])) room'

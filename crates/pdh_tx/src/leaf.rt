@@ -1,17 +1,14 @@
 //! The sender that is a leaf: its bits are those of a feed's list.
 
-ghost use Rattle.std.specs.Prelude.{◌≡◌, ◌+◌, ◌≤◌, length, IsTrue, OnOk, OnErr};
-ghost use Rattle.pdh_packed.specs.Gaining.{gained};
-ghost use Rattle.pdh_edge.specs.Ports.{Takes, for_leaf};
+ghost use Rattle.std.specs.Prelude.{◌≡◌};
 ghost use Rattle.pdh_shape.specs.Frame.{idle};
 ghost use Rattle.pdh_tx.specs.Meaning.{IsFresh};
-ghost use Rattle.pdh_tx.specs.Calls.{DrawsClear, Appends};
-ghost use Rattle.pdh_tx.specs.Leaf.{leaf_meaning, TakesUpTo};
+ghost use Rattle.pdh_tx.specs.Leaf.{leaf_meaning};
 ghost use Rattle.pdh_tx.specs.laws.LeafLaws.{leaf_grows};
 
 use crate::{Tx, TxStop};
 use pdh_clock::Schedule;
-use pdh_edge::{Failed, Feed, FeedStop};
+use pdh_edge::{Failed, Feed, FeedStop, take_bits};
 use pdh_packed::Packed;
 
 /// Passes the bits of one leaf of a feed.
@@ -33,34 +30,6 @@ impl Leaf {
             stopped: false,
         }
     }
-}
-
-// Takes the next bits of a leaf's list, so many, which it has, and appends them to `into`.
-#[inline(always)]
-fn take_bits<F: Feed>(
-    feed: &mut F,
-    leaf: u32,
-    count: usize,
-    into: &mut Packed,
-) -> Result<(), Failed>
-    requires held { IsTrue ((F.inputs feed.old).holds leaf) }
-    requires enough { count ≤ (F.inputs feed.old).left leaf }
-    requires room { length into.old.bits + count ≤ into.old.capacity }
-    ensures appended { Appends into.old into.new count result }
-    ensures ok { OnOk result
-        (Takes (for_leaf leaf (gained into.old into.new)) (F.inputs feed.old) (F.inputs feed.new)) }
-    ensures err { OnErr result (TakesUpTo leaf count (F.inputs feed.old) (F.inputs feed.new)) }
-    ensures fed { DrawsClear F.Feed feed.old feed.new result }
-{
-    let mut taken = 0;
-    while taken < count {
-        match feed.bits(leaf, count - taken, into) {
-            Ok(more) => taken += more,
-            Err(FeedStop::Failed) => return Err(Failed),
-            Err(FeedStop::Ended) => unreachable!(),
-        }
-    }
-    Ok(())
 }
 
 impl Tx for Leaf {

@@ -18,6 +18,7 @@ use pdh_shape::{Path, Service, Shape};
 use std::marker::PhantomData;
 
 /// A multiplexer over its tributaries.
+#[derive(Drop)]
 pub struct Sender<S: Shape, B: Body<S>> {
     /// Its tributaries.
     pub(crate) body: B,
@@ -30,20 +31,6 @@ pub struct Sender<S: Shape, B: Body<S>> {
     next_say: Service,
     stopped: bool,
     shape: PhantomData<S>,
-}
-
-impl<S: Shape, B: Body<S>> Drop for Sender<S, B> {
-    fn drop(self) {
-        let Self {
-            body: _,
-            path: _,
-            at: _,
-            say: _,
-            next_say: _,
-            stopped: _,
-            shape: _,
-        } = self;
-    }
 }
 
 impl<S: Shape, B: Body<S>> Sender<S, B> {

@@ -15,6 +15,7 @@ use std::alloc::{AllocError, Global};
 use std::rc::Rc;
 
 /// The tributaries of a node, one for each of its shape's, and what they pass their bits by.
+#[derive(Drop)]
 pub struct Tributaries<S: Shape, C: Tx> {
     /// In order.
     pub list: Vec<Tributary<C>>,
@@ -26,16 +27,6 @@ pub struct Tributaries<S: Shape, C: Tx> {
     ghost stores: { (S.shape.copies == 0) ≡ false },
     ghost disjoint: { IsDisjoint (map (meaning_in C.Tx) list.items) },
     ghost room: { HasRoom S.LEN S.TRIBS S.LOW scratch },
-}
-
-impl<S: Shape, C: Tx> Drop for Tributaries<S, C> {
-    fn drop(self) {
-        let Self {
-            list: _,
-            layout: _,
-            scratch: _,
-        } = self;
-    }
 }
 
 // Gives each child an empty store.

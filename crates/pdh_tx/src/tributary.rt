@@ -92,12 +92,11 @@ impl<C: Tx> Tributary<C> {
     {
         let more = self.share.more;
         queue.clear();
-        queue.append(self.store.take_all());
+        self.store.move_to(queue);
         self.child.make_clear(clock, feed, arriving, queue)?;
         let gone = layout.carried(trib, more, first, len);
         layout.fill_column(trib, more, first, len, queue, column);
-        self.store
-            .put_all(queue.read(gone, (queue.len() - gone) as u32));
+        self.store.put_from(queue, gone, queue.len() - gone);
         Ok(())
     }
 

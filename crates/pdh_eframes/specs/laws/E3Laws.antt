@@ -3,11 +3,8 @@ use Rattle.std.specs.Prelude.{◌≡◌, true, refl}
 use Rattle.std.proofs.Common.{lit<, lit≤}
 use Rattle.pdh_eframes.specs.Sets.{IsSetPlan, set_role, set_mark, four_wrong}
 use Rattle.pdh_eframes.specs.Plans.{e2_signal, e3, e3_plan}
-use Rattle.pdh_shape.specs.Frame.{IsFrame}
-use Rattle.pdh_shape.specs.Tributary.{HasTributaries, ReadsEvenly}
 use Rattle.pdh_shape.specs.Walk.{walk}
 use Rattle.pdh_shape.specs.KeptLaws.{keeps_laws, keeps_laws_by}
-use Rattle.pdh_shape.specs.laws.LawsOfTest.{laws-is_frame, laws-has_tributaries, laws-reads_evenly}
 
 pub e3_is_plan : IsSetPlan e2_signal e3_plan
 e3_is_plan = record { whole = refl; some = (lit< tt, lit< tt); few = lit≤ tt; short = lit< tt; signal_is = refl }
@@ -15,12 +12,3 @@ e3_is_plan = record { whole = refl; some = (lit< tt, lit< tt); few = lit≤ tt; 
 pub e3_keeps_laws : keeps_laws e3 ≡ true
 unfolding keeps_laws_by walk set_role set_mark four_wrong
 e3_keeps_laws = refl
-
-pub e3_is_frame : IsFrame e3
-e3_is_frame = laws-is_frame e3 e3_keeps_laws
-
-pub e3_has_tributaries : HasTributaries e3
-e3_has_tributaries = laws-has_tributaries e3 e3_keeps_laws
-
-pub e3_reads_evenly : ReadsEvenly e3
-e3_reads_evenly = laws-reads_evenly e3 e3_keeps_laws

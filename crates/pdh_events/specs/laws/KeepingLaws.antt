@@ -6,7 +6,7 @@ use Rattle.std.proofs.lemmas.List.Sums.{fold-append}
 use Rattle.pdh_shape.specs.Frame.{FrameShape}
 use Rattle.pdh_line.specs.Tracking.{Piece}
 use Rattle.pdh_line.specs.Tracking.Piece.{Gap, Delivered}
-use Rattle.pdh_events.specs.Duties.{piece_frame, frames_of, last_frame, alarm_after, odd_before, is_odd}
+use Rattle.pdh_events.specs.Duties.{piece_frame, frames_of, last_frame, alarm_after, odd_before, is_odd, parity_kinds}
 use Rattle.pdh_events.specs.Keeping.{Kept, Remembers}
 
 -- a gap is no frame,
@@ -35,6 +35,6 @@ remembers_gap s kept others n m is =
     let same : frames_of (others ++ Gap n ∷ []) ≡ frames_of (others ++ Gap m ∷ []) = frames_gap others n ∙ sym (frames_gap others m) in
     record {
       alarm_is = is.alarm_is ∙ ap (alarm_after s) same;
-      odd_is = is.odd_is ∙ odd_gap s others n ∙ sym (odd_gap s others m);
+      odd_is = λ frame. is.odd_is frame ∙ ap (λ odd. parity_kinds s odd frame) (odd_gap s others n ∙ sym (odd_gap s others m));
       channel_is = rw (← same) is.channel_is;
     }

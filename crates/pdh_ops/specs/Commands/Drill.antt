@@ -4,7 +4,7 @@ use Rattle.pdh_chain.specs.declared.chain.Chain.{Chain}
 use Rattle.pdh_lab.specs.Drill.{drill_of}
 use Rattle.pdh_answers.specs.Answer.{Answer}
 use Rattle.pdh_answers.specs.declared.answer.Stop.TheVariants.{ManyFrames}
-use Rattle.pdh_shape.specs.OwnNumbers.{most_frames}
+use Rattle.pdh_shape.specs.OwnNumbers.{most_drilled}
 use Rattle.pdh_ops.specs.Operation.{Operation, no_names, no_bytes, none_in_run, due_at_outputs}
 use Rattle.pdh_answers.specs.declared.answer.Done.TheVariants.{Line}
 use Rattle.pdh_answers.specs.declared.answer.Done.{Done}
@@ -22,7 +22,7 @@ drill_says chain seed frames drill = Line (codes "drill " ++ name_of_chain chain
 
 -- the report on so many frames, or too many frames
 abbrev pub drilled : Chain → ℕ → ℕ → Answer
-drilled chain seed frames = if nat_lt most_frames frames then Err (ManyFrames frames) else Ok (drill_says chain seed frames (drill_of chain seed frames))
+drilled chain seed frames = if nat_lt most_drilled frames then Err (ManyFrames frames) else Ok (drill_says chain seed frames (drill_of chain seed frames))
 
 abbrev pub drilling : Chain → ℕ → ℕ → Operation
 drilling chain seed frames = record {

@@ -19,13 +19,13 @@ use Rattle.pdh_line.specs.Paths.{path_of}
 use Rattle.pdh_chain.specs.Saying.{says_of}
 use Rattle.pdh_chain.specs.Muxes.{place_of}
 use Rattle.pdh_chain.specs.declared.chain.Chain.{Chain}
-use Rattle.pdh_answers.specs.Names.{leaf_name, name_of, schedule_name, line_name}
+use Rattle.pdh_answers.specs.Names.{leaf_name, schedule_name, line_name}
 use Rattle.pdh_ops.specs.Schedules.{contents_of, frames_in, rows_of, rows_in, is_text_due}
 use Rattle.pdh_answers.specs.Answer.{Answer, and_then}
 use Rattle.pdh_answers.specs.declared.file.File.{File}
 use Rattle.pdh_answers.specs.declared.file.File.TheVariants.{Schedule, Leaf}
 use Rattle.pdh_answers.specs.declared.answer.Stop.{Stop}
-use Rattle.pdh_answers.specs.declared.answer.Stop.TheVariants.{Missing, ShortNode, Short, Overflow, Underflow, ManyFrames}
+use Rattle.pdh_answers.specs.declared.answer.Stop.TheVariants.{ShortNode, Short, Overflow, Underflow, ManyFrames}
 use Rattle.pdh_shape.specs.OwnNumbers.{most_frames}
 use Rattle.pdh_ops.specs.Operation.{Operation, all_held, one_name, reaches_outputs, Files, bytes_in}
 use Rattle.pdh_answers.specs.declared.answer.Done.TheVariants.{Line}

@@ -1,14 +1,16 @@
 //! `demux`: a line's file to a file for each leaf.
 
-ghost use Rattle.std.specs.Prelude.{◌≡◌, ◌∷◌, [], ℕ, map, IfOk};
+ghost use Rattle.std.specs.Prelude.{◌≡◌, ◌≢◌, ◌⊎◌, ◌∷◌, [], ℕ, map, IfOk};
 ghost use Rattle.pdh_edge.specs.Files.{ShelfState};
 ghost use Rattle.pdh_blocks.specs.State.{over};
 ghost use Rattle.pdh_blocks.specs.Kept.{Keeps};
 ghost use Rattle.pdh_chain.specs.Chains.{leaves_of};
+ghost use Rattle.pdh_chain.specs.declared.stop.DemuxStop.TheVariants.{Memory, Ended as LineEnded, ReadFailed, WriteFailed};
 ghost use Rattle.pdh_answers.specs.Names.{line_file};
 ghost use Rattle.pdh_ops.specs.Commands.Demux.{demux_says, demuxing};
 ghost use Rattle.pdh_ops.specs.Run.{Performs, IsWatched};
 ghost use Rattle.pdh_ops.specs.Running.{ComesOut, IsCountedBy};
+ghost use Rattle.pdh_ops.specs.declared.running.Outcome.TheVariants.{Memory as WantsMemory, Failed};
 ghost use Rattle.pdh_ops.specs.Steps.{IsLine, AreLeafOutputs, CanReceive, IsDemuxPort};
 
 use crate::leaf::leaf_count;
@@ -53,6 +55,18 @@ fn says(chain: Chain, frames: u64) -> Done
     Done::Line(chain_counted("demux ", chain, ": frames ", frames))
 }
 
+// How the work comes out where a line that has its bits isn't received to its end.
+fn outcome_of(stop: DemuxStop) -> Outcome
+    requires { stop ≢ LineEnded }
+    ensures memory { stop ≡ Memory → result ≡ WantsMemory }
+    ensures failed { (stop ≡ ReadFailed) ⊎ (stop ≡ WriteFailed) → result ≡ Failed }
+{
+    match stop {
+        DemuxStop::Memory => Outcome::Memory,
+        _ => Outcome::Failed,
+    }
+}
+
 impl DemuxPlan {
     // Gives the receivers of the chain the line's bits.
     fn receive<S: Shelf>(&self, alloc: Global, port: &mut ShelfPort<S>) -> Outcome
@@ -70,11 +84,8 @@ impl DemuxPlan {
                 }
                 Outcome::Whole(Ok(says(self.chain, frames)))
             }
-            Err(DemuxStop::Memory) => Outcome::Memory,
-            Err(DemuxStop::ReadFailed) => Outcome::Failed,
-            Err(DemuxStop::WriteFailed) => Outcome::Failed,
             // The line has its bits.
-            Err(DemuxStop::Ended) => unreachable!(),
+            Err(stop) => outcome_of(stop),
         }
     }
 }

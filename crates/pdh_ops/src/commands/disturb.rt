@@ -1,13 +1,15 @@
 //! `disturb`: a line's file changed by a script.
 
-ghost use Rattle.std.specs.Prelude.{◌≡◌, ◌*◌, map, IfOk, IfErr, Ok};
+ghost use Rattle.std.specs.Prelude.{◌≡◌, ◌≢◌, ◌*◌, map, IfOk, IfErr, Ok};
 ghost use Rattle.pdh_edge.specs.Files.{ShelfState, Looks};
 ghost use Rattle.pdh_blocks.specs.State.{over};
 ghost use Rattle.pdh_blocks.specs.Kept.{Keeps};
 ghost use Rattle.pdh_script.specs.Scripts.{FitIn};
+ghost use Rattle.pdh_script.specs.declared.stop.ApplyStop.TheVariants.{Ended as LineEnded};
 ghost use Rattle.pdh_ops.specs.Commands.Disturb.{disturb_says, disturbing};
 ghost use Rattle.pdh_ops.specs.DisturbSteps.{HasSizes, ScriptIs, IsBendPlan, CanBend, IsBendPort};
 ghost use Rattle.pdh_ops.specs.Running.{ComesOut, IsCountedBy};
+ghost use Rattle.pdh_ops.specs.declared.running.Outcome.TheVariants.{Failed};
 ghost use Rattle.pdh_ops.specs.Refusing.{Refuses};
 ghost use Rattle.pdh_ops.specs.Run.{IsCounted, Performs, IsWatched};
 
@@ -105,6 +107,14 @@ fn says(chain: Chain, bits: u64) -> Done
     Done::Line(chain_counted("disturb ", chain, ": bits ", bits))
 }
 
+// How the work comes out where a line that has its bits isn't disturbed to its end: a call failed.
+fn outcome_of(_stop: ApplyStop) -> Outcome
+    requires { _stop ≢ LineEnded }
+    ensures { result ≡ Failed }
+{
+    Outcome::Failed
+}
+
 impl DisturbPlan {
     // Puts the disturbed line to the port.
     fn apply<S: Shelf>(&self, alloc: Global, port: &mut ShelfPort<S>) -> Outcome
@@ -121,10 +131,8 @@ impl DisturbPlan {
                 let bent = self.plan.script.bits_of(bits);
                 Outcome::Whole(Ok(says(self.chain, bent)))
             }
-            Err(ApplyStop::ReadFailed) => Outcome::Failed,
-            Err(ApplyStop::WriteFailed) => Outcome::Failed,
             // The line has its bits.
-            Err(ApplyStop::Ended) => unreachable!(),
+            Err(stop) => outcome_of(stop),
         }
     }
 }

@@ -8,7 +8,7 @@ ghost use Rattle.pdh_ops.specs.Commands.Drill.{drill_text, drill_says, drilling}
 use pdh_answers::{Done, Stop};
 use pdh_chain::Chain;
 use pdh_lab::Drill;
-use pdh_shape::MOST_FRAMES;
+use pdh_shape::MOST_DRILLED;
 use pdh_words::Text;
 use std::alloc::Global;
 
@@ -53,7 +53,7 @@ pub fn drill(alloc: Global, chain: Chain, seed: u64, frames: u64) -> Result<Done
     requires { seed ≤ 999999999 }
     ensures { (state : ShelfState) → Performs (drilling chain seed frames) state state result }
 {
-    if frames > MOST_FRAMES {
+    if frames > MOST_DRILLED {
         return Err(Stop::ManyFrames(frames));
     }
     let report = pdh_lab::drill(alloc, chain, seed, frames)?;

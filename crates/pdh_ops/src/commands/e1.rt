@@ -16,8 +16,8 @@ ghost use Rattle.pdh_shape.specs.OwnNumbers.{most_frames};
 use crate::files::{append, read, size, start};
 use crate::port::Input;
 use pdh_answers::{Done, File, Stop};
-use pdh_e1::{PackFault, pack};
-use pdh_edge::{Drain, MemPort, Shelf};
+use pdh_e1::pack;
+use pdh_edge::{Drain, Failed, MemPort, Shelf};
 use pdh_g706::E1Align;
 use pdh_packed::Packed;
 use pdh_shape::MOST_FRAMES;
@@ -97,11 +97,7 @@ fn packed(alloc: Global, payload: &[u8]) -> Result<Vec<u8>, Stop>
     ensures line { IfOk result (λ line. line.items ≡ packed_line payload.now) }
     ensures err { IfErr result (λ stop. stop ≡ Memory) }
 {
-    match pack(alloc, payload) {
-        Ok(line) => Ok(line),
-        Err(PackFault::Memory) => Err(Stop::Memory),
-        Err(PackFault::NotWhole { .. }) => unreachable!(),
-    }
+    Ok(pack(alloc, payload)?)
 }
 
 /// Reads the payload, writes the line of multiframes that carries it, and answers how many there are.
@@ -157,7 +153,7 @@ fn payload_port(alloc: Global, bits: usize) -> Result<MemPort, AllocError>
     Ok(port)
 }
 
-// Gives a machine that has taken no bit the bits of a line, a piece at a time, or finds no memory for a piece.
+// Gives a machine that has taken no bit the bits of a line, a piece at a time, or finds no memory for a piece. No put fails.
 fn deliver(
     alloc: Global,
     line: &[u8],
@@ -171,15 +167,15 @@ fn deliver(
     ensures stands { OnOk result (StandsFor align.new (bits_of line.now)) }
     ensures put { OnOk result (Gains [] (bits_of line.now) (⟦<MemPort as Drain>⟧.outputs port.old) (⟦<MemPort as Drain>⟧.outputs port.new)) }
     ensures list { IsTrue ((⟦<MemPort as Drain>⟧.outputs port.new).holds 0) }
+    ensures unfailed { ⟦<MemPort as Drain>⟧.drain_faults port.new ≡ 0 }
 {
     let mut bits = Packed::open(alloc, 8 * MOST_OCTETS)?;
     for octets in line.chunks(MOST_OCTETS) {
         bits.clear();
         bits.append_bytes(octets);
-        match align.take(&bits, port, &mut Quiet) {
-            Ok(()) => (),
-            // A payload has fewer bits than its line, for which the port has room.
-            Err(_) => unreachable!(),
+        // A port fails for want of room, and this one has room: a payload has fewer bits than its line.
+        if let Err(Failed) = align.take(&bits, port, &mut Quiet) {
+            return Err(AllocError);
         }
     }
     Ok(())

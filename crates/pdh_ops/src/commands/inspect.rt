@@ -5,12 +5,12 @@ ghost use Rattle.pdh_answers.specs.Names.{line_file};
 ghost use Rattle.pdh_answers.specs.declared.file.File.TheVariants.{E1Line};
 ghost use Rattle.pdh_ops.specs.Commands.Inspect.{inspect_says, inspect_e1_says, inspecting, inspecting_e1, inspected, e1_inspected};
 ghost use Rattle.pdh_ops.specs.Run.{Performs, IsWatched};
-ghost use Rattle.pdh_ops.specs.Steps.{IsLine};
+ghost use Rattle.pdh_ops.specs.laws.InspectLaws.{inspect_reads};
 ghost use Rattle.pdh_ops.specs.E1Steps.{IsFramedLine};
 ghost use Rattle.pdh_ops.specs.LineSteps.{CanRead, IsLinePort};
 
 use crate::commands::e1::framed_line;
-use crate::line::line_of;
+use crate::line_work::{LineWork, run_line};
 use crate::port::{Ended, Input, PortFiles};
 use crate::running::{Outcome, Work, Worked, run_over};
 use pdh_answers::{Done, File, Stop};
@@ -22,12 +22,11 @@ use pdh_watch::Monitor;
 use pdh_words::{Bits, Text};
 use std::alloc::{AllocError, Global};
 
-// The line that is inspected.
+// The inspection of a line of a chain.
 #[derive(Drop)]
-struct InspectPlan {
+struct Inspection {
     chain: Chain,
     bits: Bits,
-    line: Input,
 }
 
 // The framed line that is inspected.
@@ -66,26 +65,31 @@ fn says_of_e1(multiframes: u64, events: u64) -> Done
     Done::Watched(text)
 }
 
-impl Work for InspectPlan {
+impl LineWork for Inspection {
     ghost operation = { λ p. inspecting p.chain p.bits };
 
-    ghost planned = { λ p state. (p.line.file ≡ line_file p.bits) × IsLine p.chain p.line state };
+    ghost file = { λ p. line_file p.bits };
 
-    ghost opened = { λ p port. CanRead p.line.bits port };
+    ghost chain = { λ p. p.chain };
 
-    ghost gives = { λ p begun port. IsLinePort (inspecting p.chain p.bits) (line_file p.bits) (inspected p.chain) p.line begun port };
+    ghost next = { λ p. inspected p.chain };
 
-    fn files(&self, alloc: Global) -> Result<PortFiles, AllocError> {
-        PortFiles::line(alloc, self.line)
+    fn file(&self) -> File {
+        File::of_line(self.bits)
     }
 
-    fn work<S: Shelf>(
+    fn chain(&self) -> Chain {
+        self.chain
+    }
+
+    fn read<S: Shelf>(
         &self,
         alloc: Global,
+        bits: u64,
         port: ShelfPort<S>,
         monitors: &mut Vec<Box<dyn Monitor>>,
     ) -> Worked<S> {
-        let seen = inspect_line(alloc, self.chain, self.line.bits, port, monitors);
+        let seen = inspect_line(alloc, self.chain, bits, port, monitors);
         let outcome = match seen.result {
             Ok(found) => {
                 let done = says(self.chain, found.frames, found.events);
@@ -99,6 +103,8 @@ impl Work for InspectPlan {
             outcome,
         }
     }
+
+    ghost reads = { λ p. inspect_reads p.chain p.bits };
 }
 
 /// Reads the line, shows its events to the monitors, and answers the numbers of its delivered frames and of its events.
@@ -106,16 +112,13 @@ pub fn inspect<S: Shelf>(
     alloc: Global,
     chain: Chain,
     bits: Bits,
-    mut shelf: S,
+    shelf: S,
     monitors: &mut Vec<Box<dyn Monitor>>,
 ) -> Ended<S>
     ensures performs { Performs (inspecting chain bits) (S.state shelf) (S.state result.shelf) result.answer }
     ensures watches { IsWatched (inspecting chain bits) (S.state shelf) (S.state result.shelf) result.answer (map ⟦<Box<dyn Monitor> as Monitor>⟧.state monitors.old.items) (map ⟦<Box<dyn Monitor> as Monitor>⟧.state monitors.new.items) }
 {
-    match line_of(chain, File::of_line(bits), &mut shelf) {
-        Ok(line) => run_over(alloc, &InspectPlan { chain, bits, line }, shelf, monitors),
-        Err(stop) => Ended::new(shelf, Err(stop)),
-    }
+    run_line(alloc, Inspection { chain, bits }, shelf, monitors)
 }
 
 impl Work for FramedPlan {

@@ -1,12 +1,16 @@
 //! `mux`: a schedule and a file for each leaf to a line's file.
 
-ghost use Rattle.std.specs.Prelude.{if◌then◌else◌, ◌≡◌, ℕ, [], ◌∷◌, ◌<◌, IfOk, OnOk, IfErr, IfSome, All, Option, map};
+ghost use Rattle.std.specs.Prelude.{if◌then◌else◌, ◌≡◌, ◌≢◌, ◌⊎◌, Bool, ℕ, [], ◌∷◌, ◌<◌, IfOk, OnOk, IfErr, IfSome, All, Option, map};
 ghost use Rattle.pdh_edge.specs.Files.{ShelfState, Looks};
 ghost use Rattle.pdh_blocks.specs.State.{over};
 ghost use Rattle.pdh_blocks.specs.Kept.{Keeps};
+ghost use Rattle.pdh_shape.specs.declared.place.Path.{Path};
+ghost use Rattle.pdh_shape.specs.declared.place.Place.{Place};
 ghost use Rattle.pdh_clock.specs.Contents.{IsRowOf};
 ghost use Rattle.pdh_chain.specs.Chains.{levels_of};
+ghost use Rattle.pdh_chain.specs.declared.stop.MuxStop.TheVariants.{Memory, Event, NoFrame, Ended as LeafEnded, ReadFailed, WriteFailed};
 ghost use Rattle.pdh_ops.specs.Running.{ComesOut, IsCountedBy};
+ghost use Rattle.pdh_ops.specs.declared.running.Outcome.TheVariants.{Whole, Memory as WantsMemory, Failed};
 ghost use Rattle.pdh_ops.specs.Run.{Performs, IsCounted, IsWatched};
 ghost use Rattle.pdh_ops.specs.Refusing.{Refuses};
 ghost use Rattle.pdh_answers.specs.declared.answer.Stop.TheVariants.{Overflow, Underflow};
@@ -141,6 +145,22 @@ fn says(chain: Chain, frames: u64) -> Done
     Done::Line(chain_counted("mux ", chain, ": frames ", frames))
 }
 
+// How the work comes out where a line isn't made to its end, by a schedule and of leaves that are long enough.
+fn outcome_of(stop: MuxStop) -> Outcome
+    requires frames { (node : Path) → stop ≢ NoFrame node }
+    requires leaves { (leaf : ℕ) → stop ≢ LeafEnded leaf }
+    ensures event { (over : Bool) (place : Place) → stop ≡ Event over place
+        → result ≡ Whole (Err (if over then Overflow place else Underflow place)) }
+    ensures memory { stop ≡ Memory → result ≡ WantsMemory }
+    ensures failed { (stop ≡ ReadFailed) ⊎ (stop ≡ WriteFailed) → result ≡ Failed }
+{
+    match stop {
+        MuxStop::Event { over, place } => Outcome::Whole(Err(stop_of(over, place))),
+        MuxStop::Memory => Outcome::Memory,
+        _ => Outcome::Failed,
+    }
+}
+
 impl MuxPlan {
     // Makes the line into the port, whole frames up to the first event.
     fn send<S: Shelf>(&self, alloc: Global, port: &mut ShelfPort<S>) -> Outcome
@@ -153,13 +173,8 @@ impl MuxPlan {
         let frames = self.plan.frames;
         match pdh_chain::mux(alloc, self.chain, &self.plan.clock, frames, self.feac, port) {
             Ok(()) => Outcome::Whole(Ok(says(self.chain, frames))),
-            Err(MuxStop::Event { over, place }) => Outcome::Whole(Err(stop_of(over, place))),
-            Err(MuxStop::Memory) => Outcome::Memory,
-            Err(MuxStop::ReadFailed) => Outcome::Failed,
-            Err(MuxStop::WriteFailed) => Outcome::Failed,
             // The schedule and the leaves are long enough.
-            Err(MuxStop::NoFrame { .. }) => unreachable!(),
-            Err(MuxStop::Ended { .. }) => unreachable!(),
+            Err(stop) => outcome_of(stop),
         }
     }
 }

@@ -1,5 +1,8 @@
-use Rattle.std.proofs.Common.{◌≡◌, ◌*◌, false}
+use Rattle.std.proofs.Common.{◌≡◌, ◌*◌, false, Ok}
+use Rattle.pdh_edge.specs.Progress.{Works, port_faults}
 use Rattle.pdh_tx.specs.Meaning.{plan_of}
+use Rattle.pdh_chain.specs.Calls.{CallStopsBy}
+use Rattle.pdh_chain.specs.Faults.{counted_at_call_stop}
 use Rattle.pdh_chain.specs.Saying.{says_of, HasSaid}
 use Rattle.pdh_chain.proofs.Frames.{Sending}
 use Rattle.pdh_chain.proofs.clear_sending.send_clear_frames.Given as goal
@@ -11,11 +14,9 @@ invariant-loop-whole g l = record {
   said : HasSaid l.channel l.fn.feac l._whole;
   room : l.frame.capacity ≡ l.fn.frame.capacity;
   same : g.T.Tx.meaning l.sender ≡ g.T.Tx.meaning l.fn.sender;
-  reads : g.P.Feed.feed_faults l.port ≡ g.P.Feed.feed_faults l.fn.port;
-  writes : g.P.Drain.drain_faults l.port ≡ g.P.Drain.drain_faults l.fn.port;
-  kept : g.P.Port.kept l.fn.port l.port;
   lists : (g.P.Feed.inputs l.port).holds ≡ (g.P.Feed.inputs l.fn.port).holds;
   lines : (g.P.Drain.outputs l.port).holds ≡ (g.P.Drain.outputs l.fn.port).holds;
-  sending : Sending (g.T.Tx.meaning l.fn.sender) (says_of l.fn.feac) (g.T.Tx.stands_at l.sender (plan_of l.fn.clock)) (g.T.Tx.stands_for l.fn.sender) (g.T.Tx.stands_for l.sender) (plan_of l.fn.clock) (l._whole * l.fn.len) (g.P.Feed.inputs l.fn.port) (g.P.Feed.inputs l.port)
-      (g.P.Drain.outputs l.fn.port) (g.P.Drain.outputs l.port);
+  sends : Works {T = Unit {0}} g.P.Port.kept (port_faults g.P.Feed g.P.Drain) counted_at_call_stop
+      (λ old new. Sending (g.T.Tx.meaning l.fn.sender) (says_of l.fn.feac) (g.T.Tx.stands_at l.sender (plan_of l.fn.clock)) (g.T.Tx.stands_for l.fn.sender) (g.T.Tx.stands_for l.sender) (plan_of l.fn.clock) (l._whole * l.fn.len) (g.P.Feed.inputs old) (g.P.Feed.inputs new) (g.P.Drain.outputs old) (g.P.Drain.outputs new))
+      (λ stop old new. CallStopsBy g.T.Tx g.P.Feed g.P.Drain l.fn.sender l.fn.clock l.fn.feac l.fn.len l.fn.frames old new stop) l.fn.port l.port (Ok tt);
 }

@@ -1,5 +1,5 @@
-use Rattle.std.proofs.Common.{◌≡◌, ◌≤◌, ◌-◌}
-use Rattle.pdh_chain.specs.Demuxing.{Receives}
+use Rattle.std.proofs.Common.{◌≡◌, ◌≤◌, ◌-◌, Ok}
+use Rattle.pdh_chain.specs.Calls.{ReceivesFirst}
 use Rattle.pdh_chain.proofs.receiving.receive.Given as goal
 
 -- the bits so far were received
@@ -8,12 +8,7 @@ invariant-loop-received g l = record {
   within : l.received ≤ l.bits;
   room : l.buffer.capacity ≡ l.fn.buffer.capacity;
   same : g.R.Rx.meaning l.receiver ≡ g.R.Rx.meaning l.fn.receiver;
-  reads : g.P.Feed.feed_faults l.port ≡ g.P.Feed.feed_faults l.fn.port;
-  writes : g.P.Drain.drain_faults l.port ≡ g.P.Drain.drain_faults l.fn.port;
-  kept : g.P.Port.kept l.fn.port l.port;
-  inputs : (g.P.Feed.inputs l.port).holds ≡ (g.P.Feed.inputs l.fn.port).holds;
-  outputs : (g.P.Drain.outputs l.port).holds ≡ (g.P.Drain.outputs l.fn.port).holds;
-  receives : Receives (g.R.Rx.meaning l.fn.receiver) (g.R.Rx.stands l.receiver) (λ events. g.W.Watch.saw l.fn.watch events l.watch) l.received (g.P.Feed.inputs l.fn.port) (g.P.Feed.inputs l.port) (g.P.Drain.outputs l.fn.port) (g.P.Drain.outputs l.port);
+  receives : ReceivesFirst {T = Unit {0}} g.P.Feed g.P.Drain g.P.Port.kept (g.R.Rx.meaning l.fn.receiver) (g.R.Rx.stands l.receiver) (λ events. g.W.Watch.saw l.fn.watch events l.watch) l.received l.bits l.fn.port l.port (Ok tt);
 }
 
 abbrev pub decreases-loop-received : goal.decreases-loop-received

@@ -1,4 +1,4 @@
-use Rattle.std.proofs.Common.{◌≡◌, ◌+◌, Bool, false, cond, List, ◌∷◌, take, drop, sym, ◌∙◌, ap, arith}
+use Rattle.std.proofs.Common.{◌+◌, Bool, false, cond, List, ◌∷◌, take, drop, sym, ◌∙◌, ap, arith}
 use Rattle.pdh_g706.proofs.SignalLaws.{read_long}
 use Rattle.pdh_g706.proofs.CheckLaws.{after_zero, word_whole}
 use Rattle.pdh_g706.proofs.held.counted.Goals as goal

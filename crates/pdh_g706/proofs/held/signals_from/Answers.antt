@@ -1,6 +1,5 @@
-use Rattle.std.proofs.Common.{◌≡◌, ◌+◌, ◌<◌, ◌++◌, ℕ, Bool, false, List, length, map, get_or, take, drop, sym, ◌∙◌, ap, refl, arith, length-append, length-drop}
+use Rattle.std.proofs.Common.{◌≡◌, ◌+◌, ◌++◌, Bool, false, List, length, map, get_or, take, drop, sym, ◌∙◌, ap, arith, length-drop}
 use Rattle.std.specs.Bool.{beq}
-use Rattle.std.specs.List.{range_with_len}
 use Rattle.std.proofs.lemmas.List.{length-map, length-take-le}
 use Rattle.std.proofs.lemmas.List.FromFn.{length-map-range_with_len}
 use Rattle.pdh_g706.proofs.SignalLaws.{read_long, moved_on, signal_bit, stands_so_far, stand_more, stand_all}

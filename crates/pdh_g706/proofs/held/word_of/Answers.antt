@@ -1,4 +1,4 @@
-use Rattle.std.proofs.Common.{◌≡◌, refl, ◌∙◌, arith}
+use Rattle.std.proofs.Common.{refl, ◌∙◌, arith}
 use Rattle.pdh_g706.proofs.CheckLaws.{word_more, word_all}
 use Rattle.pdh_g706.proofs.held.word_of.Goals as goal
 

@@ -8,23 +8,23 @@ use Rattle.pdh_interleaving.proofs.turns.rows_of.Goals as goal
 abbrev IsByte : List ℕ → ℕ → List ℕ → ℕ → Type 0
 IsByte words place bytes j = take 8 (bits_of_byte (get_or bytes j 0)) ≡ take 8 (drop place (low_bits 64 (get_or words j 0)))
 
-pub returns-in-len4 : goal.returns-in-len4
-returns-in-len4 c =
+pub returns-then-words-eq4 : goal.returns-then-words-eq4
+returns-then-words-eq4 c =
     let words = c.args.words.now in
     let place = c.args.place in
-    let bytes : List ℕ = c.byte_at.result ∷ c.byte_at-in-len4.result ∷ c.byte_at-in-len4-2.result ∷ c.byte_at-in-len4-3.result ∷ [] in
-    let many : 4 ≡ length words = omega (arith, c.in-len4) in
-    c.of.ensures.bits ∙ ap (low_bits 32) c.from.ensures ∙ c.interleave4.ensures
+    let bytes : List ℕ = c.byte_at.result ∷ c.byte_at-then-words-eq4.result ∷ c.byte_at-then-words-eq4-2.result ∷ c.byte_at-then-words-eq4-3.result ∷ [] in
+    let many : 4 ≡ length words = omega (arith, c.if-words-eq4.true) in
+    c.of.ensures.bits ∙ ap (low_bits 32) c.from.ensures ∙ c.interleave4-four.ensures
     ∙ made_alike bits_of_byte (λ (word : ℕ). drop place (low_bits 64 word)) bytes words 8 0 0 many
-    (each_of_four (IsByte words place bytes) c.byte_at.ensures c.byte_at-in-len4.ensures c.byte_at-in-len4-2.ensures c.byte_at-in-len4-3.ensures)
+    (each_of_four (IsByte words place bytes) c.byte_at.ensures c.byte_at-then-words-eq4.ensures c.byte_at-then-words-eq4-2.ensures c.byte_at-then-words-eq4-3.ensures)
 
-pub returns-in-len7 : goal.returns-in-len7
-returns-in-len7 c =
+pub returns-else-words-eq4 : goal.returns-else-words-eq4
+returns-else-words-eq4 c =
     let words = c.args.words.now in
     let place = c.args.place in
     let bytes : List ℕ =
-    c.byte_at-in-len7.result ∷ c.byte_at-in-len7-2.result ∷ c.byte_at-in-len7-3.result ∷ c.byte_at-in-len7-4.result ∷ c.byte_at-in-len7-5.result ∷ c.byte_at-in-len7-6.result ∷ c.byte_at-in-len7-7.result ∷ [] in
-    let many : 7 ≡ length words = omega (arith, c.in-len7) in
-    c.of-in-len7.ensures.bits ∙ c.interleave7.ensures.bits
+    c.byte_at-else-words-eq4.result ∷ c.byte_at-else-words-eq4-2.result ∷ c.byte_at-else-words-eq4-3.result ∷ c.byte_at-else-words-eq4-4.result ∷ c.byte_at-else-words-eq4-5.result ∷ c.byte_at-else-words-eq4-6.result ∷ c.byte_at-else-words-eq4-7.result ∷ [] in
+    let many : 7 ≡ length words = grind (arith, c.requires.tributaries, c.if-words-eq4.false) in
+    c.of-else-words-eq4.ensures.bits ∙ c.interleave7-seven.ensures.bits
     ∙ made_alike bits_of_byte (λ (word : ℕ). drop place (low_bits 64 word)) bytes words 8 0 0 many
-    (each_of_seven (IsByte words place bytes) c.byte_at-in-len7.ensures c.byte_at-in-len7-2.ensures c.byte_at-in-len7-3.ensures c.byte_at-in-len7-4.ensures c.byte_at-in-len7-5.ensures c.byte_at-in-len7-6.ensures c.byte_at-in-len7-7.ensures)
+    (each_of_seven (IsByte words place bytes) c.byte_at-else-words-eq4.ensures c.byte_at-else-words-eq4-2.ensures c.byte_at-else-words-eq4-3.ensures c.byte_at-else-words-eq4-4.ensures c.byte_at-else-words-eq4-5.ensures c.byte_at-else-words-eq4-6.ensures c.byte_at-else-words-eq4-7.ensures)

@@ -1,5 +1,4 @@
 use Rattle.std.proofs.Common.{sym, ap, subst, ◌∙◌}
-use Rattle.pdh_blocks.specs.State.{PortState, over}
 use Rattle.pdh_ops.specs.PortFiles.{HasFiles}
 use Rattle.pdh_ops.specs.Running.{IsGiven}
 use Rattle.pdh_ops.proofs.PortOpen.{has_files}

@@ -39,8 +39,8 @@ loop-row-preserved c =
     c.args.to (part_even _ _ _ _ c.part_of-part.result part) c.loop-row.invariant never' in
     subst (λ n. NoStart (gains c.args.bound c.args.low cs) (losses c.args.bound c.args.low cs) c.args.to n) (sym part.ends) more
 
-pub unreachable-requires : goal.unreachable-requires
-unreachable-requires c =
+pub returns : goal.returns
+returns c =
     let t = c.args.table.now in
     let cs = node_counts (rows_of t) c.args.trib in
     let end : slice_index t.firsts.items c.loop-row.row ≡ node_frame_count (rows_of t) =

@@ -1,5 +1,5 @@
-use Rattle.std.proofs.Common.{◌≡◌, ◌≤◌, ◌-◌}
-use Rattle.pdh_script.specs.Applying.{Passes}
+use Rattle.std.proofs.Common.{◌≡◌, ◌≤◌, ◌-◌, Ok}
+use Rattle.pdh_script.specs.Applying.{Passes, PassesSo}
 use Rattle.pdh_script.specs.Stored.{becomes}
 use Rattle.pdh_script.proofs.passing.pass.Given as goal
 
@@ -8,10 +8,7 @@ abbrev pub invariant-loop-passed : goal.invariant-loop-passed
 invariant-loop-passed g l = record {
   within : l.passed ≤ l.bits;
   capacity : l.buffer.capacity ≡ l.fn.buffer.capacity;
-  kept : g.P.Port.kept l.fn.port l.port;
-  reads : g.P.Feed.feed_faults l.port ≡ g.P.Feed.feed_faults l.fn.port;
-  writes : g.P.Drain.drain_faults l.port ≡ g.P.Drain.drain_faults l.fn.port;
-  passes : Passes (becomes l.effect) l.passed (g.P.Feed.inputs l.fn.port) (g.P.Feed.inputs l.port) (g.P.Drain.outputs l.fn.port) (g.P.Drain.outputs l.port);
+  passes : PassesSo {T = Unit {0}} g.P.Feed g.P.Drain g.P.Port.kept (Passes (becomes l.effect) l.passed) (becomes l.effect) l.bits l.fn.port l.port (Ok tt);
 }
 
 abbrev pub decreases-loop-passed : goal.decreases-loop-passed

@@ -7,11 +7,11 @@ use Rattle.pdh_show.proofs.reading.pass_over.Goals as goal
 pub loop-passed-preserved : goal.loop-passed-preserved
 loop-passed-preserved g c =
     let inv = c.loop-passed.invariant in
-    let ok = c.in-Ok.ensures in
+    let ok = c.in_ok-take_bits.ensures in
     record {
-      within = omega (arith, inv.within, c.loop-passed-test.true, ok.count, c.min-most.ensures);
+      within = omega (arith, inv.within, c.loop-passed-test.true, c.min-most.ensures);
       capacity = ok.grown.capacity ∙ ap (λ (b : BoundedBits). b.capacity) c.clear.ensures ∙ inv.capacity;
-      takes = some_more c.loop-passed.passed c.in-Ok.count (gained c.clear.new.self c.bits.new.into) _ _ _ ok.grown.count inv.takes ok.ok;
+      takes = some_more c.loop-passed.passed c.min-most.result (gained c.clear.new.self c.take_bits.new.into) _ _ _ ok.ok inv.takes ok.takes;
       unfailed = ok.cause ∙ inv.unfailed;
       fed = g.met.F.Feed.fed_join _ _ _ inv.fed ok.fed;
     }

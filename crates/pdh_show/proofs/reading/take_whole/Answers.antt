@@ -1,17 +1,18 @@
-use Rattle.std.proofs.Common.{length, length-append, ap, ◌∙◌, arith}
+use Rattle.std.proofs.Common.{◌≡◌, List, Bool, length, sym, ap, ◌∙◌, subst}
+use Rattle.std.proofs.lemmas.Result.{on_ok_weaker}
+use Rattle.pdh_bits.specs.BitOut.{BoundedBits}
 use Rattle.pdh_packed.specs.Gaining.{gained}
-use Rattle.pdh_show.proofs.Taking.{takes_grown}
+use Rattle.pdh_edge.specs.Ports.{Takes, for_leaf}
+use Rattle.pdh_chain.proofs.Lists.{gained_whole}
 use Rattle.pdh_show.proofs.reading.take_whole.Goals as goal
 
-pub loop-taken-preserved : goal.loop-taken-preserved
-loop-taken-preserved g c =
-    let inv = c.loop-taken.invariant in
-    let ok = c.in-Ok.ensures in
-    record {
-      within = omega (arith, inv.within, inv.capacity, c.loop-taken-test.true, ok.count, c.capacity.ensures, c.capacity-in-loop-taken.ensures);
-      capacity = ok.grown.capacity ∙ inv.capacity;
-      count = omega (arith, ap length ok.grown.bits, length-append c.loop-taken.held.bits (gained c.loop-taken.held c.bits.new.into), ok.grown.count, inv.count);
-      takes = takes_grown c.loop-taken.held c.bits.new.into c.in-Ok.count _ _ _ inv.takes ok.grown ok.ok;
-      unfailed = ok.cause ∙ inv.unfailed;
-      fed = g.met.F.Feed.fed_join _ _ _ inv.fed ok.fed;
-    }
+pub returns-clause-ok : goal.returns-clause-ok
+returns-clause-ok g c =
+    let whole : gained c.clear.new.self c.take_bits.new.into ≡ c.take_bits.new.into.bits = gained_whole c.clear.new.self c.take_bits.new.into (ap (λ (b : BoundedBits). b.bits) c.clear.ensures) in
+    let takes = subst (λ (bits : List Bool). Takes (for_leaf 0 bits) (g.F.Feed.inputs c.args.feed.now) (g.F.Feed.inputs c.take_bits.new.feed)) whole c.take_bits.ensures.takes in
+    on_ok_weaker c.take_bits.result (λ count. takes) c.take_bits.ensures.ok
+
+pub returns-clause-full : goal.returns-clause-full
+returns-clause-full g c =
+    let whole : gained c.clear.new.self c.take_bits.new.into ≡ c.take_bits.new.into.bits = gained_whole c.clear.new.self c.take_bits.new.into (ap (λ (b : BoundedBits). b.bits) c.clear.ensures) in
+    on_ok_weaker c.take_bits.result (λ count. ap length (sym whole) ∙ count ∙ c.capacity.ensures ∙ ap (λ (b : BoundedBits). b.capacity) c.clear.ensures) c.take_bits.ensures.ok

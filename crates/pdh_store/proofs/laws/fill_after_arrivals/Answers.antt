@@ -1,22 +1,16 @@
-use Rattle.std.proofs.Common.{◌<◌, arith}
+use Rattle.std.proofs.Common.{ℕ, ◌≤◌, ◌<◌, arith}
+use Rattle.pdh_line.specs.Sending.{fill_arrived}
+use Rattle.pdh_line.specs.Tolerance.{IsWithin, least_inside, most_inside}
 use Rattle.pdh_line.proofs.SendingLaws.{has_stores}
 use Rattle.pdh_line.proofs.FillBounds.{fill-arrivals}
 use Rattle.pdh_store.proofs.laws.fill_after_arrivals.Goals as goal
 
-pub returns-clause-least : goal.returns-clause-least
-returns-clause-least g c counts frames trib frame slot within known scheduled h =
-    let s = g.S.Shape.shape in
-    let laws = g.met.S.Shape in
-    let stores = has_stores s.copies (omega (arith, c.requires, laws.copies_is)) in
-    let known' : trib < s.tribs = omega (arith, laws.tribs_is) in
-    let h' : slot < s.len = omega (arith, laws.len_is) in
-    (fill-arrivals s trib counts frames frame slot laws.is_frame laws.has_tributaries stores laws.reads_evenly known' within scheduled h').0
-
-pub returns-clause-most : goal.returns-clause-most
-returns-clause-most g c counts frames trib frame slot within known scheduled h =
-    let s = g.S.Shape.shape in
-    let laws = g.met.S.Shape in
-    let stores = has_stores s.copies (omega (arith, c.requires, laws.copies_is)) in
-    let known' : trib < s.tribs = omega (arith, laws.tribs_is) in
-    let h' : slot < s.len = omega (arith, laws.len_is) in
-    (fill-arrivals s trib counts frames frame slot laws.is_frame laws.has_tributaries stores laws.reads_evenly known' within scheduled h').1
+pub returns : goal.returns
+returns g c = record { least = λ n f j k t w j' k' t'. (inside n f j k t w j' k' t').0; most = λ n f j k t w j' k' t'. (inside n f j k t w j' k' t').1 }
+  where
+    inside : (counts : ℕ → ℕ) (frames trib frame slot : ℕ) → IsWithin g.S.Shape.shape counts frames → trib < g.S.Shape.TRIBS → frame < frames → slot < g.S.Shape.LEN
+        → (least_inside ≤ fill_arrived g.S.Shape.shape trib counts frame slot) × (fill_arrived g.S.Shape.shape trib counts frame slot ≤ most_inside)
+    inside counts frames trib frame slot within known scheduled h =
+        let laws = g.met.S.Shape in
+        let stores = has_stores g.S.Shape.shape.copies (omega (arith, c.requires, laws.copies_is)) in
+        fill-arrivals g.S.Shape.shape trib counts frames frame slot laws.is_frame laws.has_tributaries stores laws.reads_evenly (omega (arith, laws.tribs_is)) within scheduled (omega (arith, laws.len_is))

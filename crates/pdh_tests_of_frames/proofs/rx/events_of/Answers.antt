@@ -1,16 +1,7 @@
-use Rattle.std.proofs.Common.{arith, ap, sym, ◌∙◌}
-use Rattle.std.proofs.lemmas.Bool.{lt-ltb}
-use Rattle.pdh_edge.specs.Ports.{Outputs}
+use Rattle.std.proofs.Common.{ap}
 use Rattle.pdh_rx.specs.Meaning.{Meaning}
-use Rattle.pdh_tests_of_frames.proofs.FourTails.{leaf_below}
+use Rattle.pdh_tests_of_frames.proofs.FourTails.{lists_for_all}
 use Rattle.pdh_tests_of_frames.proofs.rx.events_of.Goals as goal
 
-pub room-requires : goal.room-requires
-room-requires c = record {
-  held = ap (λ (o : Outputs). o.holds c.loop-leaf.leaf) c.loop-leaf.invariant ∙ ap (λ (o : Outputs). o.holds c.loop-leaf.leaf) c.in_ok-port.ensures.outputs ∙ lt-ltb c.loop-leaf.leaf 4 (omega arith);
-}
-
 pub receive-requires-clause-lists : goal.receive-requires-clause-lists
-receive-requires-clause-lists c k leaf =
-    let less = leaf_below k (ap (λ (m : Meaning). m.leaves k) (sym c.in_ok-node.ensures.meaning) ∙ leaf) in
-    ap (λ (o : Outputs). o.holds k) c.loop-leaf.invariant ∙ ap (λ (o : Outputs). o.holds k) c.in_ok-port.ensures.outputs ∙ lt-ltb k 4 less
+receive-requires-clause-lists c = lists_for_all _ _ (ap (λ (m : Meaning). m.leaves) c.in_ok-node.ensures.meaning) c.in_ok-port.ensures

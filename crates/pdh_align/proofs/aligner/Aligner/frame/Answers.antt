@@ -1,26 +1,17 @@
-use Rattle.std.proofs.Common.{◌≡◌, ◌+◌, ◌-◌, ◌*◌, ◌<◌, false, length, ap, ◌∙◌, arith}
+use Rattle.std.proofs.Common.{◌+◌, false, length, ap, ◌∙◌, arith}
 use Rattle.std.specs.List.{slice_index_or}
-use Rattle.pdh_align.specs.Aligning.{frame_back}
-use Rattle.pdh_align.specs.View.{ready_of}
-use Rattle.pdh_align.proofs.ReadyFrames.{ready_within, ready_bit}
+use Rattle.pdh_align.specs.Aligning.{Held}
+use Rattle.pdh_align.proofs.ReadyFrames.{ready_told, ready_bit, same_start}
 use Rattle.pdh_align.proofs.aligner.Aligner.frame.Goals as goal
 
 pub overflow_sub-held : goal.overflow_sub-held
 overflow_sub-held g c =
-    let ready : ready_of g.S.Shape.LEN c.self.inside.fresh c.self.inside.held.bits ≡ c.args.self.now.ready = ap (λ x. x.ready) c.self.view_is in
-    let lt : c.args.back < length (ready_of g.S.Shape.LEN c.self.inside.fresh c.self.inside.held.bits) = rw ready c.requires.ready in
-    let some : 0 < g.S.Shape.LEN = omega (arith, g.met.S.Shape.len_is, g.met.S.Shape.is_frame.some_slots) in
-    rw (c.LEN.ensures, c.from.ensures, c.held.ensures.count) (ready_within g.S.Shape.LEN c.self.inside.fresh c.self.inside.held.bits c.args.back some c.self.invariant.whole lt)
+    let told = ready_told g.S.Shape.LEN c.self.inside.fresh c.self.inside.held.bits c.args.self.now.ready c.args.back (omega (arith, g.met.S.Shape.len_is, g.met.S.Shape.is_frame.some_slots)) c.self.invariant.whole (ap (λ (x : Held). x.ready) c.self.view_is) c.requires.ready in
+    rw (c.LEN.ensures, c.from.ensures, c.held.ensures.count) told.0
 
 pub returns : goal.returns
 returns g c =
     let len = g.S.Shape.LEN in
     let items = c.self.inside.held.bits in
-    let ready : ready_of len c.self.inside.fresh items ≡ c.args.self.now.ready = ap (λ x. x.ready) c.self.view_is in
-    let lt : c.args.back < length (ready_of len c.self.inside.fresh items) = rw ready c.requires.ready in
-    let some : 0 < len = omega (arith, g.met.S.Shape.len_is, g.met.S.Shape.is_frame.some_slots) in
-    let start : c.held.result - (c.from.result + 1) * c.LEN.result ≡ length items - (c.args.back + 1) * len =
-    ap (λ n. n - (c.from.result + 1) * c.LEN.result) c.held.ensures.count ∙ ap (λ n. length items - (n + 1) * c.LEN.result) c.from.ensures ∙ ap (λ n. length items - (c.args.back + 1) * n) c.LEN.ensures in
-    c.bit.ensures ∙ ap (λ n. slice_index_or items (n + c.args.slot) false) start
-    ∙ ready_bit len c.self.inside.fresh items c.args.back c.args.slot some c.self.invariant.whole lt c.requires.in_frame
-    ∙ ap (λ r. slice_index_or (frame_back r c.args.back) c.args.slot false) ready
+    c.bit.ensures ∙ ap (λ n. slice_index_or items (n + c.args.slot) false) (same_start c.held.result (length items) c.from.result c.args.back c.LEN.result len c.held.ensures.count c.from.ensures c.LEN.ensures)
+    ∙ ready_bit len c.self.inside.fresh items c.args.self.now.ready c.args.back c.args.slot (omega (arith, g.met.S.Shape.len_is, g.met.S.Shape.is_frame.some_slots)) c.self.invariant.whole (ap (λ (x : Held). x.ready) c.self.view_is) c.requires.ready c.requires.in_frame

@@ -1,4 +1,5 @@
 use Rattle.std.proofs.Common.{◌≡◌, ℕ, List, [], ◌+◌, ◌*◌, ap, ◌∙◌, length, arith, is_some}
+use Rattle.pdh_shape.specs.OwnNumbers.{lead}
 use Rattle.pdh_line.specs.Paths.{steps_of}
 use Rattle.pdh_line.specs.Progress.{arrived}
 use Rattle.pdh_line.specs.Nodes.{begun_at}
@@ -78,6 +79,6 @@ returns c =
     let found = is_found c.args.self.now.levels.items c.deref.result.now c.args.leaf c.leaf_place-place.result.node c.leaf_place-place.result.trib c.requires.tree.levels_are c.requires.leaf c.deref.ensures.value c.leaf_place-place.ensures.node c.leaf_place-place.ensures.trib in
     let sum : c.from-3.result ≡ arrived (counts (rows_in tree) path trib) c.begun-begun.result =
     c.from-3.ensures ∙ c.total.ensures ∙ ap (λ f. arrived f c.begun-begun.result) (same_counts tree path c.table_of-table.result.now trib c.from-2.result c.table_of-table.ensures.frames c.from-2.ensures) in
-    entered_is tree.levels.items (rows_in tree) (c.args.top_frames * top_len tree.levels.items) c.args.leaf c.begun-begun.result (24 + c.from-3.result) node trib c.level_of-level.result found
+    entered_is tree.levels.items (rows_in tree) (c.args.top_frames * top_len tree.levels.items) c.args.leaf c.begun-begun.result (lead + c.from-3.result) node trib c.level_of-level.result found
     c.level_of-level.ensures (begun_is (contents_of tree) c.args.top_frames c.begun-begun.result path c.begun-begun.ensures)
     (enter_some c.level_of-level.result (counts (rows_in tree) path trib) c.begun-begun.result c.from-3.result c.if-level.false c.if-begun-eq0.false sum)

@@ -1,4 +1,4 @@
-use Rattle.std.proofs.Common.{◌≡◌, Bool, List, ◌++◌, map, sym, ap, ◌∙◌, subst, Some}
+use Rattle.std.proofs.Common.{◌≡◌, Bool, List, ◌++◌, map, sym, ◌∙◌, subst}
 use Rattle.pdh_shape.specs.declared.role.Duty.TheVariants.{Feac}
 use Rattle.pdh_watch.specs.declared.event.Event.{Event}
 use Rattle.pdh_cbit.specs.Channel.{HasReceived}
@@ -18,7 +18,7 @@ returns-clause-remembers g c pieces is =
     let s = g.S.Shape.shape in
     let frame = c.args.frame.now.bits in
     let bits : bits_at c.deref.result.now frame ≡ duty_bits s Feac frame = bits_are s Feac c.deref.result.now frame (c.deref.ensures.value ∙ c.self.invariant.feac_are) in
-    remembers_more s c.args.self.now _ pieces frame c.alarm_after-alarm.ensures (ap Some c.requires.odd)
+    remembers_more s c.args.self.now _ pieces frame c.alarm_after-alarm.ensures c.requires.odd
     (λ before received. subst (λ more. HasReceived c.note_codes.new.channel (before ++ more)) bits (c.note_codes.ensures.received before (subst (λ kept. HasReceived kept.channel before) (sym c.self.view_is) received)))
     is
 

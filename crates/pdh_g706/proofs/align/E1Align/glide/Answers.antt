@@ -1,8 +1,7 @@
-use Rattle.std.proofs.Common.{◌≡◌, ℕ, ◌≤◌, ◌-◌, ◌^◌, Bool, List, length, take, drop, ap, sym, ◌∙◌, subst, arith, length-drop}
-use Rattle.std.specs.Prelude.{min}
+use Rattle.std.proofs.Common.{◌≡◌, length, take, drop, ap, sym, subst, arith, length-drop}
 use Rattle.std.proofs.lemmas.List.{length-take-le}
 use Rattle.pdh_g706.specs.declared.align.E1Align.{E1Align}
-use Rattle.pdh_g706.specs.Machine.{Phase, Waits}
+use Rattle.pdh_g706.specs.Machine.{Waits}
 use Rattle.pdh_g706.specs.View.{phase}
 use Rattle.pdh_g706.proofs.GlideLaws.{waits_far, waits_quiet, waits_stands}
 use Rattle.pdh_g706.proofs.align.E1Align.glide.Goals as goal

@@ -1,4 +1,4 @@
-use Rattle.std.proofs.Common.{◌≡◌, ℕ, ◌-◌, ◌++◌, Bool, List, length, take, drop, ap, ◌∙◌, arith}
+use Rattle.std.proofs.Common.{◌≡◌, ℕ, ◌-◌, ◌++◌, length, take, drop, ap, ◌∙◌, arith}
 use Rattle.pdh_bits.specs.BitOut.{BoundedBits}
 use Rattle.pdh_g706.specs.Machine.{last_bits}
 use Rattle.pdh_g706.proofs.GlideLaws.{held_in_frames, held_in_search}

@@ -1,4 +1,4 @@
-use Rattle.std.proofs.Common.{◌≡◌, ◌<◌, ◌≤◌, Bool, List, length, arith}
+use Rattle.std.proofs.Common.{◌<◌, length, arith}
 use Rattle.pdh_g706.specs.declared.stage.Stage.TheVariants as stages
 use Rattle.pdh_g706.specs.Machine.{Fits}
 use Rattle.pdh_g706.specs.Machine.Phase.{Searching}

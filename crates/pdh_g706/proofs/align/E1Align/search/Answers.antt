@@ -1,4 +1,4 @@
-use Rattle.std.proofs.Common.{Bool, cond, drop, refl, ap, ◌∙◌, arith}
+use Rattle.std.proofs.Common.{cond, drop, refl, ap, ◌∙◌, arith}
 use Rattle.pdh_bits.specs.BitOut.{BoundedBits}
 use Rattle.pdh_g706.specs.Machine.{still}
 use Rattle.pdh_g706.specs.Machine.Phase.{Searching, Aligned}

@@ -1,14 +1,13 @@
-use Rattle.std.proofs.Common.{◌≡◌, ◌<◌, ◌+◌, ◌∷◌, [], ◌++◌, Bool, false, List, length, get_or, take, drop, refl, sym, ap, ◌∙◌, subst, arith}
+use Rattle.std.proofs.Common.{◌≡◌, ◌<◌, ◌+◌, ◌∷◌, [], ◌++◌, Bool, false, List, length, take, drop, refl, sym, ap, ◌∙◌, subst, arith}
 use Rattle.std.proofs.Math.Seq.{take-add}
 use Rattle.std.proofs.lemmas.List.{take_more, take_all}
 use Rattle.std.proofs.lemmas.Result.{err_from_is_err_and}
 use Rattle.pdh_edge.proofs.Runs.{cause_since}
 use Rattle.pdh_watch.specs.Seen.{SawPart}
-use Rattle.pdh_g706.specs.declared.align.E1Align.{E1Align}
 use Rattle.pdh_events.specs.Chain.{bits_events}
 use Rattle.pdh_g706.specs.Events.{e1_bit_events}
 use Rattle.pdh_g706.specs.View.{StandsFor, Gains, GainsPart}
-use Rattle.pdh_g706.proofs.TakeLaws.{Takes, takes_quiet, takes_bit, takes_join, fails_puts, fails_seen}
+use Rattle.pdh_g706.proofs.TakeLaws.{takes_quiet, takes_bit, takes_join, fails_puts, fails_seen}
 use Rattle.pdh_g706.proofs.align.E1Align.take.Goals as goal
 
 pub loop-done-init : goal.loop-done-init

@@ -1,5 +1,4 @@
 use Rattle.std.proofs.Common.{◌≡◌, ◌-◌, ◌≤◌, length, take}
-use Rattle.pdh_g706.specs.View.{StandsFor}
 use Rattle.pdh_g706.proofs.TakeLaws.{Takes}
 use Rattle.pdh_g706.proofs.align.E1Align.take.Given as goal
 

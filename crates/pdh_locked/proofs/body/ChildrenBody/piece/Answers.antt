@@ -1,4 +1,4 @@
-use Rattle.std.proofs.Common.{◌≡◌, ◌+◌, ◌≤◌, ℕ, List, Bool, length, map, sym, ◌∙◌, subst, arith}
+use Rattle.std.proofs.Common.{◌≡◌, ◌+◌, ◌<◌, ◌≤◌, ℕ, List, Bool, length, map, sym, ◌∙◌, subst, arith}
 use Rattle.std.specs.Prelude.{All}
 use Rattle.std.proofs.lemmas.List.{length-map}
 use Rattle.pdh_bits.specs.BitOut.{BoundedBits}
@@ -14,7 +14,7 @@ use Rattle.pdh_tx.proofs.Gaining.{on_err_from}
 use Rattle.pdh_tx.proofs.Moving.{inside}
 use Rattle.pdh_tx.proofs.PassingAll.{rows_all}
 use Rattle.pdh_locked.specs.Children.{meanings, columns, HaveMade, HaveFilled, FillOn}
-use Rattle.pdh_locked.proofs.Clearing.{passable, begins}
+use Rattle.pdh_locked.proofs.Clearing.{passable, scheduled}
 use Rattle.pdh_locked.proofs.Filled.{upto_none, filled_gives}
 use Rattle.pdh_locked.proofs.body.ChildrenBody.piece.Goals as goal
 
@@ -33,24 +33,20 @@ fill_all-requires-clause-clear g c j m maker =
     let known = inside (meanings cs) j m maker in
     passable g.C.Tx g.S.Shape.shape c.args.at.path (plan_of c.args.clock.now) cs.list.items c.args.at.frame c.args.at.slot c.args.at.len _ c.requires.clear j m cs.disjoint (omega (arith, known, length-map cs.list.items g.C.Tx.meaning, cs.count, g.met.S.Shape.tribs_is)) maker
 
-pub returns-in_err-fill_all-in-Ok-clause-halts : goal.returns-in_err-fill_all-in-Ok-clause-halts
-returns-in_err-fill_all-in-Ok-clause-halts g c =
+pub returns-in_err-fill_all-clause-halts : goal.returns-in_err-fill_all-clause-halts
+returns-in_err-fill_all-clause-halts g c =
     let s : FrameShape = g.S.Shape.shape in
     let f : ℕ → ℕ = locked_to s c.args.at.frame c.args.at.slot in
     let f' : ℕ → ℕ = locked_to s c.args.at.frame (c.args.at.slot + c.args.at.len) in
     let P : (ℕ → ℕ) → Type 0 = λ made. Stays (meanings c.args.self.now) (plan_of c.args.clock.now) made f' Failed (g.F.Feed.inputs c.args.feed.now) (g.F.Feed.inputs c.fill_all.new.feed) in
-    on_err_from c.from_residual.result (subst P (upto_none f f') c.in_err-fill_all-in-Ok.ensures.halts)
+    on_err_from c.from_residual.result (subst P (upto_none f f') c.in_err-fill_all.ensures.halts)
 
 pub assemble-requires-clause-rows : goal.assemble-requires-clause-rows
 assemble-requires-clause-rows g c =
     let new = c.fill_all.new.self in
     let P : List BoundedBits → Type 0 = λ columns. All (λ column. length column.bits ≡ rows g.S.Shape.shape c.args.at.slot c.args.at.len) columns in
-    subst P (sym c.deref-in-Ok-2.ensures.value)
-    (rows_all g.S.Shape.shape c.args.at.slot c.args.at.len new.scratch.columns.items (subst (λ (k : ℕ). HasRows g.S.Shape.shape c.args.at.slot c.args.at.len (columns new) k) (sym new.room.count) c.in_ok-fill_all-in-Ok.ensures.ok.rows))
-
-pub unreachable-requires : goal.unreachable-requires
-unreachable-requires g c =
-    begins g.C.Tx g.S.Shape.shape c.args.at.path (plan_of c.args.clock.now) c.args.self.now.list.items c.args.at.frame c.args.at.slot c.args.at.len _ c.requires.clear _ c.requires.piece.some c.in-Err.ensures.met
+    subst P (sym c.deref-3.ensures.value)
+    (rows_all g.S.Shape.shape c.args.at.slot c.args.at.len new.scratch.columns.items (subst (λ (k : ℕ). HasRows g.S.Shape.shape c.args.at.slot c.args.at.len (columns new) k) (sym new.room.count) c.in_ok-fill_all.ensures.ok.rows))
 
 pub returns-clause-made : goal.returns-clause-made
 returns-clause-made g c =
@@ -62,17 +58,18 @@ returns-clause-made g c =
     let cs = c.args.self.now in
     let overhead = c.write_overhead.new.into in
     let new = c.fill_all.new.self in
-    let ok = c.in_ok-fill_all-in-Ok.ensures in
+    let ok = c.in_ok-fill_all.ensures in
     let bits : List Bool = gained c.args.into.now c.assemble.new.into in
     let inputs = g.F.Feed.inputs in
     let all : g.S.Shape.TRIBS ≡ s.tribs = sym g.met.S.Shape.tribs_is in
     let within : t + len ≤ s.len = omega (arith, c.requires.piece.inside, g.met.S.Shape.len_is) in
     let A : List Bool → List BoundedBits → Type 0 = λ overhead lists. Assembled s t len overhead (map (λ (column : BoundedBits). column.bits) lists) bits in
-    let assembled : A overhead.bits new.scratch.columns.items = subst (λ (overhead : BoundedBits). A overhead.bits new.scratch.columns.items) ok.kept.overhead (subst (A new.scratch.overhead.bits) c.deref-in-Ok-2.ensures.value c.assemble.ensures.assembled) in
+    let assembled : A overhead.bits new.scratch.columns.items = subst (λ (overhead : BoundedBits). A overhead.bits new.scratch.columns.items) ok.kept.overhead (subst (A new.scratch.overhead.bits) c.deref-3.ensures.value c.assemble.ensures.assembled) in
     let F : ℕ → Type 0 = λ k. FillOn cs new c.args.clock.now n t len 0 k (inputs c.args.feed.now) (inputs c.fill_all.new.feed) (λ source. HoldsBits s source n t len (columns new) k) in
     let fills = subst F all ok.ok.fills in
+    let begun : n < plan.frames c.args.at.path = scheduled g.C.Tx s c.args.at.path plan cs.list.items n t len _ c.requires.clear c.requires.piece.some c.requires.placed.scheduled in
     record {
       gives = filled_gives g.C.Tx s g.met.S.Shape.has_tributaries cs.locked c.args.at.path plan cs.list.items new.list.items n t (t + len) c.args.say.now c.args.odd len overhead.bits bits (columns new) _ _ (cs.count ∙ all) (new.count ∙ all) c.assemble.ensures.grown.count within
-          c.in-Ok.ensures.scheduled c.in-Ok.ensures.bounded c.write_overhead.ensures.bits assembled (subst (λ (k : ℕ). HaveFilled new c.args.clock.now n t len k) all ok.ok.placed) (fills c.args.at.path);
+          begun (omega (arith, begun, c.frames-fits.ensures)) c.write_overhead.ensures.bits assembled (subst (λ (k : ℕ). HaveFilled new c.args.clock.now n t len k) all ok.ok.placed) (fills c.args.at.path);
       odd_is = c.assemble.ensures.odd;
     }

@@ -40,8 +40,8 @@ append_bytes-requires c =
 pub take-requires-clause-list : goal.take-requires-clause-list
 take-requires-clause-list c = ap (λ (h : ℕ → Bool). h 0) c.loop-octets.invariant.3 ∙ first_holds c.requires.outputs
 
-pub unreachable-requires : goal.unreachable-requires
-unreachable-requires c =
+pub returns-in-Err-clause-unfailed : goal.returns-in-Err-clause-unfailed
+returns-in-Err-clause-unfailed c =
     let inv = c.loop-octets.invariant in
     let steps = c.in-Some.ensures.steps in
     let done : List ℕ = inv.6 in
@@ -59,7 +59,7 @@ unreachable-requires c =
     let same = puts_in_room mid new c.take.ensures.drained.4 (λ k held.
     let room = payload_in_room (bits_of done) all (room_of mid 0) k (mem_outputs c.args.port.now.outputs.items) (mem_outputs mid.outputs.items) (mem_outputs new.outputs.items) c.requires.outputs (c.take.ensures.drained.2 ∙ inv.3) inv.9 part some enough held in
     subst (λ i. bits_held (mem_outputs new.outputs.items) k < room_of mid i) (sym room.0) room.1) in
-    omega (arith, same, inv.5, c.in-Err.ensures.cause)
+    same ∙ inv.5
 
 pub loop-octets-preserved : goal.loop-octets-preserved
 loop-octets-preserved c =
@@ -71,19 +71,22 @@ loop-octets-preserved c =
     let before : Outputs = mem_outputs c.args.port.now.outputs.items in
     let now : Outputs = mem_outputs c.take.new.drain.outputs.items in
     let more : taken ++ c.append_bytes.new.self.bits ≡ bits_of (done ++ octets) = ap (λ (l : List Bool). taken ++ l) (appended c.append_bytes.new.self c.clear.new.self c.loop-octets.bits octets c.append_bytes.ensures c.clear.ensures) ∙ sym (bits_of-append done octets) in
-    let gains = gains_join [] taken (taken ++ c.append_bytes.new.self.bits) before (mem_outputs c.loop-octets.port.outputs.items) now inv.9 (c.in-Ok.ensures.put taken inv.8) in (
+    let gains = gains_join [] taken (taken ++ c.append_bytes.new.self.bits) before (mem_outputs c.loop-octets.port.outputs.items) now inv.9 (c.in_default.ensures.put taken inv.8) in (
       search rules,
       tt,
       steps.0 ∙ inv.2,
       c.take.ensures.drained.2 ∙ inv.3,
       c.take.ensures.drained.4.rooms 0 ∙ inv.4,
-      c.in-Ok.ensures.cause ∙ inv.5,
+      c.in_default.ensures.cause ∙ inv.5,
       done ++ octets,
       append_assoc done octets (chunks_rest c.next.new.self) ∙ ap (λ (l : List ℕ). done ++ l) (sym steps.1.0) ∙ inv.7,
-      subst (StandsFor c.take.new.self) more (c.in-Ok.ensures.stands taken inv.8),
+      subst (StandsFor c.take.new.self) more (c.in_default.ensures.stands taken inv.8),
       subst (λ (l : List Bool). Gains [] l before now) more gains,
       ap (λ (b : BoundedBits). b.capacity) c.append_bytes.ensures ∙ ap (λ (b : BoundedBits). b.capacity) c.clear.ensures ∙ inv.10,
     )
+
+pub returns-in-Err-clause-list : goal.returns-in-Err-clause-list
+returns-in-Err-clause-list c = ap (λ (h : ℕ → Bool). h 0) (c.take.ensures.drained.2 ∙ c.loop-octets.invariant.3) ∙ first_holds c.requires.outputs
 
 pub returns-clause-list : goal.returns-clause-list
 returns-clause-list c = ap (λ (h : ℕ → Bool). h 0) c.loop-octets.invariant.3 ∙ first_holds c.requires.outputs

@@ -1,29 +1,10 @@
-use Rattle.std.proofs.Common.{◌≡◌, ℕ, ◌+◌, ◌-◌, ◌++◌, Bool, List, take, drop, ap, sym, ◌∙◌, arith}
 use Rattle.pdh_packed.specs.Words.{low_bits}
-use Rattle.pdh_packed.proofs.PackedLaws.{taken_more}
-use Rattle.pdh_packed.proofs.BoundedLaws.{bits_grow}
+use Rattle.pdh_packed.proofs.BoundedLaws.{taken_grow, taken_last}
 use Rattle.pdh_packed.proofs.ring.BitRing.append_to.Goals as goal
 
 pub loop-done-preserved : goal.loop-done-preserved
 loop-done-preserved c =
-    let place = c.args.place in
-    let bits = c.args.self.now.bits in
-    let done = c.loop-done.done in
-    let mine = c.args.list.now.bits in
-    let word : List Bool = low_bits 64 c.read_whole.result in (
-      omega (arith, c.loop-done-test.true),
-      bits_grow c.args.list.now c.loop-done.list c.append_whole.new.self (mine ++ take done (drop place bits)) word (mine ++ take (done + 64) (drop place bits)) c.loop-done.invariant.1 c.append_whole.ensures
-          (taken_more mine bits word place done 64 c.read_whole.ensures),
-    )
+    taken_grow c.args.list.now c.loop-done.list c.append_whole.new.self c.args.self.now.bits (low_bits 64 c.read_whole.result) c.args.place c.loop-done.done 64 c.args.count c.loop-done.invariant.0 c.loop-done-test.true c.loop-done.invariant.1 c.append_whole.ensures c.read_whole.ensures
 
 pub returns : goal.returns
-returns c =
-    let place = c.args.place in
-    let count = c.args.count in
-    let bits = c.args.self.now.bits in
-    let done = c.loop-done.done in
-    let mine = c.args.list.now.bits in
-    let whole : done + (count - done) ≡ count = omega (arith, c.loop-done.invariant.0) in
-    let all : mine ++ take count (drop place bits) ≡ mine ++ take (done + (count - done)) (drop place bits) = ap (λ (n : ℕ). mine ++ take n (drop place bits)) (sym whole) in
-    bits_grow c.args.list.now c.loop-done.list c.append.new.self (mine ++ take done (drop place bits)) c.read.result (mine ++ take count (drop place bits)) c.loop-done.invariant.1 c.append.ensures
-    (all ∙ taken_more mine bits c.read.result place done (count - done) c.read.ensures)
+returns c = taken_last c.args.list.now c.loop-done.list c.append.new.self c.args.self.now.bits c.read.result c.args.place c.loop-done.done c.args.count c.loop-done.invariant.0 c.loop-done.invariant.1 c.append.ensures c.read.ensures

@@ -3,19 +3,18 @@ use Rattle.std.proofs.lemmas.List.{drop-drop}
 use Rattle.circular_buffer.specs.Buffer.{Buffer}
 use Rattle.pdh_packed.specs.Words.{bits_of_words}
 use Rattle.pdh_packed.proofs.PackedLaws.{bits_of_words_none, dropped_all, dropped_some}
-use Rattle.pdh_packed.proofs.BoundedLaws.{length-ring, bits_become}
+use Rattle.pdh_packed.proofs.BoundedLaws.{bits_become}
+use Rattle.pdh_packed.proofs.RingLaws.{length-ring}
 use Rattle.pdh_packed.proofs.ring.BitRing.drop_oldest.Goals as goal
 
 pub overflow_add-past : goal.overflow_add-past
 overflow_add-past c =
-    let words = c.self.inside.words in
-    let long = length-ring (64 * words.capacity) c.self.inside.dropped words.items c.self.inside.tail c.args.self.now c.self.view_is in
+    let long = length-ring c.self.inside c.args.self.now c.self.view_is in
     omega (arith, long.0, long.1, c.requires, c.self.invariant)
 
 pub after-self-inside-requires : goal.after-self-inside-requires
 after-self-inside-requires c =
-    let words = c.self.inside.words in
-    let long = length-ring (64 * words.capacity) c.self.inside.dropped words.items c.self.inside.tail c.args.self.now c.self.view_is in
+    let long = length-ring c.self.inside c.args.self.now c.self.view_is in
     omega (arith, long.0, long.1, c.requires, c.self.invariant, c.len-words.ensures.len)
 
 pub returns-then-past-words : goal.returns-then-past-words

@@ -1,5 +1,5 @@
 use Rattle.std.proofs.Common.{◌≡◌, ℕ, ◌-◌, drop, length, sym, ap, ◌∙◌, arith}
-use Rattle.pdh_packed.proofs.BitwiseLaws.{drop_past}
+use Rattle.pdh_packed.proofs.PackedLaws.{drop_past}
 use Rattle.pdh_packed.proofs.word.Word.shift_in.Goals as goal
 
 pub returns-then-count-len : goal.returns-then-count-len

@@ -1,22 +1,11 @@
-use Rattle.std.proofs.Common.{◌≡◌, ℕ, ◌^◌, ◌<◌, Bool, List, length, bit_xor, sym, ap, ◌∙◌, subst}
+use Rattle.std.proofs.Common.{length, bit_xor}
 use Rattle.std.proofs.lemmas.Nat.{xor_lt}
-use Rattle.pdh_packed.specs.Words.{low_bits}
 use Rattle.pdh_packed.specs.Places.{differing}
-use Rattle.pdh_packed.proofs.BitwiseLaws.{low_bits-xor}
+use Rattle.pdh_packed.proofs.BitwiseLaws.{low_bits-xor, words_make, words_small}
 use Rattle.pdh_packed.proofs.word.Word.xor.Goals as goal
 
 pub of-requires-clause-small : goal.of-requires-clause-small
-of-requires-clause-small c =
-    let n = c.number.result in
-    let m = c.number-2.result in
-    let other : m < 2 ^ length c.args.self.now = subst (λ (k : ℕ). m < 2 ^ k) (sym c.requires) c.number-2.ensures.small in
-    subst (λ (k : ℕ). bit_xor n m < 2 ^ k) (sym c.len.ensures.count) (xor_lt (length c.args.self.now) n m c.number.ensures.small other)
+of-requires-clause-small c = words_small bit_xor xor_lt c.len.result (length c.args.self.now) (length c.args.other) c.number.result c.number-2.result c.len.ensures.count c.requires c.number.ensures.small c.number-2.ensures.small
 
 pub returns : goal.returns
-returns c =
-    let n = c.number.result in
-    let m = c.number-2.result in
-    let count : c.len.result ≡ length c.args.self.now = c.len.ensures.count in
-    c.of.ensures.bits ∙ ap (λ (k : ℕ). low_bits k (bit_xor n m)) count ∙ low_bits-xor (length c.args.self.now) n m
-    ∙ ap (λ (x : List Bool). differing x (low_bits (length c.args.self.now) m)) c.number.ensures.bits
-    ∙ ap (differing c.args.self.now) (ap (λ (k : ℕ). low_bits k m) c.requires ∙ c.number-2.ensures.bits)
+returns c = words_make bit_xor differing low_bits-xor c.args.self.now c.args.other c.of.result c.len.result c.number.result c.number-2.result c.of.ensures.bits c.len.ensures.count c.requires c.number.ensures.bits c.number-2.ensures.bits

@@ -1,15 +1,12 @@
-use Rattle.std.proofs.Common.{rules, ◌≡◌, ◌<◌, ◌+◌, ℕ, suc, map, List, refl, sym, ◌∙◌, subst, arith, Err, Option}
-use Rattle.std.specs.Prelude.{flat_map}
-use Rattle.std.specs.List.{range_with_len}
-use Rattle.pdh_shape.specs.Frame.{FrameShape}
+use Rattle.std.proofs.Common.{rules, ◌≡◌, ◌<◌, ℕ, refl, ◌∙◌, arith, Err}
 use Rattle.pdh_shape.specs.OwnNumbers.{lead}
-use Rattle.pdh_tx.specs.declared.tx.TxStop.{TxStop}
-use Rattle.pdh_tx.specs.Meaning.{plan_of, Plan, Meaning}
+use Rattle.pdh_tx.specs.Meaning.{plan_of}
 use Rattle.pdh_tx.specs.Tributary.{placed_in, held_in, meaning_in}
-use Rattle.pdh_tx.specs.Node.{Advance, Blocked, led_to, lead_at}
+use Rattle.pdh_tx.specs.Tributaries.{meanings}
+use Rattle.pdh_tx.specs.Node.{led_to, lead_at}
 use Rattle.pdh_tx.proofs.Feeding.{still_fed}
 use Rattle.pdh_tx.proofs.Gaining.{if_err_from}
-use Rattle.pdh_tx.proofs.Advancing.{advance_none, loop_step, loop_stop}
+use Rattle.pdh_tx.proofs.Advancing.{advance_none, loop_step, loop_stop, loop_end}
 use Rattle.pdh_tx.proofs.tributaries.Tributaries.take_leads.Goals as goal
 
 pub loop-trib-init : goal.loop-trib-init
@@ -22,38 +19,19 @@ loop-trib-init g c = record {
 
 pub returns-in_err-take_lead-clause-err : goal.returns-in_err-take_lead-clause-err
 returns-in_err-take_lead-clause-err g c =
-    let s : FrameShape = g.S.Shape.shape in
-    let plan : Plan = plan_of c.args.clock.now in
-    let i : ℕ = c.loop-trib.trib in
-    let inv = c.loop-trib.invariant in
-    let ms : List Meaning = map (meaning_in g.C.Tx) c.args.self.now.list.items in
     let e : c.from_residual.result ≡ Err c.in_err-take_lead.field-0.0 = search rules in
-    let f : (ℕ → ℕ) → ℕ → List (Option TxStop) = λ size. lead_at plan ms size in
-    let P : List Meaning → Type 0 = λ v. Blocked v plan (led_to i) (λ (j : ℕ). lead) (λ size. lead_at plan v size i) c.in_err-take_lead.field-0.0
-    (g.F.Feed.inputs c.loop-trib.feed) (g.F.Feed.inputs c.take_lead.new.feed) (g.F.Feed.feed_faults c.loop-trib.feed) (g.F.Feed.feed_faults c.take_lead.new.feed) in
-    let inside : i < s.tribs = (let h = c.loop-trib-test.true in let k = g.met.S.Shape.tribs_is in omega arith) in
+    let inside : c.loop-trib.trib < g.S.Shape.shape.tribs = (let h = c.loop-trib-test.true in let k = g.met.S.Shape.tribs_is in omega arith) in
     if_err_from c.from_residual.result _ c.in_err-take_lead.field-0.0 e
-    (loop_stop (placed_in g.C.Tx) (held_in g.C.Tx) (meaning_in g.C.Tx) plan ms _ _ _ (led_to i) _ _ f i s.tribs _ _ _ _ _ _ _ inside inv.unfailed
-    inv.advance (subst P inv.same c.in_err-take_lead.ensures.err))
+    (loop_stop (placed_in g.C.Tx) (held_in g.C.Tx) (meaning_in g.C.Tx) (plan_of c.args.clock.now) led_to (λ (j : ℕ). 0) (lead_at (plan_of c.args.clock.now)) (meanings c.args.self.now) _ c.loop-trib.invariant.same _ _ c.loop-trib.trib _ _ c.loop-trib.invariant.advance
+    (λ (j : ℕ). lead) g.S.Shape.shape.tribs _ _ _ _ _ inside c.loop-trib.invariant.unfailed c.in_err-take_lead.ensures.err)
 
 pub loop-trib-preserved : goal.loop-trib-preserved
 loop-trib-preserved g c =
-    let s : FrameShape = g.S.Shape.shape in
-    let plan : Plan = plan_of c.args.clock.now in
-    let i : ℕ = c.loop-trib.trib in
     let inv = c.loop-trib.invariant in
     let ok = c.in_ok-take_lead.ensures in
-    let ms : List Meaning = map (meaning_in g.C.Tx) c.args.self.now.list.items in
-    let placed : _ → Plan → ℕ → ℕ → Type 0 = placed_in g.C.Tx in
-    let held : _ → _ → ℕ → ℕ → Type 0 = held_in g.C.Tx in
-    let e : suc i ≡ i + 1 = omega arith in
-    let f : (ℕ → ℕ) → ℕ → List (Option TxStop) = λ size. lead_at plan ms size in
-    let P : List Meaning → Type 0 = λ v. Advance placed held v plan c.loop-trib.self.list.items c.take_lead.new.self.list.items (led_to i) (led_to (suc i)) (λ (j : ℕ). 0)
-    (λ size. lead_at plan v size i) (g.F.Feed.inputs c.loop-trib.feed) (g.F.Feed.inputs c.take_lead.new.feed) in
-    let Q : ℕ → Type 0 = λ k. Advance placed held ms plan c.args.self.now.list.items c.take_lead.new.self.list.items (led_to 0) (led_to k) (λ (j : ℕ). 0)
-    (λ size. flat_map (f size) (range_with_len 0 k)) (g.F.Feed.inputs c.args.feed.now) (g.F.Feed.inputs c.take_lead.new.feed) in
     record {
-      advance = subst Q e (loop_step placed held (meaning_in g.C.Tx) plan ms _ _ _ (led_to 0) (led_to i) (led_to (suc i)) _ f i _ _ _ inv.advance (subst P inv.same ok.ok));
+      advance = loop_step (placed_in g.C.Tx) (held_in g.C.Tx) (meaning_in g.C.Tx) (plan_of c.args.clock.now) led_to (λ (j : ℕ). 0) (lead_at (plan_of c.args.clock.now)) (meanings c.args.self.now) _ c.loop-trib.invariant.same _ _ c.loop-trib.trib _ _ c.loop-trib.invariant.advance
+          _ _ ok.ok;
       unfailed = ok.fed.unfailed ∙ inv.unfailed;
       fed = g.met.F.Feed.fed_join _ _ _ inv.fed ok.fed.fed;
       same = ok.same ∙ inv.same;
@@ -61,16 +39,9 @@ loop-trib-preserved g c =
 
 pub returns-clause-ok : goal.returns-clause-ok
 returns-clause-ok g c =
-    let s : FrameShape = g.S.Shape.shape in
-    let plan : Plan = plan_of c.args.clock.now in
-    let placed : _ → Plan → ℕ → ℕ → Type 0 = placed_in g.C.Tx in
-    let held : _ → _ → ℕ → ℕ → Type 0 = held_in g.C.Tx in
-    let ms : List Meaning = map (meaning_in g.C.Tx) c.args.self.now.list.items in
     let end : c.loop-trib.trib ≡ g.S.Shape.TRIBS = (let a = c.loop-trib-test.false in let b = c.loop-trib.auto in omega arith) in
-    let Q : ℕ → ℕ → Type 0 = λ k l. Advance placed held ms plan c.args.self.now.list.items c.loop-trib.self.list.items (led_to 0) (led_to k) (λ (j : ℕ). 0)
-    (λ size. flat_map (lead_at plan ms size) (range_with_len 0 l)) (g.F.Feed.inputs c.args.feed.now) (g.F.Feed.inputs c.loop-trib.feed) in
-    let now : Q g.S.Shape.TRIBS g.S.Shape.TRIBS = subst (λ k. Q k k) end c.loop-trib.invariant.advance in
-    subst (Q g.S.Shape.TRIBS) (sym g.met.S.Shape.tribs_is) now
+    loop_end (placed_in g.C.Tx) (held_in g.C.Tx) (meaning_in g.C.Tx) (plan_of c.args.clock.now) led_to (λ (j : ℕ). 0) (lead_at (plan_of c.args.clock.now)) (meanings c.args.self.now) _ c.loop-trib.invariant.same _ _ c.loop-trib.trib _ _ c.loop-trib.invariant.advance
+    g.S.Shape.TRIBS g.S.Shape.shape.tribs end g.met.S.Shape.tribs_is
 
 pub take_lead-requires-clause-fed : goal.take_lead-requires-clause-fed
 take_lead-requires-clause-fed g c =

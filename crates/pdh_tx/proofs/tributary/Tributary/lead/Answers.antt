@@ -1,5 +1,6 @@
 use Rattle.std.proofs.Common.{rules, ◌≡◌, ◌<◌, ℕ, suc, ◌+◌, length, refl, Err, None, sym, ap, ◌∙◌, subst, arith, inl, inr}
 use Rattle.std.proofs.lemmas.Bool.{cases_lt}
+use Rattle.pdh_shape.specs.OwnNumbers.{lead, store_size}
 use Rattle.pdh_tx.specs.Meaning.{plan_of, Meaning, Fits, Met}
 use Rattle.pdh_tx.specs.Held.{Placed, Held, Gains, Halts, first_some, arrival}
 use Rattle.pdh_tx.proofs.Gaining.{gains_none, gains_join, gains_fit, halts_join, halts_more, arrival_none, lead_met, if_err_from}
@@ -25,13 +26,13 @@ returns-in_err-arrive-clause-err g c =
     let stop = c.in_err-arrive.field-0.0 in
     let stops = c.in_err-arrive.ensures.err i 0 inv.placed in
     let e : c.from_residual.result ≡ Err stop = search rules in
-    let few : length c.loop-taken.self.store < 48 = (let n = inv.placed.count in omega arith) in
+    let few : length c.loop-taken.self.store < store_size = (let n = inv.placed.count in omega arith) in
     let P : Meaning → Type 0 = λ v. Halts v plan i (suc i) stop (g.F.Feed.inputs c.loop-taken.feed) (g.F.Feed.inputs c.arrive.new.feed) in
     let Q : Meaning → Type 0 = λ v.
     Met (Fits v plan i (g.F.Feed.inputs c.loop-taken.feed)) (λ size. first_some (arrival v plan c.args.place size i (length c.loop-taken.self.store))) stop
     (g.F.Feed.feed_faults c.loop-taken.feed) (g.F.Feed.feed_faults c.arrive.new.feed) in
     if_err_from c.from_residual.result _ stop e (record {
-      halts = halts_more m plan 0 (suc i) 24 _ _ _ (λ n k. g.met.C.Tx.grows c.args.self.now.child plan n k) (omega arith) (halts_join m plan _ _ 0 i (suc i) 0 _ _ _ _ inv.gains (subst P inv.same stops.halts));
+      halts = halts_more m plan 0 (suc i) lead _ _ _ (λ n k. g.met.C.Tx.grows c.args.self.now.child plan n k) (omega arith) (halts_join m plan _ _ 0 i (suc i) 0 _ _ _ _ inv.gains (subst P inv.same stops.halts));
       met = lead_met m plan c.args.place _ _ i _ stop _ _ _ (omega arith) few inv.unfailed (λ size fits. gains_fit m plan _ _ 0 i 0 _ _ size inv.gains fits) inv.free (subst Q inv.same stops.met);
     })
 

@@ -3,6 +3,7 @@ use Rattle.pdh_blocks.specs.State.{over}
 use Rattle.pdh_answers.specs.declared.answer.Done.{Done}
 use Rattle.pdh_ops.specs.Commands.Demux.{demuxing}
 use Rattle.pdh_ops.specs.Running.{IsDone}
+use Rattle.pdh_ops.proofs.Stopping.{demux_kinds}
 use Rattle.pdh_ops.proofs.DemuxRun.{long, received_all, received_front, received_part, comes_some, comes_none}
 use Rattle.pdh_ops.proofs.commands.demux.DemuxPlan.receive.Goals as goal
 
@@ -39,35 +40,49 @@ returns-else-frames-eq0-clause-comes g c = λ begun is.
       behind = refl;
     })
 
-pub returns-in-Err-Memory-clause-comes : goal.returns-in-Err-Memory-clause-comes
-returns-in-Err-Memory-clause-comes g c = λ begun is.
-    let stop = c.in-Err-Memory.field-0-is in
-    record { fresh = (rw stop at c.in-Err-Memory.ensures.left).ready_is; unread = rw stop at c.in-Err-Memory.ensures.reads }
+pub outcome_of-requires : goal.outcome_of-requires
+outcome_of-requires g c is = let stops = rw is at c.in-Err.ensures.err in omega (arith, stops.0, c.requires.line.left)
 
-pub returns-in-Err-ReadFailed-clause-comes : goal.returns-in-Err-ReadFailed-clause-comes
-returns-in-Err-ReadFailed-clause-comes g c = λ begun is.
+pub returns-in-Err-clause-counted : goal.returns-in-Err-clause-counted
+returns-in-Err-clause-counted g c =
+    elim (demux_kinds c.in-Err.stop (λ is. let stops = rw is at c.in-Err.ensures.err in omega (arith, stops.0, c.requires.line.left))) [
+      | inl is ↦ rw (c.outcome_of.ensures.memory is) tt
+      | inr failed ↦ elim failed [
+        | inl is ↦ rw (c.outcome_of.ensures.failed (inl is)) (λ none. (let counted = rw is at c.in-Err.ensures.reads in omega (arith, none, counted)))
+        | inr is ↦ rw (c.outcome_of.ensures.failed (inr is)) (λ none. (let counted = rw is at c.in-Err.ensures.writes in omega (arith, none, counted)))
+      ]
+    ]
+
+pub returns-in-Err-clause-comes : goal.returns-in-Err-clause-comes
+returns-in-Err-clause-comes g c = λ begun is.
     let plan = c.args.self.now in
     let p = over (g.S.Shelf.state c.args.port.now.shelf) c.args.port.now.blocks in
     let q = over (g.S.Shelf.state c.demux.new.port.shelf) c.demux.new.port.blocks in
-    let stop = c.in-Err-ReadFailed.field-0-is in
-    let stops = rw stop at c.in-Err-ReadFailed.ensures.err in
-    inl (record {
-      failed = rw stop at c.in-Err-ReadFailed.ensures.reads;
-      unwritten = rw stop at c.in-Err-ReadFailed.ensures.writes;
-      started = inl (rw stop at c.in-Err-ReadFailed.ensures.left).ready_is;
-      puts = received_front plan.chain plan.bits plan.line begun p q is _ plan.line.bits stops.1;
-    })
-
-pub returns-in-Err-WriteFailed-clause-comes : goal.returns-in-Err-WriteFailed-clause-comes
-returns-in-Err-WriteFailed-clause-comes g c = λ begun is.
-    let plan = c.args.self.now in
-    let p = over (g.S.Shelf.state c.args.port.now.shelf) c.args.port.now.blocks in
-    let q = over (g.S.Shelf.state c.demux.new.port.shelf) c.demux.new.port.blocks in
-    let stop = c.in-Err-WriteFailed.field-0-is in
-    let stops = rw stop at c.in-Err-WriteFailed.ensures.err in
-    inr (record {
-      unread = rw stop at c.in-Err-WriteFailed.ensures.reads;
-      failed = rw stop at c.in-Err-WriteFailed.ensures.writes;
-      left = (rw stop at c.in-Err-WriteFailed.ensures.left).ready_is;
-      puts = received_part plan.chain plan.bits plan.line begun p q is _ plan.line.bits stops.1;
-    })
+    let ran = c.in-Err.ensures in
+    elim (demux_kinds c.in-Err.stop (λ stop. let stops = rw stop at ran.err in omega (arith, stops.0, c.requires.line.left))) [
+      | inl stop ↦ rw (c.outcome_of.ensures.memory stop) (record { fresh = (rw stop at ran.left).ready_is; unread = rw stop at ran.reads })
+      | inr failed ↦ elim failed [
+        | inl stop ↦ rw (c.outcome_of.ensures.failed (inl stop)) (
+            inl (
+            let stops = rw stop at ran.err in
+            record {
+              failed = rw stop at ran.reads;
+              unwritten = rw stop at ran.writes;
+              started = inl (rw stop at ran.left).ready_is;
+              puts = received_front plan.chain plan.bits plan.line begun p q is _ plan.line.bits stops.1;
+            }
+            )
+            )
+        | inr stop ↦ rw (c.outcome_of.ensures.failed (inr stop)) (
+            inr (
+            let stops = rw stop at ran.err in
+            record {
+              unread = rw stop at ran.reads;
+              failed = rw stop at ran.writes;
+              left = (rw stop at ran.left).ready_is;
+              puts = received_part plan.chain plan.bits plan.line begun p q is _ plan.line.bits stops.1;
+            }
+            )
+            )
+      ]
+    ]

@@ -1,25 +1,27 @@
-use Rattle.std.proofs.Common.{Ok, Err, refl, inl, inr, sym, subst, arith}
+use Rattle.std.proofs.Common.{Ok, Err, cond, refl, inl, inr, sym, subst, arith}
 use Rattle.pdh_blocks.specs.State.{over}
 use Rattle.pdh_chain.specs.Muxes.{place_of}
 use Rattle.pdh_answers.specs.declared.answer.Stop.{Stop}
+use Rattle.pdh_answers.specs.declared.answer.Stop.TheVariants.{Overflow, Underflow}
 use Rattle.pdh_ops.specs.Commands.Mux.{muxing}
 use Rattle.pdh_ops.specs.Running.{IsDone}
 use Rattle.pdh_answers.specs.declared.answer.Done.{Done}
+use Rattle.pdh_ops.proofs.Stopping.{mux_kinds}
 use Rattle.pdh_ops.proofs.MuxFiles.{kind_reaches}
 use Rattle.pdh_ops.proofs.MuxSent.{has_frames, has_bits}
 use Rattle.pdh_ops.proofs.MuxRun.{muxed_all, muxed_comes, event_all, event_comes, event_stop, fewer_front, prefix_front}
 use Rattle.pdh_ops.proofs.commands.mux.MuxPlan.send.Goals as goal
 
-pub unreachable-requires : goal.unreachable-requires
-unreachable-requires g c =
+pub outcome_of-requires-clause-frames : goal.outcome_of-requires-clause-frames
+outcome_of-requires-clause-frames g c node is =
     let plan = c.args.self.now.plan in
-    let stops = rw c.in-Err-NoFrame.field-0-is at c.in-Err-NoFrame.ensures.err in
+    let stops = rw is at c.in-Err.ensures.err in
     has_frames c.args.self.now.chain plan.clock.rows plan.frames _ _ c.requires.sends stops.0
 
-pub unreachable-requires-in-Err-Ended : goal.unreachable-requires-in-Err-Ended
-unreachable-requires-in-Err-Ended g c =
+pub outcome_of-requires-clause-leaves : goal.outcome_of-requires-clause-leaves
+outcome_of-requires-clause-leaves g c leaf is =
     let plan = c.args.self.now.plan in
-    let stops = rw c.in-Err-Ended.field-0-is at c.in-Err-Ended.ensures.err in
+    let stops = rw is at c.in-Err.ensures.err in
     has_bits c.args.self.now.chain plan.clock.rows plan.frames _ _ _ c.requires.sends stops.0
 
 pub returns-in-Ok-clause-comes : goal.returns-in-Ok-clause-comes
@@ -39,56 +41,71 @@ returns-in-Ok-clause-comes g c = λ begun is.
       behind = refl;
     })
 
-pub returns-in-Err-Event-clause-comes : goal.returns-in-Err-Event-clause-comes
-returns-in-Err-Event-clause-comes g c = λ begun is.
+pub returns-in-Err-clause-counted : goal.returns-in-Err-clause-counted
+returns-in-Err-clause-counted g c =
+    let plan = c.args.self.now.plan in
+    let ran = c.in-Err.ensures in
+    elim (mux_kinds c.in-Err.stop
+    (λ node is. let stops = rw is at ran.err in has_frames c.args.self.now.chain plan.clock.rows plan.frames _ _ c.requires.sends stops.0)
+    (λ leaf is. let stops = rw is at ran.err in has_bits c.args.self.now.chain plan.clock.rows plan.frames _ _ _ c.requires.sends stops.0)) [
+      | inl event ↦ rw (c.outcome_of.ensures.event event.over event.place event.is) tt
+      | inr other ↦ elim other [
+        | inl is ↦ rw (c.outcome_of.ensures.memory is) tt
+        | inr failed ↦ elim failed [
+          | inl is ↦ rw (c.outcome_of.ensures.failed (inl is)) (λ none. (let counted = rw is at ran.reads in omega (arith, none, counted)))
+          | inr is ↦ rw (c.outcome_of.ensures.failed (inr is)) (λ none. (let counted = rw is at ran.writes in omega (arith, none, counted)))
+        ]
+      ]
+    ]
+
+pub returns-in-Err-clause-comes : goal.returns-in-Err-clause-comes
+returns-in-Err-clause-comes g c = λ begun is.
     let plan = c.args.self.now in
     let rows = plan.plan.clock.rows in
     let p = over (g.S.Shelf.state c.args.port.now.shelf) c.args.port.now.blocks in
     let q = over (g.S.Shelf.state c.mux.new.port.shelf) c.mux.new.port.blocks in
-    let event = c.in-Err-Event.field-0-is in
-    let ran = c.in-Err-Event.ensures in
-    let stops = rw event at ran.err in
-    subst (λ (stop : Stop). IsDone (muxing plan.chain plan.feac) begun p q (Err stop)) (sym (event_stop c.in-Err-Event.over c.in-Err-Event.place stops.event c.stop_of.result c.stop_of.ensures stops.kind stops.place_is))
-    (record {
-      unread = rw event at ran.reads;
-      unwritten = rw event at ran.writes;
-      started = inl (rw event at ran.ready);
-      puts = event_all plan.chain plan.feac rows begun p q is plan.plan.frames c.in-Err-Event.over c.in-Err-Event.place c.requires.sends.frames_are stops;
-      comes = event_comes plan.chain plan.feac rows begun p q is plan.plan.frames c.in-Err-Event.over c.in-Err-Event.place c.requires.sends.frames_are stops;
-      behind = kind_reaches stops.event.kind (place_of stops.event);
-    })
-
-pub returns-in-Err-Memory-clause-comes : goal.returns-in-Err-Memory-clause-comes
-returns-in-Err-Memory-clause-comes g c = λ begun is.
-    let stop = c.in-Err-Memory.field-0-is in
-    record { fresh = rw stop at c.in-Err-Memory.ensures.ready; unread = rw stop at c.in-Err-Memory.ensures.reads }
-
-pub returns-in-Err-ReadFailed-clause-comes : goal.returns-in-Err-ReadFailed-clause-comes
-returns-in-Err-ReadFailed-clause-comes g c = λ begun is.
-    let plan = c.args.self.now in
-    let rows = plan.plan.clock.rows in
-    let p = over (g.S.Shelf.state c.args.port.now.shelf) c.args.port.now.blocks in
-    let q = over (g.S.Shelf.state c.mux.new.port.shelf) c.mux.new.port.blocks in
-    let stop = c.in-Err-ReadFailed.field-0-is in
-    let stops = rw stop at c.in-Err-ReadFailed.ensures.err in
-    inl (record {
-      failed = rw stop at c.in-Err-ReadFailed.ensures.reads;
-      unwritten = rw stop at c.in-Err-ReadFailed.ensures.writes;
-      started = inl (rw stop at c.in-Err-ReadFailed.ensures.ready);
-      puts = fewer_front plan.chain plan.feac rows begun p q is plan.plan.frames c.requires.sends.frames_are stops.1;
-    })
-
-pub returns-in-Err-WriteFailed-clause-comes : goal.returns-in-Err-WriteFailed-clause-comes
-returns-in-Err-WriteFailed-clause-comes g c = λ begun is.
-    let plan = c.args.self.now in
-    let rows = plan.plan.clock.rows in
-    let p = over (g.S.Shelf.state c.args.port.now.shelf) c.args.port.now.blocks in
-    let q = over (g.S.Shelf.state c.mux.new.port.shelf) c.mux.new.port.blocks in
-    let stop = c.in-Err-WriteFailed.field-0-is in
-    let stops = rw stop at c.in-Err-WriteFailed.ensures.err in
-    inr (record {
-      unread = rw stop at c.in-Err-WriteFailed.ensures.reads;
-      failed = rw stop at c.in-Err-WriteFailed.ensures.writes;
-      left = rw stop at c.in-Err-WriteFailed.ensures.ready;
-      puts = prefix_front plan.chain plan.feac rows begun p q is plan.plan.frames (omega (arith, c.requires.sends.frames_are)) stops.1;
-    })
+    let ran = c.in-Err.ensures in
+    elim (mux_kinds c.in-Err.stop
+    (λ node stop. let stops = rw stop at ran.err in has_frames plan.chain rows plan.plan.frames _ _ c.requires.sends stops.0)
+    (λ leaf stop. let stops = rw stop at ran.err in has_bits plan.chain rows plan.plan.frames _ _ _ c.requires.sends stops.0)) [
+      | inl event ↦ rw (c.outcome_of.ensures.event event.over event.place event.is) (
+          let stops = rw event.is at ran.err in
+          let ends : Stop = cond event.over (Overflow event.place) (Underflow event.place) in
+          subst (λ (stop : Stop). IsDone (muxing plan.chain plan.feac) begun p q (Err stop)) (sym (event_stop event.over event.place stops.event ends refl stops.kind stops.place_is))
+          (record {
+            unread = rw event.is at ran.reads;
+            unwritten = rw event.is at ran.writes;
+            started = inl (rw event.is at ran.ready);
+            puts = event_all plan.chain plan.feac rows begun p q is plan.plan.frames event.over event.place c.requires.sends.frames_are stops;
+            comes = event_comes plan.chain plan.feac rows begun p q is plan.plan.frames event.over event.place c.requires.sends.frames_are stops;
+            behind = kind_reaches stops.event.kind (place_of stops.event);
+          })
+          )
+      | inr other ↦ elim other [
+        | inl stop ↦ rw (c.outcome_of.ensures.memory stop) (record { fresh = rw stop at ran.ready; unread = rw stop at ran.reads })
+        | inr failed ↦ elim failed [
+          | inl stop ↦ rw (c.outcome_of.ensures.failed (inl stop)) (
+              inl (
+              let stops = rw stop at ran.err in
+              record {
+                failed = rw stop at ran.reads;
+                unwritten = rw stop at ran.writes;
+                started = inl (rw stop at ran.ready);
+                puts = fewer_front plan.chain plan.feac rows begun p q is plan.plan.frames c.requires.sends.frames_are stops.1;
+              }
+              )
+              )
+          | inr stop ↦ rw (c.outcome_of.ensures.failed (inr stop)) (
+              inr (
+              let stops = rw stop at ran.err in
+              record {
+                unread = rw stop at ran.reads;
+                failed = rw stop at ran.writes;
+                left = rw stop at ran.ready;
+                puts = prefix_front plan.chain plan.feac rows begun p q is plan.plan.frames (omega (arith, c.requires.sends.frames_are)) stops.1;
+              }
+              )
+              )
+        ]
+      ]
+    ]

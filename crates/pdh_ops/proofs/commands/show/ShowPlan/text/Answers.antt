@@ -3,7 +3,6 @@ use Rattle.pdh_blocks.specs.State.{over}
 use Rattle.pdh_ops.proofs.ShowRun.{shown_comes}
 use Rattle.pdh_ops.proofs.Finished.{fed_done, fed_unstarted, fed_stops}
 use Rattle.pdh_ops.proofs.commands.show.ShowPlan.text.Goals as goal
-use Rattle.pdh_answers.specs.declared.answer.Done.TheVariants.{Frame}
 
 pub returns-in-Ok-clause-comes : goal.returns-in-Ok-clause-comes
 returns-in-Ok-clause-comes g c = λ begun is.

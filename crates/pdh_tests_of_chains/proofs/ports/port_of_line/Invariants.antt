@@ -1,6 +1,6 @@
 use Rattle.std.proofs.Common.{◌≡◌, true}
 use Rattle.pdh_edge.specs.MemLists.{mem_inputs, mem_outputs}
-use Rattle.pdh_tests_of_chains.proofs.chain.run_demux.Given as goal
+use Rattle.pdh_tests_of_chains.proofs.ports.port_of_line.Given as goal
 
 -- no list has changed
 abbrev pub invariant-loop-leaf : goal.invariant-loop-leaf

@@ -1,6 +1,6 @@
 use Rattle.std.proofs.Common.{◌≡◌}
 use Rattle.pdh_edge.specs.MemLists.{mem_outputs}
-use Rattle.pdh_tests_of_frames.proofs.rx.run_at_once.Given as goal
+use Rattle.pdh_tests_of_frames.proofs.rx.port_with_rooms.Given as goal
 
 -- no list has changed
 abbrev pub invariant-loop-leaf : goal.invariant-loop-leaf
