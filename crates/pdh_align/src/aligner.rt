@@ -215,6 +215,22 @@ impl<S: Shape> Aligner<S> {
         taken
     }
 
+    /// How many bits may come before the one that ends a frame or, in a search that waits for it, a whole frame's length of a gap,
+    /// of which so many positions are passed over.
+    pub fn ahead(&self, gap: u32) -> u32
+        requires { gap < S.LEN }
+        ensures { result < 3 * S.LEN }
+    {
+        if self.fresh {
+            return S::LEN - 1;
+        }
+        let left = frame_end::<S>(self.searching) - 1 - self.held.held();
+        if self.searching && left == 0 {
+            return S::LEN - 1 - gap;
+        }
+        left
+    }
+
     /// Appends the frame that stands `back` frames before the newest of the ready ones to a list that
     /// has room for it.
     pub fn append_frame(&self, back: u8, into: &mut Packed)

@@ -31,6 +31,9 @@ impl Model for AisRun {
     ghost invariant = { λ r. r.run ≤ r.long };
 }
 
+// The word whose 64 bits are ones.
+const ONES: u64 = u64::MAX;
+
 // How many of so many bits from a place on are ones, one after another from the first on.
 fn leading_ones(bits: &Packed, from: usize, count: usize) -> usize
     requires { from + count ≤ length bits.now.bits }
@@ -41,12 +44,11 @@ fn leading_ones(bits: &Packed, from: usize, count: usize) -> usize
     let _fits = bits.len();
     let mut done = 0;
     while count - done >= 64 {
-        let word = Word::of(bits.read_whole(from + done), 64);
-        let ones = word.inverted().leading_zeros();
-        done += ones as usize;
-        if ones < 64 {
-            return done;
+        let word = bits.read_whole(from + done);
+        if word < ONES {
+            return done + Word::of(word, 64).inverted().leading_zeros() as usize;
         }
+        done += 64;
     }
     let last = bits.read(from + done, (count - done) as u32);
     done + last.inverted().leading_zeros() as usize

@@ -5,47 +5,7 @@ use Rattle.pdh_bits.specs.Bits.{bit, bits_of_byte, bit_value, with_bit, number_o
 use Rattle.pdh_bits.proofs.NumberLemmas.{number_of_lt, bits_of_byte-number_of}
 use Rattle.pdh_packed.specs.Words.{low_bits}
 use Rattle.pdh_packed.specs.WordLaws.{low_bits-fold, low_bits-front, low_bits-mod}
-use Rattle.pdh_interleaving.specs.Interleaving.{interleaved, with_bit_apart, spread, gathered4, gathered7}
-
--- one bit of each of four tributaries
-pub record Row4 : Type 0 where
-  pub a : Bool
-  pub b : Bool
-  pub c : Bool
-  pub d : Bool
-
-abbrev pub bits_of_row4 : Row4 → List Bool
-bits_of_row4 row = row.a ∷ row.b ∷ row.c ∷ row.d ∷ []
-
-abbrev pub spread_rows4 : (Row4 → Bool) → ℕ → List Row4 → ℕ
-spread_rows4 column n rows = fold (with_bit_apart 4) n (map column rows)
-
--- a row more after the rows before it
-row_sum4 : (p q r s a b c d : ℕ) → 2 * (2 * (2 * (2 * (8 * p + 4 * q + 2 * r + s) + a) + b) + c) + d ≡ 8 * (16 * p + a) + 4 * (16 * q + b) + 2 * (16 * r + c) + (16 * s + d)
-row_sum4 p q r s a b c d = omega arith
-
-pub rows_written4 : (rows : List Row4) (p q r s : ℕ) → fold with_bit (8 * p + 4 * q + 2 * r + s) (flat_map bits_of_row4 rows) ≡ 8 * spread_rows4 (λ row. row.a) p rows + 4 * spread_rows4 (λ row. row.b) q rows + 2 * spread_rows4 (λ row. row.c) r rows + spread_rows4 (λ row. row.d) s rows
-rows_written4 [] p q r s = refl
-rows_written4 (row ∷ rows) p q r s =
-    ap (λ (n : ℕ). fold with_bit n (flat_map bits_of_row4 rows)) (row_sum4 p q r s (bit_value row.a) (bit_value row.b) (bit_value row.c) (bit_value row.d))
-    ∙ rows_written4 rows (16 * p + bit_value row.a) (16 * q + bit_value row.b) (16 * r + bit_value row.c) (16 * s + bit_value row.d)
-
-abbrev pub row4 : ℕ → ℕ → ℕ → ℕ → ℕ → Row4
-row4 a b c d k = record { a = bit a k; b = bit b k; c = bit c k; d = bit d k }
-
-abbrev pub rows4 : ℕ → ℕ → ℕ → ℕ → List Row4
-rows4 a b c d = map (row4 a b c d) (7 ∷ 6 ∷ 5 ∷ 4 ∷ 3 ∷ 2 ∷ 1 ∷ 0 ∷ [])
-
-rows_in_turn4 : (a b c d : ℕ) → interleaved (map bits_of_byte (a ∷ b ∷ c ∷ d ∷ [])) 8 ≡ flat_map bits_of_row4 (rows4 a b c d)
-unfolding interleaved
-rows_in_turn4 a b c d = refl
-
--- eight bits of each, spread and added
-pub eight_in_turn4 : (a b c d : ℕ) → low_bits 32 (8 * spread 4 (bits_of_byte a) + 4 * spread 4 (bits_of_byte b) + 2 * spread 4 (bits_of_byte c) + spread 4 (bits_of_byte d)) ≡ interleaved (map bits_of_byte (a ∷ b ∷ c ∷ d ∷ [])) 8
-eight_in_turn4 a b c d =
-    let bits : List Bool = flat_map bits_of_row4 (rows4 a b c d) in
-    let written : number_of bits ≡ 8 * spread 4 (bits_of_byte a) + 4 * spread 4 (bits_of_byte b) + 2 * spread 4 (bits_of_byte c) + spread 4 (bits_of_byte d) = rows_written4 (rows4 a b c d) 0 0 0 0 in
-    ap (low_bits 32) (sym written) ∙ low_bits-fold bits 0 ∙ sym (rows_in_turn4 a b c d)
+use Rattle.pdh_interleaving.specs.Interleaving.{interleaved, with_bit_apart, spread, gathered7}
 
 -- one bit of each of seven tributaries
 pub record Row7 : Type 0 where
@@ -89,64 +49,6 @@ eight_in_turn7 a b c d e f g =
     let bits : List Bool = flat_map bits_of_row7 (rows7 a b c d e f g) in
     let written : number_of bits ≡ 64 * spread 7 (bits_of_byte a) + 32 * spread 7 (bits_of_byte b) + 16 * spread 7 (bits_of_byte c) + 8 * spread 7 (bits_of_byte d) + 4 * spread 7 (bits_of_byte e) + 2 * spread 7 (bits_of_byte f) + spread 7 (bits_of_byte g) = rows_written7 (rows7 a b c d e f g) 0 0 0 0 0 0 0 in
     ap (low_bits 56) (sym written) ∙ low_bits-fold bits 0 ∙ sym (rows_in_turn7 a b c d e f g)
-
--- a row after those that are gathered
-abbrev pub gather_row4 : ℕ → Row4 → ℕ
-gather_row4 n row = 2 * n + (16777216 * bit_value row.a + 65536 * bit_value row.b + 256 * bit_value row.c + bit_value row.d)
-
-gather_sum4 : (p q r s a b c d : ℕ) → 2 * (16777216 * p + 65536 * q + 256 * r + s) + (16777216 * a + 65536 * b + 256 * c + d) ≡ 16777216 * (2 * p + a) + 65536 * (2 * q + b) + 256 * (2 * r + c) + (2 * s + d)
-gather_sum4 p q r s a b c d = omega arith
-
-abbrev pub written4 : (Row4 → Bool) → ℕ → List Row4 → ℕ
-written4 column n rows = fold with_bit n (map column rows)
-
-pub rows_gathered4 : (rows : List Row4) (p q r s : ℕ) → fold gather_row4 (16777216 * p + 65536 * q + 256 * r + s) rows ≡ 16777216 * written4 (λ row. row.a) p rows + 65536 * written4 (λ row. row.b) q rows + 256 * written4 (λ row. row.c) r rows + written4 (λ row. row.d) s rows
-rows_gathered4 [] p q r s = refl
-rows_gathered4 (row ∷ rows) p q r s =
-    ap (λ (n : ℕ). fold gather_row4 n rows) (gather_sum4 p q r s (bit_value row.a) (bit_value row.b) (bit_value row.c) (bit_value row.d))
-    ∙ rows_gathered4 rows (2 * p + bit_value row.a) (2 * q + bit_value row.b) (2 * r + bit_value row.c) (2 * s + bit_value row.d)
-
-byte_in4_a : (a b c d n : ℕ) → n ≡ 16777216 * a + 65536 * b + 256 * c + d → a < 256 → b < 256 → c < 256 → d < 256 → n / 16777216 % 256 ≡ a
-byte_in4_a a b c d n whole small_a small_b small_c small_d = omega arith
-
-byte_in4_b : (a b c d n : ℕ) → n ≡ 16777216 * a + 65536 * b + 256 * c + d → a < 256 → b < 256 → c < 256 → d < 256 → n / 65536 % 256 ≡ b
-byte_in4_b a b c d n whole small_a small_b small_c small_d = omega arith
-
-byte_in4_c : (a b c d n : ℕ) → n ≡ 16777216 * a + 65536 * b + 256 * c + d → a < 256 → b < 256 → c < 256 → d < 256 → n / 256 % 256 ≡ c
-byte_in4_c a b c d n whole small_a small_b small_c small_d = omega arith
-
-byte_in4_d : (a b c d n : ℕ) → n ≡ 16777216 * a + 65536 * b + 256 * c + d → a < 256 → b < 256 → c < 256 → d < 256 → n % 256 ≡ d
-byte_in4_d a b c d n whole small_a small_b small_c small_d = omega arith
-
-in_turn_back4 : (x0 x1 x2 x3 x4 x5 x6 x7 : Row4) → interleaved ((x0.a ∷ x1.a ∷ x2.a ∷ x3.a ∷ x4.a ∷ x5.a ∷ x6.a ∷ x7.a ∷ []) ∷ (x0.b ∷ x1.b ∷ x2.b ∷ x3.b ∷ x4.b ∷ x5.b ∷ x6.b ∷ x7.b ∷ []) ∷ (x0.c ∷ x1.c ∷ x2.c ∷ x3.c ∷ x4.c ∷ x5.c ∷ x6.c ∷ x7.c ∷ []) ∷ (x0.d ∷ x1.d ∷ x2.d ∷ x3.d ∷ x4.d ∷ x5.d ∷ x6.d ∷ x7.d ∷ []) ∷ []) 8 ≡ flat_map bits_of_row4 (x0 ∷ x1 ∷ x2 ∷ x3 ∷ x4 ∷ x5 ∷ x6 ∷ x7 ∷ [])
-unfolding interleaved
-in_turn_back4 x0 x1 x2 x3 x4 x5 x6 x7 = refl
-
--- eight rows gathered are a byte of each tributary
-pub eight_gathered4 : (x0 x1 x2 x3 x4 x5 x6 x7 : Row4) (n : ℕ) → n ≡ fold gather_row4 0 (x0 ∷ x1 ∷ x2 ∷ x3 ∷ x4 ∷ x5 ∷ x6 ∷ x7 ∷ []) → interleaved (bits_of_byte (n / 16777216 % 256) ∷ bits_of_byte (n / 65536 % 256) ∷ bits_of_byte (n / 256 % 256) ∷ bits_of_byte (n % 256) ∷ []) 8 ≡ flat_map bits_of_row4 (x0 ∷ x1 ∷ x2 ∷ x3 ∷ x4 ∷ x5 ∷ x6 ∷ x7 ∷ [])
-eight_gathered4 x0 x1 x2 x3 x4 x5 x6 x7 n sum =
-    let na : ℕ = number_of (x0.a ∷ x1.a ∷ x2.a ∷ x3.a ∷ x4.a ∷ x5.a ∷ x6.a ∷ x7.a ∷ []) in
-    let below_a : na < 256 = number_of_lt (x0.a ∷ x1.a ∷ x2.a ∷ x3.a ∷ x4.a ∷ x5.a ∷ x6.a ∷ x7.a ∷ []) in
-    let bits_a : bits_of_byte na ≡ (x0.a ∷ x1.a ∷ x2.a ∷ x3.a ∷ x4.a ∷ x5.a ∷ x6.a ∷ x7.a ∷ []) = bits_of_byte-number_of x0.a x1.a x2.a x3.a x4.a x5.a x6.a x7.a in
-    let nb : ℕ = number_of (x0.b ∷ x1.b ∷ x2.b ∷ x3.b ∷ x4.b ∷ x5.b ∷ x6.b ∷ x7.b ∷ []) in
-    let below_b : nb < 256 = number_of_lt (x0.b ∷ x1.b ∷ x2.b ∷ x3.b ∷ x4.b ∷ x5.b ∷ x6.b ∷ x7.b ∷ []) in
-    let bits_b : bits_of_byte nb ≡ (x0.b ∷ x1.b ∷ x2.b ∷ x3.b ∷ x4.b ∷ x5.b ∷ x6.b ∷ x7.b ∷ []) = bits_of_byte-number_of x0.b x1.b x2.b x3.b x4.b x5.b x6.b x7.b in
-    let nc : ℕ = number_of (x0.c ∷ x1.c ∷ x2.c ∷ x3.c ∷ x4.c ∷ x5.c ∷ x6.c ∷ x7.c ∷ []) in
-    let below_c : nc < 256 = number_of_lt (x0.c ∷ x1.c ∷ x2.c ∷ x3.c ∷ x4.c ∷ x5.c ∷ x6.c ∷ x7.c ∷ []) in
-    let bits_c : bits_of_byte nc ≡ (x0.c ∷ x1.c ∷ x2.c ∷ x3.c ∷ x4.c ∷ x5.c ∷ x6.c ∷ x7.c ∷ []) = bits_of_byte-number_of x0.c x1.c x2.c x3.c x4.c x5.c x6.c x7.c in
-    let nd : ℕ = number_of (x0.d ∷ x1.d ∷ x2.d ∷ x3.d ∷ x4.d ∷ x5.d ∷ x6.d ∷ x7.d ∷ []) in
-    let below_d : nd < 256 = number_of_lt (x0.d ∷ x1.d ∷ x2.d ∷ x3.d ∷ x4.d ∷ x5.d ∷ x6.d ∷ x7.d ∷ []) in
-    let bits_d : bits_of_byte nd ≡ (x0.d ∷ x1.d ∷ x2.d ∷ x3.d ∷ x4.d ∷ x5.d ∷ x6.d ∷ x7.d ∷ []) = bits_of_byte-number_of x0.d x1.d x2.d x3.d x4.d x5.d x6.d x7.d in
-    let whole : n ≡ 16777216 * na + 65536 * nb + 256 * nc + nd = sum ∙ rows_gathered4 (x0 ∷ x1 ∷ x2 ∷ x3 ∷ x4 ∷ x5 ∷ x6 ∷ x7 ∷ []) 0 0 0 0 in
-    let is_a : n / 16777216 % 256 ≡ na = byte_in4_a na nb nc nd n whole below_a below_b below_c below_d in
-    let at_a : bits_of_byte (n / 16777216 % 256) ≡ (x0.a ∷ x1.a ∷ x2.a ∷ x3.a ∷ x4.a ∷ x5.a ∷ x6.a ∷ x7.a ∷ []) = ap bits_of_byte is_a ∙ bits_a in
-    let is_b : n / 65536 % 256 ≡ nb = byte_in4_b na nb nc nd n whole below_a below_b below_c below_d in
-    let at_b : bits_of_byte (n / 65536 % 256) ≡ (x0.b ∷ x1.b ∷ x2.b ∷ x3.b ∷ x4.b ∷ x5.b ∷ x6.b ∷ x7.b ∷ []) = ap bits_of_byte is_b ∙ bits_b in
-    let is_c : n / 256 % 256 ≡ nc = byte_in4_c na nb nc nd n whole below_a below_b below_c below_d in
-    let at_c : bits_of_byte (n / 256 % 256) ≡ (x0.c ∷ x1.c ∷ x2.c ∷ x3.c ∷ x4.c ∷ x5.c ∷ x6.c ∷ x7.c ∷ []) = ap bits_of_byte is_c ∙ bits_c in
-    let is_d : n % 256 ≡ nd = byte_in4_d na nb nc nd n whole below_a below_b below_c below_d in
-    let at_d : bits_of_byte (n % 256) ≡ (x0.d ∷ x1.d ∷ x2.d ∷ x3.d ∷ x4.d ∷ x5.d ∷ x6.d ∷ x7.d ∷ []) = ap bits_of_byte is_d ∙ bits_d in
-    rw (at_a, at_b, at_c, at_d) (in_turn_back4 x0 x1 x2 x3 x4 x5 x6 x7)
 
 -- a row after those that are gathered
 abbrev pub gather_row7 : ℕ → Row7 → ℕ
@@ -229,53 +131,6 @@ eight_gathered7 x0 x1 x2 x3 x4 x5 x6 x7 n sum =
     let is_g : n % 256 ≡ ng = byte_in7_g na nb nc nd ne nf ng n whole below_a below_b below_c below_d below_e below_f below_g in
     let at_g : bits_of_byte (n % 256) ≡ (x0.g ∷ x1.g ∷ x2.g ∷ x3.g ∷ x4.g ∷ x5.g ∷ x6.g ∷ x7.g ∷ []) = ap bits_of_byte is_g ∙ bits_g in
     rw (at_a, at_b, at_c, at_d, at_e, at_f, at_g) (in_turn_back7 x0 x1 x2 x3 x4 x5 x6 x7)
-
--- the two rows of four that a byte holds
-abbrev pub row_at : ℕ → ℕ → ℕ → ℕ → ℕ → Row4
-row_at x i j k l = record { a = bit x i; b = bit x j; c = bit x k; d = bit x l }
-
-abbrev pub two_rows : ℕ → List Row4
-two_rows x = record { a = bit x 7; b = bit x 6; c = bit x 5; d = bit x 4 } ∷ record { a = bit x 3; b = bit x 2; c = bit x 1; d = bit x 0 } ∷ []
-
-pair_sum : (n a b c d e f g h : ℕ) → 2 * (2 * n + (2 ^ 24 * a + 2 ^ 16 * b + 2 ^ 8 * c + d)) + (2 ^ 24 * e + 2 ^ 16 * f + 2 ^ 8 * g + h) ≡ 4 * n + (2 ^ 24 * (2 * a + e) + 2 ^ 16 * (2 * b + f) + 2 ^ 8 * (2 * c + g) + (2 * d + h))
-pair_sum n a b c d e f g h = omega arith
-
-byte_gathered : (x n : ℕ) → fold gather_row4 n (two_rows x) ≡ 4 * n + gathered4 x
-byte_gathered x n = pair_sum n (bit_value (bit x 7)) (bit_value (bit x 6)) (bit_value (bit x 5)) (bit_value (bit x 4)) (bit_value (bit x 3)) (bit_value (bit x 2)) (bit_value (bit x 1)) (bit_value (bit x 0))
-
-four_sums : (f0 f1 f2 f3 g0 g1 g2 g3 : ℕ) → f0 ≡ 4 * 0 + g0 → f1 ≡ 4 * f0 + g1 → f2 ≡ 4 * f1 + g2 → f3 ≡ 4 * f2 + g3 → 64 * g0 + 16 * g1 + 4 * g2 + g3 ≡ f3
-four_sums f0 f1 f2 f3 g0 g1 g2 g3 e0 e1 e2 e3 = omega arith
-
-abbrev pub rows_of_bytes : ℕ → ℕ → ℕ → ℕ → List Row4
-rows_of_bytes x0 x1 x2 x3 = two_rows x0 ++ (two_rows x1 ++ (two_rows x2 ++ two_rows x3))
-
-bytes_gathered : (x0 x1 x2 x3 : ℕ) → 64 * gathered4 x0 + 16 * gathered4 x1 + 4 * gathered4 x2 + gathered4 x3 ≡ fold gather_row4 0 (rows_of_bytes x0 x1 x2 x3)
-bytes_gathered x0 x1 x2 x3 =
-    let f0 : ℕ = fold gather_row4 0 (two_rows x0) in
-    let f1 : ℕ = fold gather_row4 f0 (two_rows x1) in
-    let f2 : ℕ = fold gather_row4 f1 (two_rows x2) in
-    let f3 : ℕ = fold gather_row4 f2 (two_rows x3) in
-    four_sums f0 f1 f2 f3 (gathered4 x0) (gathered4 x1) (gathered4 x2) (gathered4 x3) (byte_gathered x0 0) (byte_gathered x1 f0) (byte_gathered x2 f1) (byte_gathered x3 f2)
-
-bits_of_bytes4 : (x0 x1 x2 x3 : ℕ) → low_bits 8 x0 ++ (low_bits 8 x1 ++ (low_bits 8 x2 ++ low_bits 8 x3)) ≡ flat_map bits_of_row4 (rows_of_bytes x0 x1 x2 x3)
-unfolding low_bits
-bits_of_bytes4 x0 x1 x2 x3 = refl
-
-line_of_bytes : (n : ℕ) → low_bits 32 n ≡ low_bits 8 (n / 2 ^ 24 % 256) ++ (low_bits 8 (n / 2 ^ 16 % 256) ++ (low_bits 8 (n / 2 ^ 8 % 256) ++ low_bits 8 (n % 256)))
-line_of_bytes n =
-    low_bits-front 8 24 n ∙ ap (λ (bits : List Bool). low_bits 8 (n / 2 ^ 24 % 256) ++ bits)
-    (low_bits-front 8 16 n ∙ ap (λ (bits : List Bool). low_bits 8 (n / 2 ^ 16 % 256) ++ bits)
-    (low_bits-front 8 8 n ∙ ap (λ (bits : List Bool). low_bits 8 (n / 2 ^ 8 % 256) ++ bits) (sym (low_bits-mod 8 n))))
-
--- the bits of a word of four tributaries, gathered
-pub word_gathered4 : (line n : ℕ) → n ≡ 64 * gathered4 (line / 2 ^ 24 % 256) + 16 * gathered4 (line / 2 ^ 16 % 256) + 4 * gathered4 (line / 2 ^ 8 % 256) + gathered4 (line % 256) → interleaved (bits_of_byte (n / 16777216 % 256) ∷ bits_of_byte (n / 65536 % 256) ∷ bits_of_byte (n / 256 % 256) ∷ bits_of_byte (n % 256) ∷ []) 8 ≡ low_bits 32 line
-word_gathered4 line n sum =
-    let x0 : ℕ = line / 2 ^ 24 % 256 in
-    let x1 : ℕ = line / 2 ^ 16 % 256 in
-    let x2 : ℕ = line / 2 ^ 8 % 256 in
-    let x3 : ℕ = line % 256 in
-    eight_gathered4 (row_at x0 7 6 5 4) (row_at x0 3 2 1 0) (row_at x1 7 6 5 4) (row_at x1 3 2 1 0) (row_at x2 7 6 5 4) (row_at x2 3 2 1 0) (row_at x3 7 6 5 4) (row_at x3 3 2 1 0) n (sum ∙ bytes_gathered x0 x1 x2 x3)
-    ∙ sym (bits_of_bytes4 x0 x1 x2 x3) ∙ sym (line_of_bytes line)
 
 -- the row of seven that seven bits are
 abbrev pub row_of7 : ℕ → Row7

@@ -2,3 +2,4 @@ pub mod InterleavingLaws
 pub mod TurnLaws
 pub mod DealtLaws
 pub mod RowLaws
+pub mod LaneLaws

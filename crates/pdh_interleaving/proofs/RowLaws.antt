@@ -1,13 +1,13 @@
 -- Rows of bits of four or of seven tributaries, from bytes and words.
-use Rattle.std.proofs.Common.{◌≡◌, ◌⊎◌, ℕ, zero, suc, ◌+◌, ◌-◌, ◌*◌, ◌/◌, ◌%◌, ◌^◌, ◌<◌, ◌≤◌, Bool, false, List, [], ◌∷◌, ◌++◌, length, map, take, drop, min, inl, inr, get_or, append_assoc, refl, sym, ◌∙◌, ap, arith}
+use Rattle.std.proofs.Common.{◌≡◌, ℕ, zero, suc, ◌+◌, ◌-◌, ◌*◌, ◌/◌, ◌%◌, ◌^◌, ◌<◌, ◌≤◌, Bool, false, List, [], ◌∷◌, ◌++◌, length, map, take, drop, min, inl, inr, get_or, append_assoc, refl, sym, ◌∙◌, ap, arith}
 use Rattle.std.proofs.lemmas.Bool.{cases_lt}
-use Rattle.std.proofs.lemmas.List.{get_or-take, get_or-map, length-map, nil_from_length, append-nil, drop-drop, take_all, take_at, take-append-le}
+use Rattle.std.proofs.lemmas.List.{get_or-take, get_or-map, length-map, nil_from_length, append-nil, drop-drop, take_all, take-append-le}
 use Rattle.pdh_bits.specs.Bits.{bits_of_byte}
 use Rattle.pdh_bits.specs.BitOut.{BoundedBits}
 use Rattle.pdh_packed.specs.Words.{low_bits, bounded}
 use Rattle.pdh_interleaving.specs.Interleaving.{interleaved, column}
 use Rattle.pdh_interleaving.proofs.TurnLaws.{same_turns, length-interleaved, more_turns, first_turns, column_of_turns, more_column, take-column, same_column}
-use Rattle.pdh_packed.specs.WordLaws.{length-low_bits, drop_low, low_bits-mod, low_bits-above, low_bits-join, low_bits_byte}
+use Rattle.pdh_packed.specs.WordLaws.{drop_low, low_bits-mod, low_bits-above, low_bits-join}
 use Rattle.pdh_packed.proofs.PackedLaws.{take_past}
 
 -- lists made of one another's members, which begin alike
@@ -67,31 +67,11 @@ lists_from place done (list ∷ lists) =
     let rest = lists_from place done lists in
     cc
 
--- the first rows of eight
-pub first_rows : (rows word : List Bool) (lists : List (List Bool)) (n t : ℕ) → n ≤ 8 → t ≡ length lists → rows ≡ interleaved lists 8 → word ≡ take (n * t) rows → word ≡ interleaved lists n
-first_rows rows word lists n t few many are is =
-    let whole : 8 ≡ n + (8 - n) = omega arith in
-    is ∙ ap (λ (k : ℕ). take (n * k) rows) many ∙ ap (take (n * length lists)) (are ∙ ap (interleaved lists) whole) ∙ first_turns lists n (8 - n)
-
--- words from a place on, and from a later one
-words_later : (place more : ℕ) (words : List ℕ) → map (λ (word : ℕ). drop (place + more) (low_bits 64 word)) words ≡ map (drop more) (map (λ (word : ℕ). drop place (low_bits 64 word)) words)
-words_later place more [] = refl
-words_later place more (word ∷ words) =
-    let first : drop (place + more) (low_bits 64 word) ≡ drop more (drop place (low_bits 64 word)) = sym (drop-drop more place (low_bits 64 word)) in
-    let rest = words_later place more words in
-    cc
-
--- the first rows of sixteen, from two of eight
-pub first_of_sixteen : (rows later both word : List Bool) (words : List ℕ) (place n : ℕ) → n ≤ 16 → rows ≡ interleaved (map (λ (w : ℕ). drop place (low_bits 64 w)) words) 8
-    → later ≡ interleaved (map (λ (w : ℕ). drop (place + 8) (low_bits 64 w)) words) 8 → both ≡ rows ++ later → word ≡ take (n * length words) both → word ≡ interleaved (map (λ (w : ℕ). drop place (low_bits 64 w)) words) n
-first_of_sixteen rows later both word words place n few are follow joined is =
-    let lists : List (List Bool) = map (λ (w : ℕ). drop place (low_bits 64 w)) words in
-    let many : length lists ≡ length words = length-map words (λ (w : ℕ). drop place (low_bits 64 w)) in
-    let behind : later ≡ interleaved (map (drop 8) lists) 8 = follow ∙ ap (λ (ls : List (List Bool)). interleaved ls 8) (words_later place 8 words) in
-    let all : both ≡ interleaved lists 16 =
-    joined ∙ ap (λ (bits : List Bool). bits ++ later) are ∙ ap (λ (bits : List Bool). interleaved lists 8 ++ bits) behind ∙ sym (more_turns lists 8 8) in
-    let whole : 16 ≡ n + (16 - n) = omega arith in
-    is ∙ ap (λ (k : ℕ). take (n * k) both) (sym many) ∙ ap (take (n * length lists)) (all ∙ ap (interleaved lists) whole) ∙ first_turns lists n (16 - n)
+-- the first of so many rows
+pub first_rows : (all : ℕ) (rows word : List Bool) (lists : List (List Bool)) (n t : ℕ) → n ≤ all → t ≡ length lists → rows ≡ interleaved lists all → word ≡ take (n * t) rows → word ≡ interleaved lists n
+first_rows all rows word lists n t few many are is =
+    let whole : all ≡ n + (all - n) = omega arith in
+    is ∙ ap (λ (k : ℕ). take (n * k) rows) many ∙ ap (take (n * length lists)) (are ∙ ap (interleaved lists) whole) ∙ first_turns lists n (all - n)
 
 -- bytes whose rows begin a line are its columns
 pub bytes_are_columns : (bytes : List ℕ) (line rows : List Bool) (t j : ℕ) → length bytes ≡ t → j < t → interleaved (map bits_of_byte bytes) 8 ≡ rows → rows ≡ take (8 * t) line → bits_of_byte (get_or bytes j 0) ≡ column t 8 line j
@@ -105,16 +85,15 @@ bytes_are_columns bytes line rows t j many who are begin =
     let fits : 8 ≤ length (get_or made j []) = omega (arith, ap length byte) in
     ap (take 8) (sym byte) ∙ column_of_turns made line 8 8 j (omega arith) (omega arith) same fits ∙ ap (λ (k : ℕ). column k 8 line j) long
 
--- a byte that is shifted into a number
-pub byte_shifted_in : (m w b : ℕ) → m ≤ 56 → b < 256 → low_bits (m + 8) ((w * 2 ^ 8 % 2 ^ 64 + b) % 2 ^ 64) ≡ low_bits m w ++ bits_of_byte b
-byte_shifted_in m w b few small =
-    let n : ℕ = w * 2 ^ 8 in
+-- bits that are shifted into a number
+pub shifted_into : (m w s b : ℕ) → m + s ≤ 64 → b < 2 ^ s → low_bits (m + s) ((w * 2 ^ s % 2 ^ 64 + b) % 2 ^ 64) ≡ low_bits m w ++ low_bits s b
+shifted_into m w s b few small =
+    let n : ℕ = w * 2 ^ s in
     let x : ℕ = n % 2 ^ 64 + b in
     let whole : n / 2 ^ 64 * 2 ^ 64 + x ≡ n + b = omega arith in
     let cut : x / 2 ^ 64 * 2 ^ 64 + x % 2 ^ 64 ≡ x = omega arith in
-    sym (low_bits-above (m + 8) 64 (x / 2 ^ 64) (x % 2 ^ 64) (omega arith)) ∙ ap (low_bits (m + 8)) cut
-    ∙ sym (low_bits-above (m + 8) 64 (n / 2 ^ 64) x (omega arith)) ∙ ap (low_bits (m + 8)) whole ∙ low_bits-join m 8 w b small
-    ∙ ap (λ (bits : List Bool). low_bits m w ++ bits) (low_bits_byte b)
+    sym (low_bits-above (m + s) 64 (x / 2 ^ 64) (x % 2 ^ 64) few) ∙ ap (low_bits (m + s)) cut
+    ∙ sym (low_bits-above (m + s) 64 (n / 2 ^ 64) x few) ∙ ap (low_bits (m + s)) whole ∙ low_bits-join m s w b small
 
 -- rows after others, up to so many
 pub rows_gathered : (was now : List Bool) (line bits : List Bool) (t i count j : ℕ) → j < t → length was ≡ 8 * i → take (min (8 * i) count) was ≡ column t (min (8 * i) count) line j
@@ -138,10 +117,10 @@ rows_gathered was now line bits t i count j who long before is read =
     ]
 
 -- the same sixteen rows at a time
-pub pairs_gathered : (was now : List Bool) (line bits : List Bool) (t i count j : ℕ) → j < t → length was ≡ 16 * i → take (min (16 * i) count) was ≡ column t (min (16 * i) count) line j
+pub lanes_gathered : (was now : List Bool) (line bits : List Bool) (t i count j : ℕ) → j < t → length was ≡ 16 * i → take (min (16 * i) count) was ≡ column t (min (16 * i) count) line j
     → now ≡ was ++ column t 16 bits j → take (min (count - min (16 * i) count) 16 * t) bits ≡ take (min (count - min (16 * i) count) 16 * t) (drop (min (16 * i) count * t) line)
     → take (min (16 * (i + 1)) count) now ≡ column t (min (16 * (i + 1)) count) line j
-pairs_gathered was now line bits t i count j who long before is read =
+lanes_gathered was now line bits t i count j who long before is read =
     elim (cases_lt (16 * i) count) [
       | inl more ↦
           let n : ℕ = min (16 * i) count in
@@ -158,28 +137,8 @@ pairs_gathered was now line bits t i count j who long before is read =
           ap (λ (k : ℕ). take k now) same ∙ ap (take (min (16 * i) count)) is ∙ take-append-le (min (16 * i) count) was (column t 16 bits j) (omega arith) ∙ before ∙ ap (λ (k : ℕ). column t k line j) (sym same)
     ]
 
--- eight rows of four or of seven bits fit in a word
-pub rows_few : (r t : ℕ) → r ≤ 8 → (t ≡ 4) ⊎ (t ≡ 7) → r * t ≤ 64
-rows_few r t few (inl four) = omega (arith, ap (λ (k : ℕ). r * k) four)
-rows_few r t few (inr seven) = omega (arith, ap (λ (k : ℕ). r * k) seven)
-
--- rows among others
-pub rows_inside : (n r count t : ℕ) → n + r ≤ count → n * t + r * t ≤ count * t
-rows_inside n r count t within =
-    let whole : n + r + (count - (n + r)) ≡ count = omega arith in
-    omega (arith, ap (λ (k : ℕ). k * t) whole)
-
 -- the low bits end those of a word
 pub low_end : (h n : ℕ) → h ≤ 64 → drop (64 - h) (low_bits 64 n) ≡ low_bits h n
 low_end h n few =
     let left : 64 - (64 - h) ≡ h = omega arith in
     drop_low (64 - h) 64 n (omega arith) ∙ low_bits-mod (64 - (64 - h)) n ∙ ap (λ (k : ℕ). low_bits k n) left
-
--- the low half of a word, moved to its front
-pub half_moved : (n : ℕ) → take 32 (low_bits 64 (n * 2 ^ 32 % 2 ^ 64)) ≡ take 32 (drop 32 (low_bits 64 n))
-half_moved n =
-    let low : List Bool = low_bits 32 n in
-    let moved : low_bits 64 (n * 2 ^ 32 % 2 ^ 64) ≡ low ++ low_bits 32 0 =
-    low_bits-mod 64 (n * 2 ^ 32) ∙ ap (low_bits 64) (omega arith) ∙ low_bits-join 32 32 n 0 (omega arith) in
-    ap (take 32) moved ∙ take_at low (low_bits 32 0) 32 (length-low_bits 32 n) ∙ sym (take_all 32 low (omega (arith, length-low_bits 32 n)))
-    ∙ ap (take 32) (sym (low_end 32 n (omega arith)))

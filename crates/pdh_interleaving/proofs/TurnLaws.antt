@@ -4,8 +4,7 @@ use Rattle.std.proofs.lemmas.Bool.{cases_lt}
 use Rattle.std.proofs.lemmas.List.{get_or_append_left, get_or-append_right, get_or-take, get_or-drop, get_or-map, get_or_default, same_lists, length-map, take_at}
 use Rattle.std.proofs.lemmas.Nat.{mod-mul-add, div-mul-add}
 use Rattle.std.proofs.lemmas.List.FromFn.{get_or-map-range_with_len, length-map-range_with_len}
-use Rattle.std.proofs.Math.Nat.{zero-add, add-mul, mod-lt, div-lt_iff_lt-mul, mul-add-mod_self_right, mul-add-div_right, mul-le-mul_right, div-add-mod'}
-use Rattle.std.specs.List.{range_with_len}
+use Rattle.std.proofs.Math.Nat.{zero-add, add-mul, mod-lt, div-lt_iff_lt-mul, mul-add-mod_self_right, mul-add-div_right, mul-le-mul_right}
 use Rattle.pdh_interleaving.specs.Interleaving.{bit_in_turn, interleaved, column}
 
 pub length-interleaved : (lists : List (List Bool)) (n : ℕ) → length (interleaved lists n) ≡ n * length lists
@@ -132,43 +131,6 @@ column_of_turns lists line n k j few who same long =
         get_or-take k list i d within ∙ get_or_default list i d false (omega arith) ∙ sym turn ∙ sym (get_or-interleaved lists n (i * t + j) false (omega arith))
         ∙ sym (get_or-take (k * t) (interleaved lists n) (i * t + j) false place) ∙ ap (λ (bits : List Bool). get_or bits (i * t + j) false) same ∙ get_or-take (k * t) line (i * t + j) false place
         ∙ sym (get_or-column t k line j i d within)
-
--- every so many slots of a frame from slot j on
-abbrev pub slots_apart : (ℕ → Bool) → ℕ → ℕ → ℕ → List Bool
-slots_apart slot t n j = map (λ i. slot (i * t + j)) (range_with_len 0 n)
-
--- the slots of a frame are its columns in turn
-pub columns_of_slots : (slot : ℕ → Bool) (t n : ℕ) → interleaved (map (slots_apart slot t n) (range_with_len 0 t)) n ≡ map slot (range_with_len 0 (n * t))
-columns_of_slots slot t n =
-    let columns : List (List Bool) = map (slots_apart slot t n) (range_with_len 0 t) in
-    let many : length columns ≡ t = length-map-range_with_len (slots_apart slot t n) 0 t in
-    let long : length (interleaved columns n) ≡ n * t = length-interleaved columns n ∙ ap (λ (k : ℕ). n * k) many in
-    same_lists (interleaved columns n) (map slot (range_with_len 0 (n * t))) (long ∙ sym (length-map-range_with_len slot 0 (n * t))) (λ s d within. at s d (omega arith))
-  where
-    at : (s : ℕ) (d : Bool) → s < n * t → get_or (interleaved (map (slots_apart slot t n) (range_with_len 0 t)) n) s d ≡ get_or (map slot (range_with_len 0 (n * t))) s d
-    at s d within =
-        let columns : List (List Bool) = map (slots_apart slot t n) (range_with_len 0 t) in
-        let many : length columns ≡ t = length-map-range_with_len (slots_apart slot t n) 0 t in
-        let some : 0 < t = some_lists n t s within in
-        let row : s / t < n = (div-lt_iff_lt-mul some).1 within in
-        let who : s % t < t = mod-lt s some in
-        let column = get_or-map-range_with_len (slots_apart slot t n) 0 t (s % t) (s % t) [] who (zero-add (s % t)) in
-        let place : s / t * t + s % t ≡ s = div-add-mod' s t in
-        get_or-interleaved columns n s d (rw many within) ∙ ap (λ (k : ℕ). get_or (get_or columns (s % k) []) (s / k) false) many
-        ∙ ap (λ (bits : List Bool). get_or bits (s / t) false) column
-        ∙ get_or-map-range_with_len (λ i. slot (i * t + s % t)) 0 n (s / t) (s / t) false row (zero-add (s / t)) ∙ ap slot place
-        ∙ sym (get_or-map-range_with_len slot 0 (n * t) s s d within (zero-add s))
-
--- a line's columns in turn are the line
-pub turns_of_columns : (t n : ℕ) (line : List Bool) → n * t ≤ length line → interleaved (map (column t n line) (range_with_len 0 t)) n ≡ take (n * t) line
-turns_of_columns t n line enough =
-    let slot : ℕ → Bool = λ s. get_or line s false in
-    let all : length (map slot (range_with_len 0 (n * t))) ≡ n * t = length-map-range_with_len slot 0 (n * t) in
-    columns_of_slots slot t n
-    ∙ same_lists (map slot (range_with_len 0 (n * t))) (take (n * t) line) (omega (arith, all, length-take (n * t) line))
-    (λ s d within.
-    let here : s < n * t = omega arith in
-    get_or-map-range_with_len slot 0 (n * t) s s d here (zero-add s) ∙ get_or_default line s false d (omega arith) ∙ sym (get_or-take (n * t) line s d here))
 
 -- the first of a column
 pub take-column : (t n r : ℕ) (line : List Bool) (j : ℕ) → r ≤ n → take r (column t n line j) ≡ column t r line j

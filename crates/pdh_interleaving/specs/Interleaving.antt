@@ -1,5 +1,5 @@
 -- Bits of tributaries in turn.
-use Rattle.std.specs.Prelude.{ℕ, suc, ◌+◌, ◌*◌, ◌/◌, ◌%◌, ◌^◌, Bool, false, List, [], ◌∷◌, ◌++◌, length, get_or, map, fold}
+use Rattle.std.specs.Prelude.{ℕ, suc, ◌+◌, ◌-◌, ◌*◌, ◌/◌, ◌%◌, ◌^◌, Bool, false, if◌then◌else◌, List, [], ◌∷◌, ◌++◌, length, get_or, map, take, drop, fold}
 use Rattle.std.specs.List.{range_with_len}
 use Rattle.pdh_bits.specs.Bits.{bit, bit_value}
 use Rattle.pdh_bits.specs.BitOut.{BoundedBits}
@@ -26,6 +26,15 @@ appended_to_each more j (list ∷ lists) = bounded list.capacity (list.bits ++ m
 unfoldable pub dealt : ℕ → List Bool → List BoundedBits → List BoundedBits
 dealt each line lists = appended_to_each (column (length lists) each line) 0 lists
 
+-- lane j of the bits of a word: the j-th sixteen of them
+abbrev pub lane : List Bool → ℕ → List Bool
+lane word j = take 16 (drop (16 * j) word)
+
+-- the place whose bit comes to a place of a number, where the bits at the places of a mask change places with those so many above
+abbrev pub exchanged : ℕ → ℕ → ℕ → ℕ
+exchanged apart mask place =
+    if bit mask place then place + apart else (if bit (mask * 2 ^ apart) place then place - apart else place)
+
 -- a number with a bit so many places after its own
 abbrev pub with_bit_apart : ℕ → ℕ → Bool → ℕ
 with_bit_apart apart n b = 2 ^ apart * n + bit_value b
@@ -34,13 +43,7 @@ with_bit_apart apart n b = 2 ^ apart * n + bit_value b
 abbrev pub spread : ℕ → List Bool → ℕ
 spread apart bits = fold (with_bit_apart apart) 0 bits
 
--- the numbers of four tributaries side by side, eight bits each, for the two rows that a byte holds
-abbrev pub gathered4 : ℕ → ℕ
-gathered4 byte =
-    2 ^ 24 * (2 * bit_value (bit byte 7) + bit_value (bit byte 3)) + 2 ^ 16 * (2 * bit_value (bit byte 6) + bit_value (bit byte 2))
-    + 2 ^ 8 * (2 * bit_value (bit byte 5) + bit_value (bit byte 1)) + (2 * bit_value (bit byte 4) + bit_value (bit byte 0))
-
--- the same of seven tributaries, for one row
+-- the numbers of seven tributaries side by side, eight bits each, for the row that seven bits are
 abbrev pub gathered7 : ℕ → ℕ
 gathered7 row =
     2 ^ 48 * bit_value (bit row 6) + 2 ^ 40 * bit_value (bit row 5) + 2 ^ 32 * bit_value (bit row 4) + 2 ^ 24 * bit_value (bit row 3)

@@ -1,11 +1,11 @@
 //! Putting lists in turn and dealing them out, at most 64 bits of each at a time.
 
-ghost use Rattle.std.specs.Prelude.{◌≡◌, ℕ, ◌+◌, ◌*◌, ◌/◌, ◌<◌, ◌≤◌, ◌⊎◌, ◌++◌, length, map, take, drop, slice_index, All};
+ghost use Rattle.std.specs.Prelude.{◌≡◌, ℕ, ◌+◌, ◌*◌, ◌/◌, ◌%◌, ◌^◌, ◌<◌, ◌≤◌, ◌⊎◌, ◌++◌, length, map, take, drop, slice_index, All};
 ghost use Rattle.pdh_bits.specs.Bits.{bits_of_byte};
 ghost use Rattle.pdh_packed.specs.Words.{low_bits};
-ghost use Rattle.pdh_interleaving.specs.Interleaving.{interleaved, column, appended_to_each, dealt};
+ghost use Rattle.pdh_interleaving.specs.Interleaving.{interleaved, column, lane, appended_to_each, dealt};
 
-use crate::kernels::{gather4, gather7, interleave4, interleave7};
+use crate::kernels::{gather7, interleave7, lanes_of, turns_of};
 use pdh_packed::{Packed, Word};
 
 /// Appends the bits of four or of seven tributaries in turn, so many of each from a place on.
@@ -34,13 +34,13 @@ fn append_next(tributaries: &[Packed], place: usize, count: u32, line: &mut Pack
     ensures { line.new ≡ record line.old { bits = line.old.bits ++ interleaved (map (λ t. drop place t.bits) tributaries.now) count } }
 {
     if tributaries.len() == 4 {
-        let words = [
+        let mut words = [
             tributaries[0].read_left(place, count),
             tributaries[1].read_left(place, count),
             tributaries[2].read_left(place, count),
             tributaries[3].read_left(place, count),
         ];
-        append_four(&words, count, line);
+        append_four(&mut words, count, line);
     } else {
         let words = [
             tributaries[0].read_left(place, count),
@@ -55,9 +55,9 @@ fn append_next(tributaries: &[Packed], place: usize, count: u32, line: &mut Pack
     }
 }
 
-// Appends the first bits of four or of seven numbers of 64 bits in turn, so many of each.
+// Appends the first bits of seven numbers of 64 bits in turn, so many of each.
 fn append_rows(words: &[u64], count: u32, line: &mut Packed)
-    requires tributaries { (length words.now ≡ 4) ⊎ (length words.now ≡ 7) }
+    requires seven { length words.now ≡ 7 }
     requires few { count ≤ 64 }
     requires room { length line.old.bits + count * length words.now ≤ line.old.capacity }
     ensures { line.new ≡ record line.old { bits = line.old.bits ++ interleaved (map (low_bits 64) words.now) count } }
@@ -70,62 +70,59 @@ fn append_rows(words: &[u64], count: u32, line: &mut Packed)
     }
 }
 
-// Appends the first bits of a word, so many.
-#[inline(always)]
-fn append_first(word: Word, count: u32, line: &mut Packed)
-    requires some { count ≤ length word }
-    requires room { length line.old.bits + count ≤ line.old.capacity }
-    ensures { line.new ≡ record line.old { bits = line.old.bits ++ take count word } }
-{
-    if count == 64 {
-        line.append_whole(word.number());
-    } else {
-        line.append(word.first(count));
-    }
-}
-
-// Appends the first bits of four numbers of 64 bits in turn, so many of each.
-fn append_four(words: &[u64], count: u32, line: &mut Packed)
-    requires four { length words.now ≡ 4 }
+// Appends the first bits of four numbers of 64 bits in turn, so many of each, and uses the numbers up.
+fn append_four(words: &mut [u64], count: u32, line: &mut Packed)
+    requires four { length words.old ≡ 4 }
     requires few { count ≤ 64 }
-    requires room { length line.old.bits + count * length words.now ≤ line.old.capacity }
-    ensures { line.new ≡ record line.old { bits = line.old.bits ++ interleaved (map (low_bits 64) words.now) count } }
+    requires room { length line.old.bits + count * length words.old ≤ line.old.capacity }
+    ensures { line.new ≡ record line.old { bits = line.old.bits ++ interleaved (map (low_bits 64) words.old) count } }
 {
     let mut done = 0;
     while done < count {
         let rows = (count - done).min(16);
-        let bits = rows_of(words, done).join(rows_of(words, done + 8));
-        append_first(bits, rows * words.len() as u32, line);
+        append_front(turns_of(first_lanes(words)), 64, 4 * rows, line);
+        shift_out(words);
         done += 16;
     }
 }
 
-// The bits of four or of seven numbers of 64 bits in turn, eight of each from a place on.
+// The first sixteen bits of each of four numbers of 64 bits, side by side.
+#[inline(always)]
+fn first_lanes(words: &[u64]) -> u64
+    requires { length words.now ≡ 4 }
+    ensures { (j : ℕ) → j < 4 → lane (low_bits 64 result) j ≡ take 16 (low_bits 64 (slice_index words.now j)) }
+{
+    let two = 0x1_0000 * (words[0] >> 48) + (words[1] >> 48);
+    let three = 0x1_0000 * two + (words[2] >> 48);
+    0x1_0000 * three + (words[3] >> 48)
+}
+
+// Shifts the first sixteen bits of each number out.
+#[inline(always)]
+fn shift_out(words: &mut [u64])
+    ensures { (j : ℕ) → j < length words.old → slice_index words.new j ≡ slice_index words.old j * 2 ^ 16 % 2 ^ 64 }
+{
+    for index in 0..words.len() {
+        words[index] <<= 16;
+    }
+}
+
+// The bits of seven numbers of 64 bits in turn, eight of each from a place on.
 fn rows_of(words: &[u64], place: u32) -> Word
-    requires tributaries { (length words.now ≡ 4) ⊎ (length words.now ≡ 7) }
+    requires seven { length words.now ≡ 7 }
     requires within { place ≤ 56 }
     ensures { result ≡ interleaved (map (λ word. drop place (low_bits 64 word)) words.now) 8 }
 {
-    if words.len() == 4 {
-        let four = interleave4(
-            byte_at(words[0], place),
-            byte_at(words[1], place),
-            byte_at(words[2], place),
-            byte_at(words[3], place),
-        );
-        Word::of(u64::from(four), 32)
-    } else {
-        let seven = interleave7(
-            byte_at(words[0], place),
-            byte_at(words[1], place),
-            byte_at(words[2], place),
-            byte_at(words[3], place),
-            byte_at(words[4], place),
-            byte_at(words[5], place),
-            byte_at(words[6], place),
-        );
-        Word::of(seven, 56)
-    }
+    let seven = interleave7(
+        byte_at(words[0], place),
+        byte_at(words[1], place),
+        byte_at(words[2], place),
+        byte_at(words[3], place),
+        byte_at(words[4], place),
+        byte_at(words[5], place),
+        byte_at(words[6], place),
+    );
+    Word::of(seven, 56)
 }
 
 // The eight bits of a number from a place on.
@@ -164,7 +161,7 @@ fn deal_next(line: &Packed, place: usize, count: u32, tributaries: &mut [Packed]
 {
     if tributaries.len() == 4 {
         let mut words = [0; 4];
-        gather_pairs(line, place, count, &mut words);
+        gather_lanes(line, place, count, &mut words);
         append_each(&words, 16 * ((count + 15) / 16), count, tributaries);
     } else {
         let mut words = [0; 7];
@@ -186,26 +183,26 @@ fn bits_from(line: &Packed, place: usize) -> u64
     line.read_left(place, left as u32)
 }
 
-// Gathers the bits of a line from a place on into four or seven numbers in turn, so many in each, and
-// others behind them up to whole bytes.
+// Gathers the bits of a line from a place on into seven numbers in turn, so many in each, and others
+// behind them up to whole bytes.
 #[inline(always)]
 fn gather_rows(line: &Packed, place: usize, count: u32, words: &mut [u64])
-    requires tributaries { (length words.old ≡ 4) ⊎ (length words.old ≡ 7) }
+    requires seven { length words.old ≡ 7 }
     requires few { count ≤ 64 }
-    requires within { place + count * length words.old ≤ length line.now.bits }
-    ensures { (j : ℕ) → j < length words.old → take count (low_bits (8 * ((count + 7) / 8)) (slice_index words.new j)) ≡ column (length words.old) count (drop place line.now.bits) j }
+    requires within { place + count * 7 ≤ length line.now.bits }
+    ensures { (j : ℕ) → j < 7 → take count (low_bits (8 * ((count + 7) / 8)) (slice_index words.new j)) ≡ column 7 count (drop place line.now.bits) j }
 {
     // a place fits, since a length does
     let _fits = line.len();
     for row in 0..(count + 7) / 8 {
-        let from = place + 8 * row as usize * words.len();
-        take_rows(bits_from(line, from), words);
+        take_rows(bits_from(line, place + 56 * row as usize), words);
     }
 }
 
-// The same of four numbers, sixteen bits of each at a time.
+// Gathers the bits of a line from a place on into four numbers in turn, so many in each, and others
+// behind them up to lanes of sixteen.
 #[inline(always)]
-fn gather_pairs(line: &Packed, place: usize, count: u32, words: &mut [u64])
+fn gather_lanes(line: &Packed, place: usize, count: u32, words: &mut [u64])
     requires four { length words.old ≡ 4 }
     requires few { count ≤ 64 }
     requires within { place + count * 4 ≤ length line.now.bits }
@@ -213,24 +210,33 @@ fn gather_pairs(line: &Packed, place: usize, count: u32, words: &mut [u64])
 {
     // a place fits, since a length does
     let _fits = line.len();
-    for pair in 0..(count + 15) / 16 {
-        let bits = bits_from(line, place + 64 * pair as usize);
-        take_rows(bits, words);
-        take_rows(bits << 32, words);
+    for index in 0..(count + 15) / 16 {
+        let bits = bits_from(line, place + 64 * index as usize);
+        shift_lanes_in(lanes_of(bits), words);
     }
 }
 
-// Appends the first bits of a number of 64 bits to four or seven others in turn, eight to each.
+// Appends a lane of a number of 64 bits to each of four others.
+#[inline(always)]
+fn shift_lanes_in(lanes: u64, words: &mut [u64])
+    requires { length words.old ≡ 4 }
+    ensures { (j m : ℕ) → j < 4 → m ≤ 48 → low_bits (m + 16) (slice_index words.new j) ≡ low_bits m (slice_index words.old j) ++ lane (low_bits 64 lanes) j }
+{
+    // the lanes that are left, the next in the highest bits
+    let mut left = lanes;
+    for index in 0..words.len() {
+        words[index] = (words[index] << 16).wrapping_add(left >> 48);
+        left <<= 16;
+    }
+}
+
+// Appends the first bits of a number of 64 bits to seven others in turn, eight to each.
 #[inline(always)]
 fn take_rows(bits: u64, words: &mut [u64])
-    requires { (length words.old ≡ 4) ⊎ (length words.old ≡ 7) }
-    ensures { (j m : ℕ) → j < length words.old → m ≤ 56 → low_bits (m + 8) (slice_index words.new j) ≡ low_bits m (slice_index words.old j) ++ column (length words.old) 8 (low_bits 64 bits) j }
+    requires { length words.old ≡ 7 }
+    ensures { (j m : ℕ) → j < 7 → m ≤ 56 → low_bits (m + 8) (slice_index words.new j) ≡ low_bits m (slice_index words.old j) ++ column 7 8 (low_bits 64 bits) j }
 {
-    if words.len() == 4 {
-        shift_in(&gather4((bits >> 32) as u32), words);
-    } else {
-        shift_in(&gather7(bits >> 8), words);
-    }
+    shift_in(&gather7(bits >> 8), words);
 }
 
 // Appends the bits of a byte to each number.

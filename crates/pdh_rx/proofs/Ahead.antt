@@ -1,9 +1,9 @@
 -- Acts of which some children got bits ahead that bring nothing: the children may be given such bits at once, before those of other
 -- children that come earlier, and the watch sees what it sees where each bit comes in its turn.
-use Rattle.std.proofs.Common.{◌≡◌, inl, inr, ℕ, Bool, cond, List, [], ◌∷◌, ◌++◌, refl, sym, ap, ◌∙◌, subst, append_assoc}
-use Rattle.std.specs.Prelude.{Result, Ok, Err, IfOk}
+use Rattle.std.proofs.Common.{◌≡◌, inl, inr, ℕ, ◌+◌, ◌<◌, ◌≤◌, Bool, cond, List, [], ◌∷◌, ◌++◌, refl, sym, ap, ◌∙◌, subst, arith, append_assoc}
+use Rattle.std.specs.Prelude.{◌⊎◌}
 use Rattle.std.proofs.lemmas.List.{append-nil}
-use Rattle.std.proofs.lemmas.Bool.{cases_eq, eq-eqb, ne_eqb}
+use Rattle.std.proofs.lemmas.Bool.{cases_eq, cases_lt, eq-eqb, ne_eqb, lt-ltb, le-ltb}
 use Rattle.pdh_watch.specs.declared.event.Event.{Event}
 use Rattle.pdh_edge.specs.Ports.{Outputs, IsPrefix, only, for_leaf}
 use Rattle.pdh_events.specs.Acts.{Act, with_more, acts_events}
@@ -12,6 +12,7 @@ use Rattle.pdh_events.specs.laws.ActsLaws.{bits_to, after_acts, bits_to-append, 
 use Rattle.pdh_events.specs.laws.QuietLaws.{IsQuiet, quiet_front, quiet_rest, quiet_join, OnlyGive, quiet_acts}
 use Rattle.pdh_rx.specs.Meaning.{Meaning}
 use Rattle.pdh_rx.specs.Node.{EachStands, child_notes, Gives, GivesPart, Plays, PlaysPart}
+use Rattle.pdh_rx.specs.Merging.{first_bits, FirstGot}
 use Rattle.pdh_rx.specs.laws.NodeLaws.{AllSound}
 use Rattle.pdh_rx.proofs.Gains.{gives_nothing, gives_same, gives_join, gives_part}
 use Rattle.pdh_rx.proofs.Playing.{SawJoins}
@@ -32,13 +33,59 @@ for_here j bits = ap (λ b. cond b bits []) (eq-eqb j j refl)
 pub for_other : (j k : ℕ) (bits : List Bool) → (k ≡ j → ⊥) → for_leaf j bits k ≡ []
 for_other j k bits ne = ap (λ b. cond b bits []) (ne_eqb k j ne)
 
+-- bits for one child that bring nothing
+quiet_for : (ms : List Meaning) (i : ℕ) (more : List Bool) (lines : ℕ → List Bool) → IsQuiet (child_notes ms i) (lines i) more → (j : ℕ) → IsQuiet (child_notes ms j) (lines j) (for_leaf i more j)
+quiet_for ms i more lines quiet j = elim (cases_eq j i) [
+  | inl e ↦
+      let P : ℕ → Type 0 = λ k. IsQuiet (child_notes ms k) (lines k) (for_leaf i more k) in
+      let Q : List Bool → Type 0 = IsQuiet (child_notes ms i) (lines i) in
+      subst P (sym e) (subst Q (sym (for_here i more)) quiet)
+  | inr ne ↦ let Q : List Bool → Type 0 = IsQuiet (child_notes ms j) (lines j) in subst Q (sym (for_other i j more ne)) tt
+]
+
+-- ---- the first children
+
+module _ {C : Type 0} (stands : C → List Bool → Type 0) (ms : List Meaning) where
+  pub first_none : (bits : ℕ → List Bool) (cs : List C) (o : Outputs) → FirstGot stands ms bits 0 cs cs o o
+  first_none bits cs o = record {
+    gives = gives_nothing stands ms cs o (first_bits bits 0) none;
+    quiet = λ lines each j. (let P : List Bool → Type 0 = IsQuiet (child_notes ms j) (lines j) in subst P (sym (none j)) tt);
+  }
+    where
+      none : (j : ℕ) → first_bits bits 0 j ≡ []
+      none j = ap (λ b. cond b (bits j) []) (le-ltb j 0 (omega arith))
+
+  -- one more got its bits
+  pub first_more : (bits bits' : ℕ → List Bool) (t : ℕ) (xs ys zs : List C) (o p q : Outputs) → ((j : ℕ) → j < t → bits' j ≡ bits j) → FirstGot stands ms bits t xs ys o p → Gives stands ms (for_leaf t (bits' t)) ys zs p q
+      → ((lines : ℕ → List Bool) → EachStands stands ys lines → IsQuiet (child_notes ms t) (lines t) (bits' t)) → FirstGot stands ms bits' (t + 1) xs zs o q
+  first_more bits bits' t xs ys zs o p q before f g quiet = record {
+    gives = gives_join stands ms (first_bits bits t) (for_leaf t (bits' t)) (first_bits bits' (t + 1)) xs ys zs o p q same f.gives g;
+    quiet = λ lines each j.
+        let P : List Bool → Type 0 = IsQuiet (child_notes ms j) (lines j) in
+        subst P (sym (same j)) (quiet_join (child_notes ms j) (first_bits bits t j) (for_leaf t (bits' t) j) (lines j) (f.quiet lines each j) (quiet_for ms t (bits' t) (λ i. lines i ++ first_bits bits t i) (quiet (with_more lines (first_bits bits t)) (f.gives.each lines each)) j));
+  }
+    where
+      other : (j : ℕ) → (j ≡ t → ⊥) → (j < t) ⊎ (t ≤ j) → first_bits bits' (t + 1) j ≡ first_bits bits t j
+      other j ne (inl less) = ap (λ b. cond b (bits' j) []) (lt-ltb j (t + 1) (omega (arith, less))) ∙ before j less ∙ sym (ap (λ b. cond b (bits j) []) (lt-ltb j t less))
+      other j ne (inr more) = ap (λ b. cond b (bits' j) []) (le-ltb j (t + 1) (omega (arith, more, ne))) ∙ sym (ap (λ b. cond b (bits j) []) (le-ltb j t more))
+
+      same : (j : ℕ) → first_bits bits' (t + 1) j ≡ first_bits bits t j ++ for_leaf t (bits' t) j
+      same j = elim (cases_eq j t) [
+        | inl e ↦
+            let P : ℕ → Type 0 = λ i. first_bits bits' (t + 1) i ≡ first_bits bits t i ++ for_leaf t (bits' t) i in
+            subst P (sym e) (ap (λ b. cond b (bits' t) []) (lt-ltb t (t + 1) (omega arith)) ∙ sym (ap (λ b. cond b (bits t) [] ++ for_leaf t (bits' t) t) (le-ltb t t (omega arith)) ∙ for_here t (bits' t)))
+        | inr ne ↦ other j ne (cases_lt j t) ∙ sym (ap (λ x. first_bits bits t j ++ x) (for_other t j (bits' t) ne) ∙ append-nil (first_bits bits t j))
+      ]
+
+-- ---- acts
+
 module _ {C W : Type 0} (stands : C → List Bool → Type 0) (saw : W → List Event → W → Type 0) (joins : SawJoins saw) (ms : List Meaning) where
-  -- nothing was done
-  pub ahead_nothing : (cs : List C) (o : Outputs) (w : W) → saw w [] w → PlaysAhead stands saw ms [] (λ j. []) cs cs o o w w
-  ahead_nothing cs o w seen = record {
-    gives = gives_nothing stands ms cs o (got_ahead [] (λ j. [])) (λ j. refl);
+  -- bits ahead were given alone
+  pub ahead_gives : (bits : ℕ → List Bool) (t : ℕ) (xs ys : List C) (o p : Outputs) (w : W) → saw w [] w → FirstGot stands ms bits t xs ys o p → PlaysAhead stands saw ms [] (first_bits bits t) xs ys o p w w
+  ahead_gives bits t xs ys o p w seen f = record {
+    gives = f.gives;
     sees = λ lines each. seen;
-    quiet = λ lines each j. tt;
+    quiet = λ lines each j. (let P : List Bool → Type 0 = λ x. IsQuiet (child_notes ms j) x (first_bits bits t j) in subst P (sym (append-nil (lines j))) (f.quiet lines each j));
   }
 
   -- a child got more bits that bring nothing
@@ -50,20 +97,11 @@ module _ {C W : Type 0} (stands : C → List Bool → Type 0) (saw : W → List 
     gives = gives_join stands ms (got_ahead done ahead) (for_leaf i more) (got_ahead done (with_more ahead (for_leaf i more))) xs ys zs o p q
         (λ j. sym (append_assoc (bits_to done j) (ahead j) (for_leaf i more j))) f.gives g;
     sees = f.sees;
-    quiet = λ lines each j. quiet_join (child_notes ms j) (ahead j) (for_leaf i more j) (lines j ++ bits_to done j) (f.quiet lines each j) (last lines each j);
+    quiet = λ lines each j.
+        let S : List Bool → Type 0 = λ v. IsQuiet (child_notes ms i) v more in
+        quiet_join (child_notes ms j) (ahead j) (for_leaf i more j) (lines j ++ bits_to done j) (f.quiet lines each j)
+        (quiet_for ms i more (λ k. (lines k ++ bits_to done k) ++ ahead k) (subst S (sym (append_assoc (lines i) (bits_to done i) (ahead i))) (quiet (with_more lines (got_ahead done ahead)) (f.gives.each lines each))) j);
   }
-    where
-      last : (lines : ℕ → List Bool) → EachStands stands xs lines → (j : ℕ) → IsQuiet (child_notes ms j) ((lines j ++ bits_to done j) ++ ahead j) (for_leaf i more j)
-      last lines each j = elim (cases_eq j i) [
-        | inl e ↦
-            let Q : ℕ → Type 0 = λ k. IsQuiet (child_notes ms k) ((lines k ++ bits_to done k) ++ ahead k) (for_leaf i more k) in
-            let R : List Bool → Type 0 = λ v. IsQuiet (child_notes ms i) ((lines i ++ bits_to done i) ++ ahead i) v in
-            let S : List Bool → Type 0 = λ v. IsQuiet (child_notes ms i) v more in
-            subst Q (sym e) (subst R (sym (for_here i more)) (subst S (sym (append_assoc (lines i) (bits_to done i) (ahead i))) (quiet (with_more lines (got_ahead done ahead)) (f.gives.each lines each))))
-        | inr ne ↦
-            let R : List Bool → Type 0 = λ v. IsQuiet (child_notes ms j) ((lines j ++ bits_to done j) ++ ahead j) v in
-            subst R (sym (for_other i j more ne)) tt
-      ]
 
   -- the same bits ahead, told in another way
   pub ahead_same : (done : List Act) (ahead ahead' : ℕ → List Bool) (xs ys : List C) (o p : Outputs) (v w : W) → ((j : ℕ) → ahead' j ≡ ahead j) → PlaysAhead stands saw ms done ahead xs ys o p v w → PlaysAhead stands saw ms done ahead' xs ys o p v w
@@ -198,7 +236,3 @@ module _ {C W : Type 0} (stands : C → List Bool → Type 0) (saw : W → List 
 pub quiet_alike : (f g : List Bool → Bool → List Event) → ((line : List Bool) (bit : Bool) → g line bit ≡ f line bit) → (line bits : List Bool) → IsQuiet f line bits → IsQuiet g line bits
 quiet_alike f g same line [] quiet = tt
 quiet_alike f g same line (bit ∷ bits) quiet = (same line bit ∙ quiet.0, quiet_alike f g same (line ++ bit ∷ []) bits quiet.1)
-
-pub if_ok_then : {T E : Type 0} (P Q : T → Type 0) (r : Result T E) → ((x : T) → P x → Q x) → IfOk r P → IfOk r Q
-if_ok_then P Q (Ok x) h p = h x p
-if_ok_then P Q (Err e) h p = p

@@ -1,8 +1,10 @@
 -- The children's bits of what is loaded: each gets at once those that bring no event, and then the one whose next bit stands first gets
 -- that bit, and those behind it that bring none, until none is due.
-use Rattle.std.proofs.Common.{◌≡◌, inl, inr, ℕ, zero, suc, ◌+◌, ◌-◌, ◌%◌, ◌<◌, ◌≤◌, ◌==◌, Bool, false, cond, nat_lt, List, [], ◌∷◌, ◌++◌, length, take, drop, get_or, set, Option, Some, refl, sym, ap, ◌∙◌, subst, arith}
-use Rattle.std.proofs.lemmas.List.{append-nil, length-append, length-take-le, take-append-drop, get_or-set_same, get_or-set_other}
+use Rattle.std.proofs.Common.{◌≡◌, inl, inr, ℕ, zero, suc, ◌+◌, ◌-◌, ◌%◌, ◌<◌, ◌≤◌, ◌==◌, Bool, false, cond, List, [], ◌∷◌, ◌++◌, length, take, drop, get_or, set, Option, Some, refl, sym, ap, ◌∙◌, subst, arith}
+use Rattle.std.proofs.lemmas.List.{append_cancel_left, append-nil, length-append, length-take-le, take-append-drop, get_or-set_same, get_or-set_other}
 use Rattle.std.specs.Prelude.{◌⊎◌}
+use Rattle.std.proofs.Math.ListN.{get_or-eq_default}
+use Rattle.std.proofs.Math.Seq.{take-add}
 use Rattle.std.proofs.lemmas.Nat.{mod_below}
 use Rattle.std.proofs.lemmas.Bool.{cases_eq, cases_lt, eq-eqb, ne_eqb, lt-ltb, le-ltb}
 use Rattle.pdh_watch.specs.declared.event.Event.{Event}
@@ -15,9 +17,11 @@ use Rattle.pdh_rx.specs.declared.merging.Due.{Due}
 use Rattle.pdh_rx.specs.Meaning.{Meaning}
 use Rattle.pdh_rx.specs.Node.{EachStands, child_notes, Gives, GivesPart, Plays, PlaysPart}
 use Rattle.pdh_rx.specs.Places.{cell_acts, places_acts, StandsAt}
+use Rattle.pdh_rx.specs.Merging.{nowhere, due_at, due_place, given_bits, first_bits, Begun}
 use Rattle.pdh_rx.specs.laws.NodeLaws.{AllSound}
+use Rattle.pdh_rx.proofs.Gains.{gives_part}
 use Rattle.pdh_rx.proofs.Playing.{SawJoins}
-use Rattle.pdh_rx.proofs.Ahead.{got_ahead, PlaysAhead, for_here, for_other, ahead_same, ahead_nothing, ahead_more, ahead_push, ahead_all, ahead_part_push, ahead_part_more}
+use Rattle.pdh_rx.proofs.Ahead.{first_none, first_more, got_ahead, PlaysAhead, for_here, for_other, ahead_same, ahead_gives, ahead_more, ahead_push, ahead_all, ahead_part_push, ahead_part_more}
 use Rattle.pdh_rx.proofs.Places.{places_give, places_split, ahead_of, due_front, due_next, one_place}
 use Rattle.pdh_rx.proofs.Standing.{none_at, own_first, cell_bits}
 
@@ -30,28 +34,6 @@ place_prefix tribs cell n end j le =
     let none : 0 + n ≡ n = omega arith in
     ap (λ k. bits_to (places_acts tribs cell 0 k) j) count ∙ ap (λ a. bits_to a j) (places_split tribs cell 0 n (end - n)) ∙ bits_to-append (places_acts tribs cell 0 n) (places_acts tribs cell (0 + n) (end - n)) j
     ∙ ap (λ p. bits_to (places_acts tribs cell 0 n) j ++ bits_to (places_acts tribs cell p (end - n)) j) none
-
-same_back : (xs ys zs : List Bool) → xs ++ ys ≡ xs ++ zs → ys ≡ zs
-same_back [] ys zs e = e
-same_back (x ∷ xs) ys zs e = same_back xs ys zs (tail_same e)
-  where
-    tail_same : x ∷ (xs ++ ys) ≡ x ∷ (xs ++ zs) → xs ++ ys ≡ xs ++ zs
-    tail_same h = cc
-
--- so many bits, and then so many more
-pub take_and : (k n : ℕ) (xs : List Bool) → take (k + n) xs ≡ take k xs ++ take n (drop k xs)
-take_and zero n xs = (let e : 0 + n ≡ n = omega arith in ap (λ m. take m xs) e)
-take_and (suc k) n [] = nothing (suc k + n) ∙ sym (nothing n)
-  where
-    nothing : (m : ℕ) → take {A = Bool} m [] ≡ []
-    nothing zero = refl
-    nothing (suc m) = refl
-take_and (suc k) n (x ∷ xs) = (let e : suc k + n ≡ suc (k + n) = omega arith in ap (λ m. take m (x ∷ xs)) e ∙ ap (λ v. x ∷ v) (take_and k n xs))
-
-pub get_or_out : {X : Type 0} (xs : List X) (n : ℕ) (d : X) → length xs ≤ n → get_or xs n d ≡ d
-get_or_out [] n d le = refl
-get_or_out (x ∷ xs) zero d le = absurd (omega (arith, le))
-get_or_out (x ∷ xs) (suc n) d le = get_or_out xs n d (omega (arith, le))
 
 -- no place is that of a tributary that there isn't
 pub none_beyond : (tribs : ℕ) (cell : ℕ → Option Bool) (j from n : ℕ) → (0 < tribs) ⊎ (n ≡ 0) → tribs ≤ j → bits_to (places_acts tribs cell from n) j ≡ []
@@ -80,7 +62,7 @@ module _ (tribs : ℕ) (cell : ℕ → Option Bool) (end j : ℕ) (bits : List B
       place_prefix tribs cell p (p + 1) j (omega arith) ∙ ap (λ v. v ++ bits_to (places_acts tribs cell p ((p + 1) - p)) j) f.before
       ∙ ap (λ n. take k bits ++ bits_to (places_acts tribs cell p n) j) back
       ∙ ap (λ v. take k bits ++ v) (own_first tribs cell j p 0 here.1 ∙ ap (λ c. cell_bits c ++ []) here.2 ∙ sym one)
-      ∙ sym (take_and k 1 bits)
+      ∙ sym (take-add k 1 bits)
     where
       first_of : (k : ℕ) (xs : List Bool) → k < length xs → take 1 (drop k xs) ≡ get_or xs k false ∷ []
       first_of zero [] lt = absurd (omega (arith, lt))
@@ -93,29 +75,10 @@ module _ (tribs : ℕ) (cell : ℕ → Option Bool) (end j : ℕ) (bits : List B
   given_behind k p n q f lt g =
       let later : p < q = stands_later k p ((k + 1) + n) q f g (omega arith) in
       let here : bits_to (places_acts tribs cell 0 (p + 1)) j ≡ take (k + 1) bits = given_here k p f lt in
-      same_back (take (k + 1) bits) (bits_to (places_acts tribs cell (p + 1) (q - (p + 1))) j) (take n (drop (k + 1) bits))
-      (ap (λ v. v ++ bits_to (places_acts tribs cell (p + 1) (q - (p + 1))) j) (sym here) ∙ sym (place_prefix tribs cell (p + 1) q j (omega (arith, later))) ∙ g.before ∙ take_and (k + 1) n bits)
+      append_cancel_left (take (k + 1) bits) (bits_to (places_acts tribs cell (p + 1) (q - (p + 1))) j) (take n (drop (k + 1) bits))
+      (ap (λ v. v ++ bits_to (places_acts tribs cell (p + 1) (q - (p + 1))) j) (sym here) ∙ sym (place_prefix tribs cell (p + 1) q j (omega (arith, later))) ∙ g.before ∙ take-add (k + 1) n bits)
 
 -- ---- how far the tributaries are
-
--- where no tributary is
-abbrev pub nowhere : ℕ → Due
-nowhere end = record { place = end; given = 0 }
-
-abbrev pub due_at : ℕ → List Due → ℕ → Due
-due_at end list j = get_or list j (nowhere end)
-
-abbrev pub due_place : ℕ → List Due → ℕ → ℕ
-due_place end list j = (due_at end list j).place
-
--- what the first tributaries got ahead
-abbrev pub first_ahead : ℕ → (ℕ → List Bool) → ℕ → List Due → ℕ → List Bool
-first_ahead end bits t list j = cond (nat_lt j t) (take (due_at end list j).given (bits j)) []
-
--- the first tributaries got their bits that bring nothing
-pub record Begun {C W : Type 0} (stands : C → List Bool → Type 0) (saw : W → List Event → W → Type 0) (ms : List Meaning) (tribs : ℕ) (cell : ℕ → Option Bool) (end : ℕ) (bits : ℕ → List Bool) (t : ℕ) (list : List Due) (old new : List C) (before after : Outputs) (was is : W) : Type 0 where
-  pub stand : (j : ℕ) → j < t → StandsAt tribs cell end j (bits j) (due_at end list j).given (due_place end list j)
-  pub ahead : PlaysAhead stands saw ms [] (first_ahead end bits t list) old new before after was is
 
 -- All acts before a place were played, and each tributary got what brings nothing up to its due place.
 pub record Merges {C W : Type 0} (stands : C → List Bool → Type 0) (saw : W → List Event → W → Type 0) (ms : List Meaning) (tribs : ℕ) (cell : ℕ → Option Bool) (end : ℕ) (bits : ℕ → List Bool) (least : ℕ) (list : List Due) (old new : List C) (before after : Outputs) (was is : W) : Type 0 where
@@ -127,22 +90,19 @@ pub record Merges {C W : Type 0} (stands : C → List Bool → Type 0) (saw : W 
   pub most : (j : ℕ) → due_place end list j ≤ end
   pub ahead : PlaysAhead stands saw ms (places_acts tribs cell 0 at) (ahead_of tribs cell at (due_place end list)) old new before after was is
 
-module _ {C W : Type 0} (stands : C → List Bool → Type 0) (saw : W → List Event → W → Type 0) (joins : SawJoins saw) (ms : List Meaning) (tribs : ℕ) (cell : ℕ → Option Bool) (end : ℕ) (bits : ℕ → List Bool) where
-  -- each tributary's bits are what all places give it
-  abbrev pub AreAll : Type 0
-  AreAll = (j : ℕ) → j < tribs → bits j ≡ bits_to (places_acts tribs cell 0 end) j
+-- each tributary's bits are what all places give it
+abbrev pub AreAll : ℕ → (ℕ → Option Bool) → ℕ → (ℕ → List Bool) → Type 0
+AreAll tribs cell end bits = (j : ℕ) → j < tribs → bits j ≡ bits_to (places_acts tribs cell 0 end) j
 
-  pub begun_none : (list : List Due) (cs : List C) (o : Outputs) (w : W) → saw w [] w → Begun stands saw ms tribs cell end bits 0 list cs cs o o w w
-  begun_none list cs o w seen = record {
-    stand = λ j lt. absurd (omega (arith, lt));
-    ahead = ahead_same stands saw joins ms [] (λ j. []) (first_ahead end bits 0 list) cs cs o o w w (λ j. ap (λ b. cond b (take (due_at end list j).given (bits j)) []) (le-ltb j 0 (omega arith))) (ahead_nothing stands saw joins ms cs o w seen);
-  }
+module _ {C : Type 0} (stands : C → List Bool → Type 0) (ms : List Meaning) (tribs : ℕ) (cell : ℕ → Option Bool) (end : ℕ) (bits : ℕ → List Bool) where
+  pub begun_none : (list : List Due) (cs : List C) (o : Outputs) → Begun stands ms tribs cell end bits 0 list cs cs o o
+  begun_none list cs o = record { stand = λ j lt. absurd (omega (arith, lt)); got = first_none stands ms (given_bits end bits list) cs o }
 
-  pub begun_more : (t : ℕ) (list list' : List Due) (due : Due) (xs ys zs : List C) (o p q : Outputs) (v w : W) → t < length list → list' ≡ set list t due → StandsAt tribs cell end t (bits t) due.given due.place
-      → Begun stands saw ms tribs cell end bits t list xs ys o p v w → Gives stands ms (for_leaf t (take due.given (bits t))) ys zs p q
+  pub begun_more : (t : ℕ) (list list' : List Due) (due : Due) (xs ys zs : List C) (o p q : Outputs) → t < length list → list' ≡ set list t due → StandsAt tribs cell end t (bits t) due.given due.place
+      → Begun stands ms tribs cell end bits t list xs ys o p → Gives stands ms (for_leaf t (take due.given (bits t))) ys zs p q
       → ((lines : ℕ → List Bool) → EachStands stands ys lines → IsQuiet (child_notes ms t) (lines t) (take due.given (bits t)))
-      → Begun stands saw ms tribs cell end bits (t + 1) list' xs zs o q v w
-  begun_more t list list' due xs ys zs o p q v w inside is placed f g quiet = record {
+      → Begun stands ms tribs cell end bits (t + 1) list' xs zs o q
+  begun_more t list list' due xs ys zs o p q inside is placed f g quiet = record {
     stand = λ j lt. elim (cases_eq j t) [
       | inl e ↦
           let P : ℕ → Type 0 = λ i. StandsAt tribs cell end i (bits i) (due_at end list' i).given (due_place end list' i) in
@@ -150,8 +110,10 @@ module _ {C W : Type 0} (stands : C → List Bool → Type 0) (saw : W → List 
           subst P (sym e) (subst Q (sym here) placed)
       | inr ne ↦ let Q : Due → Type 0 = λ d. StandsAt tribs cell end j (bits j) d.given d.place in subst Q (sym (other j ne)) (f.stand j (omega (arith, lt, ne)))
     ];
-    ahead = ahead_same stands saw joins ms [] (with_more (first_ahead end bits t list) (for_leaf t (take due.given (bits t)))) (first_ahead end bits (t + 1) list') xs zs o q v w same
-        (ahead_more stands saw joins ms [] (first_ahead end bits t list) t (take due.given (bits t)) xs ys zs o p q v w f.ahead g quiet);
+    got =
+        let P : Due → Type 0 = λ d. Gives stands ms (for_leaf t (take d.given (bits t))) ys zs p q in
+        let Q : Due → Type 0 = λ d. (lines : ℕ → List Bool) → EachStands stands ys lines → IsQuiet (child_notes ms t) (lines t) (take d.given (bits t)) in
+        first_more stands ms (given_bits end bits list) (given_bits end bits list') t xs ys zs o p q (λ j lt. ap (λ (d : Due). take d.given (bits j)) (other j (λ e. omega (arith, lt, e)))) f.got (subst P (sym here) g) (subst Q (sym here) quiet);
   }
     where
       here : due_at end list' t ≡ due
@@ -160,25 +122,36 @@ module _ {C W : Type 0} (stands : C → List Bool → Type 0) (saw : W → List 
       other : (j : ℕ) → (j ≡ t → ⊥) → due_at end list' j ≡ due_at end list j
       other j ne = ap (λ l. get_or l j (nowhere end)) is ∙ get_or-set_other list t j due (nowhere end) ne
 
-      same : (j : ℕ) → first_ahead end bits (t + 1) list' j ≡ with_more (first_ahead end bits t list) (for_leaf t (take due.given (bits t))) j
-      same j = elim (cases_eq j t) [
+  -- a glide of one of the first tributaries failed
+  pub begun_part : AllSound ms → AreAll tribs cell end bits → (t : ℕ) (list : List Due) (xs ys : List C) (o p q : Outputs) → t < tribs → Begun stands ms tribs cell end bits t list xs ys o p → GivesPart stands ms (for_leaf t (bits t)) ys p q
+      → GivesPart stands ms (bits_to (places_acts tribs cell 0 end)) xs o q
+  begun_part sound all t list xs ys o p q inside f g = gives_part stands ms sound (first_bits (given_bits end bits list) t) (for_leaf t (bits t)) (bits_to (places_acts tribs cell 0 end)) xs ys o p q prefix f.got.gives g
+    where
+      prefix : (j : ℕ) → IsPrefix (first_bits (given_bits end bits list) t j ++ for_leaf t (bits t) j) (bits_to (places_acts tribs cell 0 end) j)
+      prefix j = elim (cases_eq j t) [
         | inl e ↦
-            let P : ℕ → Type 0 = λ i. first_ahead end bits (t + 1) list' i ≡ with_more (first_ahead end bits t list) (for_leaf t (take due.given (bits t))) i in
-            subst P (sym e) (ap (λ b. cond b (take (due_at end list' t).given (bits t)) []) (lt-ltb t (t + 1) (omega arith)) ∙ ap (λ (d : Due). take d.given (bits t)) here
-            ∙ sym (ap (λ b. cond b (take (due_at end list t).given (bits t)) [] ++ for_leaf t (take due.given (bits t)) t) (le-ltb t t (omega arith)) ∙ for_here t (take due.given (bits t))))
-        | inr ne ↦ before j ne (cases_lt j t)
+            let none : first_bits (given_bits end bits list) t j ≡ [] = ap (λ b. cond b (take (due_at end list j).given (bits j)) []) (le-ltb j t (omega (arith, e))) in
+            let mine : for_leaf t (bits t) j ≡ bits j = ap (λ i. for_leaf t (bits t) i) e ∙ for_here t (bits t) ∙ sym (ap bits e) in
+            ([], sym (append-nil (first_bits (given_bits end bits list) t j ++ for_leaf t (bits t) j) ∙ ap (λ v. v ++ for_leaf t (bits t) j) none ∙ mine ∙ all j (omega (arith, e, inside))))
+        | inr ne ↦ other j ne (cases_lt j t)
       ]
         where
-          before : (j : ℕ) → (j ≡ t → ⊥) → (j < t) ⊎ (t ≤ j) → first_ahead end bits (t + 1) list' j ≡ with_more (first_ahead end bits t list) (for_leaf t (take due.given (bits t))) j
-          before j ne (inl less) =
-              ap (λ b. cond b (take (due_at end list' j).given (bits j)) []) (lt-ltb j (t + 1) (omega (arith, less))) ∙ ap (λ (d : Due). take d.given (bits j)) (other j ne)
-              ∙ sym (ap (λ b. cond b (take (due_at end list j).given (bits j)) [] ++ for_leaf t (take due.given (bits t)) j) (lt-ltb j t less) ∙ ap (λ x. take (due_at end list j).given (bits j) ++ x) (for_other t j (take due.given (bits t)) ne) ∙ append-nil (take (due_at end list j).given (bits j)))
-          before j ne (inr more) =
-              ap (λ b. cond b (take (due_at end list' j).given (bits j)) []) (le-ltb j (t + 1) (omega (arith, more, ne)))
-              ∙ sym (ap (λ b. cond b (take (due_at end list j).given (bits j)) [] ++ for_leaf t (take due.given (bits t)) j) (le-ltb j t more) ∙ for_other t j (take due.given (bits t)) ne)
+          other : (j : ℕ) → (j ≡ t → ⊥) → (j < t) ⊎ (t ≤ j) → IsPrefix (first_bits (given_bits end bits list) t j ++ for_leaf t (bits t) j) (bits_to (places_acts tribs cell 0 end) j)
+          other j ne (inl less) =
+              let placed = f.stand j less in
+              let got : first_bits (given_bits end bits list) t j ++ for_leaf t (bits t) j ≡ bits_to (places_acts tribs cell 0 (due_place end list j)) j =
+              ap (λ v. first_bits (given_bits end bits list) t j ++ v) (for_other t j (bits t) ne) ∙ append-nil (first_bits (given_bits end bits list) t j)
+              ∙ ap (λ b. cond b (take (due_at end list j).given (bits j)) []) (lt-ltb j t less) ∙ sym placed.before in
+              (bits_to (places_acts tribs cell (due_place end list j) (end - due_place end list j)) j, place_prefix tribs cell (due_place end list j) end j placed.within ∙ ap (λ v. v ++ bits_to (places_acts tribs cell (due_place end list j) (end - due_place end list j)) j) (sym got))
+          other j ne (inr more) =
+              let none : first_bits (given_bits end bits list) t j ++ for_leaf t (bits t) j ≡ [] =
+              ap (λ v. first_bits (given_bits end bits list) t j ++ v) (for_other t j (bits t) ne) ∙ append-nil (first_bits (given_bits end bits list) t j)
+              ∙ ap (λ b. cond b (take (due_at end list j).given (bits j)) []) (le-ltb j t more) in
+              (bits_to (places_acts tribs cell 0 end) j, ap (λ v. v ++ bits_to (places_acts tribs cell 0 end) j) (sym none))
 
-  pub begun_all : (list : List Due) (xs ys : List C) (o p : Outputs) (v w : W) → (0 < tribs) ⊎ (end ≡ 0) → length list ≡ tribs → Begun stands saw ms tribs cell end bits tribs list xs ys o p v w → Merges stands saw ms tribs cell end bits 0 list xs ys o p v w
-  begun_all list xs ys o p v w some count f = record {
+module _ {C W : Type 0} (stands : C → List Bool → Type 0) (saw : W → List Event → W → Type 0) (joins : SawJoins saw) (ms : List Meaning) (tribs : ℕ) (cell : ℕ → Option Bool) (end : ℕ) (bits : ℕ → List Bool) where
+  pub begun_all : (list : List Due) (xs ys : List C) (o p : Outputs) (w : W) → saw w [] w → (0 < tribs) ⊎ (end ≡ 0) → length list ≡ tribs → Begun stands ms tribs cell end bits tribs list xs ys o p → Merges stands saw ms tribs cell end bits 0 list xs ys o p w w
+  begun_all list xs ys o p w seen some count f = record {
     at = 0;
     far = omega arith;
     within = omega arith;
@@ -186,16 +159,16 @@ module _ {C W : Type 0} (stands : C → List Bool → Type 0) (saw : W → List 
     first = λ j. omega arith;
     most = λ j. elim (cases_lt j tribs) [
       | inl less ↦ (f.stand j less).within
-      | inr more ↦ (let out : due_place end list j ≡ end = ap (λ (d : Due). d.place) (get_or_out list j (nowhere end) (omega (arith, more, count))) in omega (arith, out))
+      | inr more ↦ (let out : due_place end list j ≡ end = ap (λ (d : Due). d.place) (get_or-eq_default list (nowhere end) (omega (arith, more, count))) in omega (arith, out))
     ];
-    ahead = ahead_same stands saw joins ms [] (first_ahead end bits tribs list) (ahead_of tribs cell 0 (due_place end list)) xs ys o p v w same f.ahead;
+    ahead = ahead_same stands saw joins ms [] (first_bits (given_bits end bits list) tribs) (ahead_of tribs cell 0 (due_place end list)) xs ys o p w w same (ahead_gives stands saw joins ms (given_bits end bits list) tribs xs ys o p w seen f.got);
   }
     where
       empty_to : (j : ℕ) → tribs ≤ j → (0 < tribs) ⊎ (end ≡ 0) → (0 < tribs) ⊎ (due_place end list j - 0 ≡ 0)
       empty_to j more (inl h) = inl h
-      empty_to j more (inr h) = (let out : due_place end list j ≡ end = ap (λ (d : Due). d.place) (get_or_out list j (nowhere end) (omega (arith, more, count))) in inr (omega (arith, out, h)))
+      empty_to j more (inr h) = (let out : due_place end list j ≡ end = ap (λ (d : Due). d.place) (get_or-eq_default list (nowhere end) (omega (arith, more, count))) in inr (omega (arith, out, h)))
 
-      same : (j : ℕ) → ahead_of tribs cell 0 (due_place end list) j ≡ first_ahead end bits tribs list j
+      same : (j : ℕ) → ahead_of tribs cell 0 (due_place end list) j ≡ first_bits (given_bits end bits list) tribs j
       same j = elim (cases_lt j tribs) [
         | inl less ↦
             let all : due_place end list j - 0 ≡ due_place end list j = omega arith in
@@ -203,35 +176,7 @@ module _ {C W : Type 0} (stands : C → List Bool → Type 0) (saw : W → List 
         | inr more ↦ none_beyond tribs cell j 0 (due_place end list j - 0) (empty_to j more some) more ∙ sym (ap (λ b. cond b (take (due_at end list j).given (bits j)) []) (le-ltb j tribs more))
       ]
 
-  module _ (sound : AllSound ms) (all : AreAll) where
-    -- a glide of one of the first tributaries failed
-    pub begun_part : (t : ℕ) (list : List Due) (xs ys : List C) (o p q : Outputs) (v w : W) → t < tribs → Begun stands saw ms tribs cell end bits t list xs ys o p v w → GivesPart stands ms (for_leaf t (bits t)) ys p q
-        → PlaysPart stands saw ms (places_acts tribs cell 0 end) xs o q v w
-    begun_part t list xs ys o p q v w inside f g =
-        ahead_part_more stands saw joins ms sound [] (places_acts tribs cell 0 end) (places_acts tribs cell 0 end) t (bits t) (first_ahead end bits t list) xs ys o p q v w refl prefix f.ahead g
-      where
-        prefix : (j : ℕ) → IsPrefix (got_ahead [] (first_ahead end bits t list) j ++ for_leaf t (bits t) j) (bits_to (places_acts tribs cell 0 end) j)
-        prefix j = elim (cases_eq j t) [
-          | inl e ↦
-              let none : first_ahead end bits t list j ≡ [] = ap (λ b. cond b (take (due_at end list j).given (bits j)) []) (le-ltb j t (omega (arith, e))) in
-              let mine : for_leaf t (bits t) j ≡ bits j = ap (λ i. for_leaf t (bits t) i) e ∙ for_here t (bits t) ∙ sym (ap bits e) in
-              ([], sym (append-nil (got_ahead [] (first_ahead end bits t list) j ++ for_leaf t (bits t) j) ∙ ap (λ v. v ++ for_leaf t (bits t) j) none ∙ mine ∙ all j (omega (arith, e, inside))))
-          | inr ne ↦ other j ne (cases_lt j t)
-        ]
-          where
-            other : (j : ℕ) → (j ≡ t → ⊥) → (j < t) ⊎ (t ≤ j) → IsPrefix (got_ahead [] (first_ahead end bits t list) j ++ for_leaf t (bits t) j) (bits_to (places_acts tribs cell 0 end) j)
-            other j ne (inl less) =
-                let placed = f.stand j less in
-                let got : got_ahead [] (first_ahead end bits t list) j ++ for_leaf t (bits t) j ≡ bits_to (places_acts tribs cell 0 (due_place end list j)) j =
-                ap (λ v. first_ahead end bits t list j ++ v) (for_other t j (bits t) ne) ∙ append-nil (first_ahead end bits t list j)
-                ∙ ap (λ b. cond b (take (due_at end list j).given (bits j)) []) (lt-ltb j t less) ∙ sym placed.before in
-                (bits_to (places_acts tribs cell (due_place end list j) (end - due_place end list j)) j, place_prefix tribs cell (due_place end list j) end j placed.within ∙ ap (λ v. v ++ bits_to (places_acts tribs cell (due_place end list j) (end - due_place end list j)) j) (sym got))
-            other j ne (inr more) =
-                let none : got_ahead [] (first_ahead end bits t list) j ++ for_leaf t (bits t) j ≡ [] =
-                ap (λ v. first_ahead end bits t list j ++ v) (for_other t j (bits t) ne) ∙ append-nil (first_ahead end bits t list j)
-                ∙ ap (λ b. cond b (take (due_at end list j).given (bits j)) []) (le-ltb j t more) in
-                (bits_to (places_acts tribs cell 0 end) j, ap (λ v. v ++ bits_to (places_acts tribs cell 0 end) j) (sym none))
-
+  module _ (sound : AllSound ms) (all : AreAll tribs cell end bits) where
     -- none is due
     pub merges_all : (least : ℕ) (list : List Due) (xs ys : List C) (o p : Outputs) (v w : W) → ((j : ℕ) → end ≤ due_place end list j) → Merges stands saw ms tribs cell end bits least list xs ys o p v w
         → Plays stands saw ms (places_acts tribs cell 0 end) xs ys o p v w
@@ -269,7 +214,7 @@ module _ {C W : Type 0} (stands : C → List Bool → Type 0) (saw : W → List 
       bit = get_or (bits i) given false
 
       beyond : (j : ℕ) → tribs ≤ j → due j ≡ end
-      beyond j more = ap (λ (d : Due). d.place) (get_or_out list j (nowhere end) (omega (arith, more, count)))
+      beyond j more = ap (λ (d : Due). d.place) (get_or-eq_default list (nowhere end) (omega (arith, more, count)))
 
       few : (j : ℕ) → j < tribs → due j < end → (due_at end list j).given < length (bits j)
       few j lt less = elim (cases_lt (due_at end list j).given (length (bits j))) [
@@ -434,9 +379,3 @@ module _ {C W : Type 0} (stands : C → List Bool → Type 0) (saw : W → List 
                   ap (λ m. bits_to (places_acts tribs cell (place + 1) (m - (place + 1))) j) (ap (λ (d : Due). d.place) (others j ne))
                   ∙ sym (ap (λ v. later j ++ v) (for_other i j (take n (drop (given + 1) (bits i))) ne) ∙ append-nil (later j) ∙ ap (λ b. cond b [] (ahead_of tribs cell (place + 1) due j)) (ne_eqb j i ne))
             ]
-
--- a read inside of a list
-pub same_inside : {X : Type 0} (xs : List X) (n : ℕ) (d d' : X) → n < length xs → get_or xs n d ≡ get_or xs n d'
-same_inside [] n d d' lt = absurd (omega (arith, lt))
-same_inside (x ∷ xs) zero d d' lt = refl
-same_inside (x ∷ xs) (suc n) d d' lt = same_inside xs n d d' (omega (arith, lt))

@@ -6,6 +6,7 @@ use Rattle.std.proofs.lemmas.Nat.{mod-mul-add}
 use Rattle.std.proofs.Math.Nat.{suc-mul}
 use Rattle.std.proofs.lemmas.List.{get_or-map}
 use Rattle.std.proofs.lemmas.List.FromFn.{get_or-map-range_with_len}
+use Rattle.std.proofs.lemmas.Bool.{true≢false}
 use Rattle.pdh_shape.specs.declared.role.Role.{Role}
 use Rattle.pdh_shape.specs.declared.role.Role.TheVariants.{Align, Service, Control, Just, Info}
 use Rattle.pdh_shape.specs.Frame.{FrameShape, slots}
@@ -39,10 +40,10 @@ flat_by_place f g (x ∷ xs) from h =
 
 -- ---- a frame
 
-some_same : (i k : ℕ) → Some i ≡ Some k → i ≡ k
+pub some_same : (i k : ℕ) → Some i ≡ Some k → i ≡ k
 some_same i k e = cc
 
-none_some : (i : ℕ) → None ≡ Some i → ⊥
+pub none_some : (i : ℕ) → None ≡ Some i → ⊥
 none_some i e = cc
 
 role_is : (s : FrameShape) (r : Role) (more bit : Bool) (j : ℕ) → trib_of r ≡ Some j → role_acts s r more bit ≡ cell_acts j (role_cell s r more bit)
@@ -53,12 +54,9 @@ role_is s (Control k copy) more bit j e = absurd (none_some j e)
 role_is s (Align x) more bit j e = absurd (none_some j e)
 role_is s (Service n) more bit j e = absurd (none_some j e)
 
-one_zero : true ≡ false → ⊥
-one_zero e = cc
-
 role_none : (s : FrameShape) (r : Role) (more bit : Bool) → is_payload r ≡ false → role_acts s r more bit ≡ []
-role_none s (Info k) more bit e = absurd (one_zero e)
-role_none s (Just k) more bit e = absurd (one_zero e)
+role_none s (Info k) more bit e = absurd (true≢false e)
+role_none s (Just k) more bit e = absurd (true≢false e)
 role_none s (Control k copy) more bit e = refl
 role_none s (Align x) more bit e = refl
 role_none s (Service n) more bit e = refl

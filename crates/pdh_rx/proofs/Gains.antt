@@ -1,6 +1,7 @@
 -- Calls that follow each other in giving bits to the children.
-use Rattle.std.proofs.Common.{zero, suc, length, cond, slice_get, arith, ◌≡◌, ℕ, ◌<◌, Bool, List, [], ◌∷◌, ◌++◌, refl, sym, ◌∙◌, ap, subst, append_assoc, Option, Some, None, Result, Ok, Err, OnOk, OnErr}
+use Rattle.std.proofs.Common.{suc, length, cond, arith, ◌≡◌, ℕ, ◌<◌, Bool, List, [], ◌∷◌, ◌++◌, refl, sym, ◌∙◌, ap, subst, append_assoc, Option, Some, None, Result, Ok, Err, OnOk, OnErr}
 use Rattle.std.proofs.lemmas.List.{append-nil}
+use Rattle.std.proofs.lemmas.Option.{slice_get_within}
 use Rattle.pdh_edge.specs.Ports.{Outputs, PrefixOf, IsPrefix, after, nothing}
 use Rattle.pdh_rx.specs.Meaning.{Meaning, Gains, GainsPart}
 use Rattle.pdh_events.specs.Acts.{with_more}
@@ -14,6 +15,14 @@ on_err_from P (Err e) p = p
 pub on_ok_from : {T E : Type 0} (P : Type 0) (r : Result T E) → P → OnOk r P
 on_ok_from P (Ok x) p = p
 on_ok_from P (Err e) p = tt
+
+pub on_ok_each : {T E A : Type 0} {B : A → Type 0} (P : A → Type 0) (r : Result T E) → ((x : A) → B x → OnOk r (P x)) → OnOk r ((x : A) → B x → P x)
+on_ok_each P (Ok y) h = h
+on_ok_each P (Err e) h = tt
+
+pub on_err_each : {T E A : Type 0} {B : A → Type 0} (P : A → Type 0) (r : Result T E) → ((x : A) → B x → OnErr r (P x)) → OnErr r ((x : A) → B x → P x)
+on_err_each P (Ok y) h = tt
+on_err_each P (Err e) h = h
 
 pub on_err_both : {T E : Type 0} (P Q : Type 0) (r : Result T E) → OnErr r P → OnErr r Q → OnErr r (P × Q)
 on_err_both P Q (Ok x) p q = tt
@@ -78,14 +87,6 @@ got_by_below (m ∷ ms) lines lines' h k =
     ap (λ v. cond (m.leaves k) (m.got v k) (got_by ms (λ j. lines (suc j)) k)) (h 0 (omega arith))
     ∙ ap (λ v. cond (m.leaves k) (m.got (lines' 0) k) v) (got_by_below ms (λ j. lines (suc j)) (λ j. lines' (suc j)) (λ j lt. h (suc j) (omega arith)) k)
 
-got_index : {C : Type 0} (xs : List C) (j : ℕ) (c : C) → slice_get xs j ≡ Some c → j < length xs
-got_index [] j c e = absurd (no e)
-  where
-    no : slice_get [] j ≡ Some c → ⊥
-    no h = cc
-got_index (x ∷ xs) zero c e = omega arith
-got_index (x ∷ xs) (suc j) c e = let rest : j < length xs = got_index xs j c e in omega arith
-
 module _ {C : Type 0} (stands : C → List Bool → Type 0) (ms : List Meaning) where
   -- nothing was given
   pub gives_nothing : (cs : List C) (o : Outputs) (more : ℕ → List Bool) → ((j : ℕ) → more j ≡ []) → Gives stands ms more cs cs o o
@@ -107,7 +108,7 @@ module _ {C : Type 0} (stands : C → List Bool → Type 0) (ms : List Meaning) 
   pub gives_below : (more more' : ℕ → List Bool) (xs bs : List C) (o p : Outputs) → length bs ≡ length ms → ((j : ℕ) → j < length ms → more' j ≡ more j) → Gives stands ms more xs bs o p → Gives stands ms more' xs bs o p
   gives_below more more' xs bs o p count h g = record {
     each = λ lines each j c e.
-        let inside : j < length ms = omega (arith, got_index bs j c e, count) in
+        let inside : j < length ms = omega (arith, slice_get_within bs j c e, count) in
         let P : List Bool → Type 0 = stands c in
         subst P (ap (λ v. lines j ++ v) (sym (h j inside))) (g.each lines each j c e);
     gains = λ lines each. gains_is _ _ _ o p (λ k. got_by_below ms _ _ (λ j lt. ap (λ v. lines j ++ v) (h j lt)) k) (g.gains lines each);

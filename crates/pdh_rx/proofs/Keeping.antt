@@ -3,7 +3,8 @@ use Rattle.std.proofs.Common.{◌≡◌, ℕ, Bool, List, refl, sym, ◌∙◌, 
 use Rattle.pdh_edge.specs.Ports.{Outputs}
 use Rattle.pdh_edge.proofs.Runs.{cause_since}
 use Rattle.pdh_rx.specs.Meaning.{Meaning}
-use Rattle.pdh_rx.specs.Node.{EachStands, any_leaf, AreReady, Keeps}
+use Rattle.pdh_events.specs.Acts.{with_more}
+use Rattle.pdh_rx.specs.Node.{any_leaf, AreReady, Keeps, Gives}
 
 -- what calls kept of which none failed
 abbrev pub KeepsYet : {C D : Type 0} (meaning : C → Meaning) (faults : D → ℕ) (drained : D → D → Type 0) (old new : List C) (before after : D) → Type 0
@@ -27,11 +28,11 @@ module _ {C D : Type 0} (meaning : C → Meaning) (faults : D → ℕ) (drained 
 pub keeps_all : {C D E : Type 0} (meaning : C → Meaning) (faults : D → ℕ) (drained : D → D → Type 0) (xs ys : List C) (a b : D) → KeepsYet meaning faults drained xs ys a b → Keeps {T = Unit {0}} {E = E} meaning faults drained xs ys a b (Ok tt)
 keeps_all meaning faults drained xs ys a b f = record { same = f.same; drains = f.drains; cause = f.cause }
 
--- the children can take more bits
-pub ready_yet : {C D : Type 0} (stands : C → List Bool → Type 0) (meaning : C → Meaning) (faults : D → ℕ) (drained : D → D → Type 0) (outputs : D → Outputs) (holds : (a b : D) → drained a b → (outputs b).holds ≡ (outputs a).holds) (xs ys : List C) (a b : D)
-    → AreReady stands meaning xs (outputs a) → KeepsYet meaning faults drained xs ys a b → (lines : ℕ → List Bool) → EachStands stands ys lines → AreReady stands meaning ys (outputs b)
-ready_yet stands meaning faults drained outputs holds xs ys a b ready kept lines each = record {
-  lines = lines;
-  each = each;
+-- the children got bits, and can take more
+pub gives_ready : {C D T E : Type 0} {stands : C → List Bool → Type 0} {meaning : C → Meaning} {faults : D → ℕ} {drained : D → D → Type 0} (outputs : D → Outputs) {ms : List Meaning} {more : ℕ → List Bool} {xs ys : List C} {a b : D} {o p : Outputs} {r : Result T E}
+    → ((a b : D) → drained a b → (outputs b).holds ≡ (outputs a).holds) → AreReady stands meaning xs (outputs a) → Keeps meaning faults drained xs ys a b r → Gives stands ms more xs ys o p → AreReady stands meaning ys (outputs b)
+gives_ready outputs {more = more} {a = a} {b = b} holds ready kept gives = record {
+  lines = with_more ready.lines more;
+  each = gives.each ready.lines ready.each;
   lists = λ k is. ap (λ h. h k) (holds a b kept.drains) ∙ ready.lists k (ap (λ ms. any_leaf ms k) (sym kept.same) ∙ is);
 }

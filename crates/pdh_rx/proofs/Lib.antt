@@ -3,6 +3,7 @@ pub mod OneChild
 pub mod Gains
 pub mod Keeping
 pub mod Playing
+pub mod Acting
 pub mod SlotActs
 mod GapSteps
 pub mod StepActs
@@ -15,5 +16,6 @@ pub mod QuietNode
 pub mod FramePlaces
 pub mod Standing
 pub mod DueLaws
+pub mod InTurn
 pub mod Watched
 pub mod Fitting

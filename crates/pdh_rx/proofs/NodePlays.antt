@@ -26,8 +26,8 @@ use Rattle.pdh_rx.proofs.NodeSteps.{node_tracks, node_gains, node_part, track_no
 next_goes : (line : List Bool) (bit : Bool) (n : ℕ) → n ≡ next_bit line → min (n + 1) (2 ^ 64 - 1) ≡ next_bit (line ++ bit ∷ [])
 next_goes line bit n is = let more : length (line ++ bit ∷ []) ≡ length line + 1 = length-append line (bit ∷ []) in omega (arith, is, more)
 
-module _ {C W : Type 0} (stands : C → List Bool → Type 0) (saw : W → List Event → W → Type 0) (joins : SawJoins saw) (meaning : C → Meaning) (s : FrameShape) (path : Path) (shape : IsFrame s) (children : List C) (held held' : Held) (gap frames bits : ℕ) (ais : OnesRun) (kept : Kept) (step : Step) (bit : Bool) (line : List Bool)
-    (told : NodeStands stands meaning s children held gap frames bits ais kept line) (tracks : Tracks s held held' bit step line) (gap' : ℕ) (now : gap' ≡ gap_after s step gap)
+module _ {C W : Type 0} {stands : C → List Bool → Type 0} (saw : W → List Event → W → Type 0) (joins : SawJoins saw) {meaning : C → Meaning} {s : FrameShape} (path : Path) (shape : IsFrame s) {children : List C} {held held' : Held} {gap frames bits : ℕ} {ais : OnesRun} {kept : Kept} {step : Step} {bit : Bool} {line : List Bool}
+    (told : NodeStands stands meaning s children held gap frames bits ais kept line) (tracks : Tracks s held held' bit step line) {gap' : ℕ} (now : gap' ≡ gap_after s step gap)
     (was heard is : W) (noted : saw was (tell path bits (ais_kinds ais.long line bit)) heard) where
   abbrev own : List Event
   own = tell path bits (ais_kinds ais.long line bit)

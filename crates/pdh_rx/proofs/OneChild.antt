@@ -4,19 +4,19 @@ use Rattle.std.specs.Option.{option_map}
 use Rattle.std.proofs.lemmas.Option.{slice_get_read, slice_get-map}
 use Rattle.std.proofs.lemmas.List.{append-nil, length-map}
 use Rattle.std.proofs.Math.Seq.{map-set_same}
-use Rattle.std.proofs.lemmas.Bool.{cases_Bool, cases_eq, ne_eqb}
+use Rattle.std.proofs.lemmas.Bool.{cases_Bool, cases_eq, ne_eqb, false≢true}
 use Rattle.pdh_edge.specs.Ports.{Outputs, for_leaf, HasCause}
 use Rattle.pdh_rx.specs.Meaning.{Meaning, HoldsAll, IsSound, Gains, GainsPart}
 use Rattle.pdh_events.specs.Acts.{with_more}
 use Rattle.pdh_rx.specs.Node.{EachStands, IsDisjoint, AreChildren, AreReady, ChildFits, Keeps, any_leaf, got_by, child_notes}
 use Rattle.pdh_rx.specs.laws.NodeLaws.{got_by_same}
 
+none_there : {X : Type 0} (t : ℕ) (x : X) → slice_get [] t ≡ Some x → ⊥
+none_there t x e = cc
+
 -- what lies at j after a write at i
 slice_get_set : {C : Type 0} (xs : List C) (i j : ℕ) (y c : C) → slice_get (slice_set xs i y) j ≡ Some c → ((j ≡ i) × (y ≡ c)) ⊎ ((j ≡ i → ⊥) × (slice_get xs j ≡ Some c))
-slice_get_set [] i j y c e = absurd (no e)
-  where
-    no : slice_get [] j ≡ Some c → ⊥
-    no h = cc
+slice_get_set [] i j y c e = absurd (none_there j c e)
 slice_get_set (x ∷ xs) zero zero y c e = inl (refl, cc)
 slice_get_set (x ∷ xs) zero (suc j) y c e = inr ((λ h. omega arith), e)
 slice_get_set (x ∷ xs) (suc i) zero y c e = inr ((λ h. omega arith), e)
@@ -44,10 +44,7 @@ each_with_bits {C = C} stands cs lines t bits new each at j c e = elim (slice_ge
 
 -- a child's leaf is a leaf of all
 pub leaf_of_all : (ms : List Meaning) (t : ℕ) (m : Meaning) (k : ℕ) → slice_get ms t ≡ Some m → IsTrue (m.leaves k) → IsTrue (any_leaf ms k)
-leaf_of_all [] t m k e h = absurd (no e)
-  where
-    no : slice_get {X = Meaning} [] t ≡ Some m → ⊥
-    no h = cc
+leaf_of_all [] t m k e h = absurd (none_there t m e)
 leaf_of_all (x ∷ ms) zero m k e h =
     let same : m ≡ x = cc in
     let P : Meaning → Type 0 = λ v. IsTrue (v.leaves k) in
@@ -55,10 +52,7 @@ leaf_of_all (x ∷ ms) zero m k e h =
   where
     left : (a b : Bool) → IsTrue a → IsTrue (a || b)
     left true b h = h
-    left false b h = absurd (no h)
-      where
-        no : false ≡ true → ⊥
-        no h = cc
+    left false b h = absurd (false≢true h)
 leaf_of_all (x ∷ ms) (suc t) m k e h = right (x.leaves k) (any_leaf ms k) (leaf_of_all ms t m k e h)
   where
     right : (a b : Bool) → IsTrue b → IsTrue (a || b)
@@ -126,10 +120,7 @@ got_step : (ms : List Meaning) (lines : ℕ → List Bool) (t : ℕ) (bits : Lis
     → (more : ℕ → List Bool) → ((k : ℕ) → m.leaves k ≡ false → more k ≡ [])
     → ((k : ℕ) → m.got (lines t ++ bits) k ≡ m.got (lines t) k ++ more k)
     → (k : ℕ) → got_by ms (with_more lines (for_leaf t bits)) k ≡ got_by ms lines k ++ more k
-got_step [] lines t bits m e dis more elsewhere gained k = absurd (no e)
-  where
-    no : slice_get {X = Meaning} [] t ≡ Some m → ⊥
-    no h = cc
+got_step [] lines t bits m e dis more elsewhere gained k = absurd (none_there t m e)
 got_step (x ∷ ms) lines zero bits m e dis more elsewhere gained k =
     let same : m ≡ x = cc in
     let P : Meaning → Type 0 = λ v. v.leaves k ≡ false → more k ≡ [] in

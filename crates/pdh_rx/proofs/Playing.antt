@@ -22,10 +22,6 @@ module _ {C W : Type 0} (stands : C → List Bool → Type 0) (saw : W → List 
     sees = λ lines each. let P : List Event → Type 0 = λ x. saw v x w in subst P (sym (acts_events-notes (child_notes ms) lines events)) seen;
   }
 
-  -- a node did nothing
-  pub plays_nothing : (cs : List C) (o : Outputs) (w : W) → saw w [] w → Plays stands saw ms [] cs cs o o w w
-  plays_nothing cs o w seen = plays_notes [] cs o w w seen
-
   -- the same acts, told in another way
   pub plays_same : (acts acts' : List Act) (xs ys : List C) (o p : Outputs) (v w : W) → acts' ≡ acts → Plays stands saw ms acts xs ys o p v w → Plays stands saw ms acts' xs ys o p v w
   plays_same acts acts' xs ys o p v w e f = let P : List Act → Type 0 = λ a. Plays stands saw ms a xs ys o p v w in subst P (sym e) f
@@ -80,7 +76,7 @@ module _ {C W : Type 0} (stands : C → List Bool → Type 0) (saw : W → List 
     between = xs;
     middle = o;
     heard = v;
-    played = plays_nothing xs o v none;
+    played = plays_notes [] xs o v v none;
     part = f;
   }
 

@@ -28,7 +28,10 @@ use Rattle.pdh_rx.specs.Places.{cell_acts, place_acts, places_acts, role_cell, f
 use Rattle.pdh_rx.proofs.SlotActs.{slots_bits}
 use Rattle.pdh_rx.proofs.StepActs.{rounds_give}
 use Rattle.pdh_rx.proofs.Places.{places_split, one_place}
-use Rattle.pdh_rx.proofs.FramePlaces.{frame_places, gap_places}
+use Rattle.pdh_rx.proofs.FramePlaces.{some_same, none_some, frame_places, gap_places}
+
+some_none : {X : Type 0} (x : X) → Some x ≡ None → ⊥
+some_none x e = cc
 
 -- ---- what places give a tributary
 
@@ -115,12 +118,6 @@ module _ (tribs : ℕ) (cell : ℕ → Option Bool) (j : ℕ) (known : j < tribs
       let one = turn_one (cell (at i)) refl in
       omega (arith, rest, long, one)
     where
-      gone : Some true ≡ None → ⊥
-      gone e = cc
-
-      some_none : (b : Bool) → Some b ≡ None → ⊥
-      some_none b e = cc
-
       same : (empty ≡ true → i ≡ q → ⊥) → (b : Bool) → empty ≡ b → missing b q (suc i) ≡ missing b q i
       same never false e = refl
       same never true e = elim (cases_lt q i) [
@@ -197,27 +194,15 @@ inside_range p a (suc n) i lt = go (λ i lt'. inside_range p (a + 1) n i lt') (p
     go more true (suc i) lt = omega (arith, more i (omega (arith, lt)))
     go more false i lt = omega (arith, more i (omega (arith, lt)))
 
-some_same : (i k : ℕ) → Some i ≡ Some k → i ≡ k
-some_same i k e = cc
-
-none_some : (i : ℕ) → None ≡ Some i → ⊥
-none_some i e = cc
-
-bit_none : (b : Bool) → Some b ≡ None → ⊥
-bit_none b e = cc
-
-some_none : (i : ℕ) → Some i ≡ None → ⊥
-some_none i e = cc
-
 -- a slot of tributary j gives nothing where it is justifiable and there is no additional bit
 role_empty : (s : FrameShape) (r : Role) (frame : List Bool) (bit : Bool) (j : ℕ) → trib_of r ≡ Some j → role_cell s r (carries_at s frame r) bit ≡ None → (carries_more s j frame ≡ false) × (r ≡ Just j)
-role_empty s (Info k) frame bit j e none = absurd (bit_none _ none)
+role_empty s (Info k) frame bit j e none = absurd (some_none _ none)
 role_empty s (Just k) frame bit j e none =
     let same : k ≡ j = some_same k j e in
     (ap (λ i. carries_more s i frame) (sym same) ∙ gone (carries_more s k frame) none, ap Just same)
   where
     gone : (more : Bool) → cond more (Some (turned (s.inverted k) bit)) None ≡ None → more ≡ false
-    gone true h = absurd (bit_none _ h)
+    gone true h = absurd (some_none _ h)
     gone false h = refl
 role_empty s (Control k copy) frame bit j e none = absurd (none_some j e)
 role_empty s (Align x) frame bit j e none = absurd (none_some j e)
@@ -362,7 +347,7 @@ module _ (s : FrameShape) (turns : PayloadInTurn s) (has : HasTributaries s) (j 
 
   pub gap_stands : (k p : ℕ) → k < s.low → p ≡ spot k → StandsAt s.tribs ones_cell (s.low * s.tribs) j (replicate s.low true) k p
   gap_stands k p lt e =
-      let none_empty : (n : ℕ) → n < k → Some true ≡ None → (false ≡ true) × (n ≡ 0) = λ n lt' none. absurd (bit_none true none) in
+      let none_empty : (n : ℕ) → n < k → Some true ≡ None → (false ≡ true) × (n ≡ 0) = λ n lt' none. absurd (some_none true none) in
       let long : length (bits_to (places_acts s.tribs ones_cell 0 (spot k)) j) + missing s.tribs ones_cell j known false 0 k ≡ k = turns_give s.tribs ones_cell j known false 0 k none_empty (λ lt' so. absurd (never so)) in
       let whole : suc k * s.tribs ≤ s.low * s.tribs = mul-le-mul_right s.tribs (omega (arith, lt)) in
       subst (λ p. StandsAt s.tribs ones_cell (s.low * s.tribs) j (replicate s.low true) k p) (sym e)
@@ -417,13 +402,5 @@ loaded_some s gap = elim (cases_lt 0 s.tribs) [
     none_there false e = ap (λ n. n * suc s.low) e ∙ omega arith
 
 -- what is loaded, told in another way
-pub stands_same : (s : FrameShape) (gap gap' : Bool) (frame frame' : List Bool) (j : ℕ) (bits : List Bool) (k p : ℕ) → gap' ≡ gap → frame' ≡ frame → bits ≡ loaded_bits s gap frame j
-    → StandsAt s.tribs (loaded_cell s gap' frame') (loaded_places s gap') j bits k p → StandsAt s.tribs (loaded_cell s gap frame) (loaded_places s gap) j (loaded_bits s gap frame j) k p
-stands_same s gap gap' frame frame' j bits k p eg ef eb f =
-    let P : Bool → Type 0 = λ x. StandsAt s.tribs (loaded_cell s x frame') (loaded_places s x) j bits k p in
-    let Q : List Bool → Type 0 = λ x. StandsAt s.tribs (loaded_cell s gap x) (loaded_places s gap) j bits k p in
-    let R : List Bool → Type 0 = λ x. StandsAt s.tribs (loaded_cell s gap frame) (loaded_places s gap) j x k p in
-    subst R eb (subst Q ef (subst P eg f))
-
 pub read_same : (s : FrameShape) (gap gap' : Bool) (frame frame' : List Bool) (j : ℕ) (bits : List Bool) → gap' ≡ gap → frame' ≡ frame → bits ≡ loaded_bits s gap' frame' j → bits ≡ loaded_bits s gap frame j
 read_same s gap gap' frame frame' j bits eg ef eb = eb ∙ ap (λ x. loaded_bits s x frame' j) eg ∙ ap (λ x. loaded_bits s gap x j) ef

@@ -1,5 +1,5 @@
 -- Bits that a receiver takes one after another, and the events that they bring.
-use Rattle.std.proofs.Common.{◌≡◌, Bool, List, [], ◌∷◌, ◌++◌, refl, sym, ap, ◌∙◌, subst, append_assoc}
+use Rattle.std.proofs.Common.{◌≡◌, Bool, List, [], ◌∷◌, ◌++◌, sym, ap, ◌∙◌, subst, append_assoc}
 use Rattle.std.proofs.lemmas.List.{append-nil}
 use Rattle.pdh_watch.specs.declared.event.Event.{Event}
 use Rattle.pdh_events.specs.laws.QuietLaws.{IsQuiet, events_join, quiet_events, one_event}

@@ -2,4 +2,5 @@ pub mod Meaning
 pub mod Tail
 pub mod Node
 pub mod Places
+pub mod Merging
 pub mod laws

@@ -1,5 +1,5 @@
 -- What a tree of demultiplexers gives and notes, by the list of received bits.
-use Rattle.std.specs.Prelude.{◌≡◌, ℕ, Bool, false, List, [], ◌∷◌, ◌++◌, Option}
+use Rattle.std.specs.Prelude.{◌≡◌, ℕ, Bool, false, List, [], ◌++◌, Option}
 use Rattle.pdh_shape.specs.declared.place.Path.{Path}
 use Rattle.pdh_watch.specs.declared.event.Event.{Event}
 use Rattle.pdh_events.specs.laws.QuietLaws.{IsQuiet}

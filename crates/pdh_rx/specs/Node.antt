@@ -1,12 +1,14 @@
 -- A demultiplexer over children: what each of them receives, what leaves get by that, and the events.
-use Rattle.std.specs.Prelude.{◌≡◌, ℕ, zero, suc, ◌+◌, ◌%◌, ◌^◌, ◌-◌, ◌<◌, min, Bool, true, List, [], ◌∷◌, ◌++◌, length, map, if◌then◌else◌, slice_get, Some, Result, flat_map, replicate, ◌==◌}
+use Rattle.std.specs.Prelude.{◌≡◌, ℕ, zero, suc, ◌+◌, ◌%◌, ◌^◌, ◌-◌, ◌<◌, min, Bool, true, List, [], ◌∷◌, ◌++◌, length, map, if◌then◌else◌, slice_get, Some, Result, Ok, OnOk, OnErr, flat_map, replicate, ◌==◌}
 use Rattle.pdh_shape.specs.declared.place.Path.{Path}
 use Rattle.pdh_shape.specs.Frame.{FrameShape}
 use Rattle.pdh_shape.specs.Tributary.{stripped}
+use Rattle.pdh_edge.specs.declared.port.Drain as drain
 use Rattle.pdh_edge.specs.Leaves.{any_below, NoneShared}
 use Rattle.pdh_edge.specs.Ports.{Outputs, HasCause}
 use Rattle.pdh_watch.specs.declared.kind.TheConstants.Kind.{ALIGNED, LOST}
 use Rattle.pdh_watch.specs.declared.event.Event.{Event}
+use Rattle.pdh_watch.specs.declared.watch.Watch as watch
 use Rattle.pdh_watch.specs.Seen.{SawPart}
 use Rattle.pdh_line.specs.Paths.{StandBelow}
 use Rattle.pdh_line.specs.Tracking.{Piece, track, frames_delivered}
@@ -20,6 +22,7 @@ use Rattle.pdh_events.specs.Keeping.{OnesRun, CountsOnes, Kept, Remembers}
 use Rattle.pdh_events.specs.Acts.{Act, with_more, frames_acts, rounds_acts, bit_acts, acts_events}
 use Rattle.pdh_events.specs.Acts.Act.{Note}
 use Rattle.pdh_events.specs.laws.ActsLaws.{bits_to}
+use Rattle.pdh_rx.specs.declared.rx.Rx as rx
 use Rattle.pdh_rx.specs.Meaning.{Meaning, HoldsAll, Gains, GainsPart}
 
 -- each child stands for its line
@@ -124,6 +127,22 @@ pub record PlaysUpTo {C W : Type 0} (stands : C → List Bool → Type 0) (saw :
   pub heard : W
   pub played : Plays stands saw ms done old between before middle was heard
   pub part : PlaysPart stands saw ms (failed ∷ []) between middle after heard is
+
+-- whatever came of a call that acts: all of these acts were played, or it failed and a prefix of them was; and what any call keeps
+pub record Acted {C D W T E : Type 0} (receivers : rx.Ghosts C) (drains : drain.Ghosts D) (watches : watch.Ghosts W) (acts : List Act) (old new : List C) (before after : D) (was is : W) (result : Result T E) : Type 0 where
+  pub played : OnOk result (Plays receivers.stands watches.saw (map receivers.meaning old) acts old new (drains.outputs before) (drains.outputs after) was is)
+  pub part : OnErr result (PlaysPart receivers.stands watches.saw (map receivers.meaning old) acts old (drains.outputs before) (drains.outputs after) was is)
+  pub kept : Keeps receivers.meaning drains.drain_faults drains.drained old new before after result
+
+-- the same where it failed at one of them
+pub record ActedUpTo {C D W T E : Type 0} (receivers : rx.Ghosts C) (drains : drain.Ghosts D) (watches : watch.Ghosts W) (acts : List Act) (old new : List C) (before after : D) (was is : W) (result : Result T E) : Type 0 where
+  pub played : OnOk result (Plays receivers.stands watches.saw (map receivers.meaning old) acts old new (drains.outputs before) (drains.outputs after) was is)
+  pub part : OnErr result (PlaysUpTo receivers.stands watches.saw (map receivers.meaning old) acts old (drains.outputs before) (drains.outputs after) was is)
+  pub kept : Keeps receivers.meaning drains.drain_faults drains.drained old new before after result
+
+-- and where no call failed
+abbrev pub ActedWhole : {C D W : Type 0} → rx.Ghosts C → drain.Ghosts D → watch.Ghosts W → List Act → List C → List C → D → D → W → W → Type 0
+ActedWhole receivers drains watches acts old new before after was is = Acted {T = Unit {0}} {E = Unit {0}} receivers drains watches acts old new before after was is (Ok tt)
 
 -- ---- a step of the alignment machine
 

@@ -1,11 +1,11 @@
 //! The children of a demultiplexer, as one that gives each of them its bits.
 
-ghost use Rattle.std.specs.Prelude.{◌≡◌, ◌<◌, ◌≤◌, ◌+◌, ℕ, Bool, true, List, [], ◌∷◌, length, take, drop, map, IfOk, OnOk, OnErr};
+ghost use Rattle.std.specs.Prelude.{◌≡◌, ◌<◌, ◌≤◌, ◌+◌, ℕ, Bool, true, List, [], ◌∷◌, length, take, drop, map, IfOk, OnErr};
 ghost use Rattle.pdh_edge.specs.Ports.{for_leaf};
 ghost use Rattle.pdh_events.specs.Acts.Act.{Give};
 ghost use Rattle.pdh_events.specs.laws.QuietLaws.{IsQuiet};
 ghost use Rattle.pdh_rx.specs.Meaning.{HoldsAll};
-ghost use Rattle.pdh_rx.specs.Node.{EachStands, IsDisjoint, any_leaf, child_notes, AreReady, ChildFits, AllFit, Keeps, Plays, PlaysPart, Gives, GivesPart};
+ghost use Rattle.pdh_rx.specs.Node.{EachStands, IsDisjoint, any_leaf, child_notes, AreReady, ChildFits, AllFit, Keeps, Gives, GivesPart, Acted};
 
 use crate::Rx;
 use pdh_edge::{Drain, Failed};
@@ -56,11 +56,7 @@ impl<S: Shape, C: Rx> Children<S, C> {
     ) -> Result<(), Failed>
         requires known { trib < S.TRIBS }
         requires ready { AreReady C.stands C.meaning self.old (D.outputs drain.old) }
-        ensures played { OnOk result (Plays C.stands W.saw (map C.meaning self.old) (Give trib bit ∷ [])
-            self.old self.new (D.outputs drain.old) (D.outputs drain.new) watch.old watch.new) }
-        ensures part { OnErr result (PlaysPart C.stands W.saw (map C.meaning self.old) (Give trib bit ∷ [])
-            self.old (D.outputs drain.old) (D.outputs drain.new) watch.old watch.new) }
-        ensures kept { Keeps C.meaning D.drain_faults D.drained self.old self.new drain.old drain.new result }
+        ensures { Acted C.Rx D.Drain W.Watch (Give trib bit ∷ []) self.old self.new drain.old drain.new watch.old watch.new result }
     {
         let child = &mut self.list[trib as usize];
         child.push(bit, drain, watch)

@@ -1,13 +1,13 @@
 //! What a step of the aligner brings: events to the watch, and to the children their bits of the frames that are
 //! delivered, or the ones of a gap.
 
-ghost use Rattle.std.specs.Prelude.{◌≡◌, ◌<◌, ◌++◌, ◌∷◌, List, [], length, map, OnOk, OnErr};
+ghost use Rattle.std.specs.Prelude.{◌≡◌, ◌<◌, ◌++◌, ◌∷◌, List, [], length, map, OnOk};
 ghost use Rattle.pdh_line.specs.Tracking.{Piece};
 ghost use Rattle.pdh_line.specs.Tracking.Piece.{Delivered};
 ghost use Rattle.pdh_align.specs.Aligning.{frame_back, frames_gained};
 ghost use Rattle.pdh_events.specs.Keeping.{Remembers};
 ghost use Rattle.pdh_events.specs.Acts.{frame_acts, frames_acts};
-ghost use Rattle.pdh_rx.specs.Node.{AreReady, Keeps, Plays, PlaysPart, step_acts, step_pieces};
+ghost use Rattle.pdh_rx.specs.Node.{AreReady, Acted, step_acts, step_pieces};
 
 use crate::Rx;
 use crate::children::Children;
@@ -41,16 +41,9 @@ fn deliver<S: Shape, C: Rx, D: Drain, W: Watch>(
 ) -> Result<(), Failed>
     requires ready { back < length aligner.now.ready }
     requires children { AreReady C.stands C.meaning children.old (D.outputs drain.old) }
-    ensures played { OnOk result ((pieces : List Piece) → Remembers S.shape teller.old pieces
-        → Plays C.stands W.saw (map C.meaning children.old)
+    ensures acted { (pieces : List Piece) → Remembers S.shape teller.old pieces → Acted C.Rx D.Drain W.Watch
         (frame_acts S.shape at.path at.number pieces (frame_back aligner.now.ready back))
-        children.old children.new (D.outputs drain.old) (D.outputs drain.new)
-        watch.old watch.new) }
-    ensures part { OnErr result ((pieces : List Piece) → Remembers S.shape teller.old pieces
-        → PlaysPart C.stands W.saw (map C.meaning children.old)
-        (frame_acts S.shape at.path at.number pieces (frame_back aligner.now.ready back))
-        children.old (D.outputs drain.old) (D.outputs drain.new) watch.old watch.new) }
-    ensures kept { Keeps C.meaning D.drain_faults D.drained children.old children.new drain.old drain.new result }
+        children.old children.new drain.old drain.new watch.old watch.new result }
     ensures remembers { (pieces : List Piece) → Remembers S.shape teller.old pieces
         → Remembers S.shape teller.new (pieces ++ Delivered (frame_back aligner.now.ready back) ∷ []) }
 {
@@ -60,8 +53,9 @@ fn deliver<S: Shape, C: Rx, D: Drain, W: Watch>(
     } else {
         false
     };
+    let room = children.have_room(drain, S::LOW as usize + 1);
     teller.note(split.strip.frame(), odd, at.path, at.number, watch);
-    give_loaded::<S, C, D, W>(children, split, drain, watch)
+    give_loaded::<S, C, D, W>(children, split, room, drain, watch)
 }
 
 // Delivers all ready frames, of which there are so many, oldest first.
@@ -78,16 +72,9 @@ fn deliver_all<S: Shape, C: Rx, D: Drain, W: Watch>(
     requires ready { length aligner.now.ready ≡ frames }
     requires told { (pieces : List Piece) × Remembers S.shape teller.old pieces }
     requires children { AreReady C.stands C.meaning children.old (D.outputs drain.old) }
-    ensures played { OnOk result ((pieces : List Piece) → Remembers S.shape teller.old pieces
-        → Plays C.stands W.saw (map C.meaning children.old)
+    ensures acted { (pieces : List Piece) → Remembers S.shape teller.old pieces → Acted C.Rx D.Drain W.Watch
         (frames_acts S.shape at.path at.number pieces aligner.now.ready)
-        children.old children.new (D.outputs drain.old) (D.outputs drain.new)
-        watch.old watch.new) }
-    ensures part { OnErr result ((pieces : List Piece) → Remembers S.shape teller.old pieces
-        → PlaysPart C.stands W.saw (map C.meaning children.old)
-        (frames_acts S.shape at.path at.number pieces aligner.now.ready)
-        children.old (D.outputs drain.old) (D.outputs drain.new) watch.old watch.new) }
-    ensures kept { Keeps C.meaning D.drain_faults D.drained children.old children.new drain.old drain.new result }
+        children.old children.new drain.old drain.new watch.old watch.new result }
     ensures remembers { OnOk result ((pieces : List Piece) → Remembers S.shape teller.old pieces
         → Remembers S.shape teller.new (pieces ++ map Delivered aligner.now.ready)) }
 {
@@ -114,16 +101,9 @@ pub(crate) fn act<S: Shape, C: Rx, D: Drain, W: Watch>(
     requires ready { length aligner.now.ready ≡ frames_gained step }
     requires told { (pieces : List Piece) × Remembers S.shape teller.old pieces }
     requires children { AreReady C.stands C.meaning children.old (D.outputs drain.old) }
-    ensures played { OnOk result ((pieces : List Piece) → Remembers S.shape teller.old pieces
-        → Plays C.stands W.saw (map C.meaning children.old)
+    ensures acted { (pieces : List Piece) → Remembers S.shape teller.old pieces → Acted C.Rx D.Drain W.Watch
         (step_acts S.shape at.path at.number pieces step aligner.now.ready gap)
-        children.old children.new (D.outputs drain.old) (D.outputs drain.new)
-        watch.old watch.new) }
-    ensures part { OnErr result ((pieces : List Piece) → Remembers S.shape teller.old pieces
-        → PlaysPart C.stands W.saw (map C.meaning children.old)
-        (step_acts S.shape at.path at.number pieces step aligner.now.ready gap)
-        children.old (D.outputs drain.old) (D.outputs drain.new) watch.old watch.new) }
-    ensures kept { Keeps C.meaning D.drain_faults D.drained children.old children.new drain.old drain.new result }
+        children.old children.new drain.old drain.new watch.old watch.new result }
     ensures remembers { OnOk result ((pieces : List Piece) → Remembers S.shape teller.old pieces
         → Remembers S.shape teller.new (step_pieces step aligner.now.ready pieces)) }
 {

@@ -1,10 +1,13 @@
 //! The children's bits of a ready frame, or of a gap. Where the drain has room for them all, each child gets its own at once;
 //! else they come in their order: each child gets at once those that bring no event, and the others by themselves.
 
-ghost use Rattle.std.specs.Prelude.{◌≡◌, ◌<◌, ◌≤◌, ℕ, length, map, None, IfSome, OnOk, OnErr};
+ghost use Rattle.std.specs.Prelude.{◌≡◌, ◌<◌, ◌≤◌, ℕ, true, length, map, drop, None, IfSome, OnOk, OnErr};
 ghost use Rattle.std.specs.List.{slice_index_or};
-ghost use Rattle.pdh_rx.specs.Node.{AreReady, AllFit, Keeps, Plays, PlaysPart};
-ghost use Rattle.pdh_rx.specs.Places.{loaded_acts, loaded_most};
+ghost use Rattle.pdh_edge.specs.Ports.{for_leaf};
+ghost use Rattle.pdh_events.specs.laws.ActsLaws.{bits_to};
+ghost use Rattle.pdh_rx.specs.Node.{AreReady, AllFit, Keeps, GivesPart, Acted, ActedWhole};
+ghost use Rattle.pdh_rx.specs.Places.{loaded_bits, loaded_acts, loaded_most};
+ghost use Rattle.pdh_rx.specs.Merging.{GoesOn, AllBegun};
 ghost use Rattle.pdh_rx.specs.declared.merging.Due.{Due};
 
 use crate::Rx;
@@ -15,7 +18,7 @@ use pdh_runs::Layout;
 use pdh_shape::Shape;
 use pdh_watch::Watch;
 use std::alloc::{AllocError, Global};
-use std::marker::{Model, PhantomData};
+use std::marker::Model;
 use std::rc::Rc;
 
 /// How far a tributary is in what is loaded.
@@ -27,40 +30,25 @@ pub struct Due {
     pub given: usize,
 }
 
-/// How far each tributary is.
-#[derive(Drop)]
-pub struct Dues<S: Shape> {
-    list: Vec<Due>,
-    of: PhantomData<S>,
-}
-
-impl<S: Shape> Model for Dues<S> {
-    ghost use Rattle.std.specs.Prelude.{◌≡◌, length};
-
-    ghost Value = { Unit {0} };
-
-    ghost view = { λ d. tt };
-
-    ghost invariant = { λ d. length d.list.items ≡ S.TRIBS };
-}
-
-impl<S: Shape> Dues<S> {
-    /// Of what is loaded nothing is given; or it finds no memory.
-    pub fn open(alloc: Global) -> Result<Dues<S>, AllocError> {
-        Ok(Dues {
-            list: vec![in alloc; Due { place: 0, given: 0 }; usize::from(S::TRIBS)]?,
-            of: PhantomData,
-        })
-    }
-}
-
 /// What is given to the tributaries: a frame or a gap, taken apart, and how far each of them is in it.
 #[derive(Drop)]
 pub struct Split<S: Shape> {
     /// What is loaded.
     pub strip: Strip<S>,
-    /// How far each tributary is in it.
-    pub due: Dues<S>,
+    // how far each tributary is in it
+    due: Vec<Due>,
+}
+
+impl<S: Shape> Model for Split<S> {
+    ghost use Rattle.std.specs.Prelude.{◌≡◌, length};
+    ghost use Rattle.pdh_rx.specs.Places.{Loaded};
+
+    // what is loaded
+    ghost Value = { Loaded };
+
+    ghost view = { λ s. s.strip };
+
+    ghost invariant = { λ s. length s.due.items ≡ S.TRIBS };
 }
 
 impl<S: Shape> Split<S> {
@@ -68,33 +56,91 @@ impl<S: Shape> Split<S> {
     pub fn open(alloc: Global, layout: Rc<Layout<S>>) -> Result<Split<S>, AllocError> {
         Ok(Split {
             strip: Strip::open(alloc, layout)?,
-            due: Dues::open(alloc)?,
+            due: vec![in alloc; Due { place: 0, given: 0 }; usize::from(S::TRIBS)]?,
         })
     }
 }
 
 // The tributary that gets the next bit, if one does before the places' end.
-fn next_due(due: &[Due], end: usize) -> Option<u8>
-    requires { length due.now ≤ 256 }
-    ensures known { IfSome result (λ trib. trib < length due.now) }
+fn next_due<S: Shape>(due: &[Due], end: usize) -> Option<u8>
+    requires { length due.now ≡ S.TRIBS }
+    ensures known { IfSome result (λ trib. trib < S.TRIBS) }
     ensures before_end { IfSome result (λ trib. (d : Due) → (slice_index_or due.now trib d).place < end) }
     ensures first { IfSome result (λ trib. (d : Due) (j : ℕ) → j < length due.now → (slice_index_or due.now trib d).place ≤ (slice_index_or due.now j d).place) }
     ensures none { result ≡ None → (j : ℕ) (d : Due) → j < length due.now → end ≤ (slice_index_or due.now j d).place }
 {
     let mut first = end;
     let mut next = None;
-    for trib in 0..due.len() {
-        let place = due[trib].place;
+    for trib in 0..S::TRIBS {
+        let place = due[trib as usize].place;
         if place < first {
             first = place;
-            next = Some(trib as u8);
+            next = Some(trib);
         }
     }
     next
 }
 
+// Gives a child its bits of what is loaded from one on, none or more of those that bring no event, and notes how far it is then.
+fn give_on<S: Shape, C: Rx, D: Drain>(
+    children: &mut Children<S, C>,
+    strip: &Strip<S>,
+    due: &mut [Due],
+    trib: u8,
+    from: usize,
+    drain: &mut D,
+) -> Result<(), Failed>
+    requires known { trib < S.TRIBS }
+    requires room { length due.old ≡ S.TRIBS }
+    requires read { strip.now.bits ≡ loaded_bits S.shape strip.now.gap strip.now.frame trib }
+    requires begun { from ≤ length strip.now.bits }
+    requires ready { AreReady C.stands C.meaning children.old (D.outputs drain.old) }
+    ensures given { OnOk result (GoesOn C.stands (map C.meaning children.old) S.shape strip.now.gap strip.now.frame trib from
+        due.old due.new children.old children.new (D.outputs drain.old) (D.outputs drain.new)) }
+    ensures part { OnErr result (GivesPart C.stands (map C.meaning children.old) (for_leaf trib (drop from strip.now.bits))
+        children.old (D.outputs drain.old) (D.outputs drain.new)) }
+    ensures kept { Keeps C.meaning D.drain_faults D.drained children.old children.new drain.old drain.new result }
+    ensures room { length due.new ≡ length due.old }
+{
+    let bits = strip.bits();
+    // a place fits, since a length does
+    let _fits = bits.len();
+    let more = children.glide(trib, bits, from, drain)?;
+    let given = from + more;
+    due[trib as usize] = Due {
+        place: strip.place(trib, given),
+        given,
+    };
+    Ok(())
+}
+
+// Gives each child at once its first bits of what is loaded, none or more of those that bring no event.
+fn give_ahead<S: Shape, C: Rx, D: Drain>(
+    children: &mut Children<S, C>,
+    strip: &mut Strip<S>,
+    due: &mut [Due],
+    drain: &mut D,
+) -> Result<(), Failed>
+    requires room { length due.old ≡ S.TRIBS }
+    requires ready { AreReady C.stands C.meaning children.old (D.outputs drain.old) }
+    ensures frame { strip.new.frame ≡ strip.old.frame }
+    ensures gap { strip.new.gap ≡ strip.old.gap }
+    ensures begun { OnOk result (AllBegun C.stands (map C.meaning children.old) S.shape strip.old.gap strip.old.frame due.new
+        children.old children.new (D.outputs drain.old) (D.outputs drain.new)) }
+    ensures part { OnErr result (GivesPart C.stands (map C.meaning children.old) (bits_to (loaded_acts S.shape strip.old.gap strip.old.frame))
+        children.old (D.outputs drain.old) (D.outputs drain.new)) }
+    ensures kept { Keeps C.meaning D.drain_faults D.drained children.old children.new drain.old drain.new result }
+    ensures room { length due.new ≡ length due.old }
+{
+    for trib in 0..S::TRIBS {
+        strip.read(trib);
+        give_on::<S, C, D>(children, strip, due, trib, 0, drain)?;
+    }
+    Ok(())
+}
+
 // Gives the children their bits of what is loaded: each at once those that bring no event, and then the others in turn.
-fn merge_loaded<S: Shape, C: Rx, D: Drain, W: Watch>(
+fn give_in_turn<S: Shape, C: Rx, D: Drain, W: Watch>(
     children: &mut Children<S, C>,
     strip: &mut Strip<S>,
     due: &mut [Due],
@@ -103,27 +149,14 @@ fn merge_loaded<S: Shape, C: Rx, D: Drain, W: Watch>(
 ) -> Result<(), Failed>
     requires room { length due.old ≡ S.TRIBS }
     requires ready { AreReady C.stands C.meaning children.old (D.outputs drain.old) }
-    ensures played { OnOk result (Plays C.stands W.saw (map C.meaning children.old)
-        (loaded_acts S.shape strip.old.gap strip.old.frame)
-        children.old children.new (D.outputs drain.old) (D.outputs drain.new)
-        watch.old watch.new) }
-    ensures part { OnErr result (PlaysPart C.stands W.saw (map C.meaning children.old)
-        (loaded_acts S.shape strip.old.gap strip.old.frame)
-        children.old (D.outputs drain.old) (D.outputs drain.new) watch.old watch.new) }
-    ensures kept { Keeps C.meaning D.drain_faults D.drained children.old children.new drain.old drain.new result }
+    ensures acted { Acted C.Rx D.Drain W.Watch (loaded_acts S.shape strip.old.gap strip.old.frame)
+        children.old children.new drain.old drain.new watch.old watch.new result }
     ensures room { length due.new ≡ length due.old }
 {
-    for trib in 0..S::TRIBS {
-        strip.read(trib);
-        let given = children.glide(trib, strip.bits(), 0, drain)?;
-        due[trib as usize] = Due {
-            place: strip.place(trib, given),
-            given,
-        };
-    }
+    give_ahead::<S, C, D>(children, strip, due, drain)?;
     let end = strip.places();
     for _step in 0..end {
-        let Some(trib) = next_due(due, end) else {
+        let Some(trib) = next_due::<S>(due, end) else {
             return Ok(());
         };
         strip.read(trib);
@@ -132,40 +165,9 @@ fn merge_loaded<S: Shape, C: Rx, D: Drain, W: Watch>(
         let _fits = bits.len();
         let given = due[trib as usize].given;
         children.push(trib, bits.get(given), drain, watch)?;
-        let more = children.glide(trib, bits, given + 1, drain)?;
-        let now = given + 1 + more;
-        due[trib as usize] = Due {
-            place: strip.place(trib, now),
-            given: now,
-        };
+        give_on::<S, C, D>(children, strip, due, trib, given + 1, drain)?;
     }
     Ok(())
-}
-
-// The same, where the tributaries are those of the shape.
-pub(crate) fn give_in_turn<S: Shape, C: Rx, D: Drain, W: Watch>(
-    children: &mut Children<S, C>,
-    split: &mut Split<S>,
-    drain: &mut D,
-    watch: &mut W,
-) -> Result<(), Failed>
-    requires ready { AreReady C.stands C.meaning children.old (D.outputs drain.old) }
-    ensures played { OnOk result (Plays C.stands W.saw (map C.meaning children.old)
-        (loaded_acts S.shape split.old.strip.gap split.old.strip.frame)
-        children.old children.new (D.outputs drain.old) (D.outputs drain.new)
-        watch.old watch.new) }
-    ensures part { OnErr result (PlaysPart C.stands W.saw (map C.meaning children.old)
-        (loaded_acts S.shape split.old.strip.gap split.old.strip.frame)
-        children.old (D.outputs drain.old) (D.outputs drain.new) watch.old watch.new) }
-    ensures kept { Keeps C.meaning D.drain_faults D.drained children.old children.new drain.old drain.new result }
-{
-    merge_loaded::<S, C, D, W>(
-        children,
-        &mut split.strip,
-        &mut split.due.list,
-        drain,
-        watch,
-    )
 }
 
 // Gives the children their bits of what is loaded, for which there is room: one child after another, since no put fails
@@ -177,12 +179,8 @@ pub(crate) fn give_in_room<S: Shape, C: Rx, D: Drain, W: Watch>(
 )
     requires ready { AreReady C.stands C.meaning children.old (D.outputs drain.old) }
     requires fits { AllFit C.fits children.old (D.room drain.old) (loaded_most S.shape strip.old.gap) }
-    ensures played { (watch : W) → Plays C.stands W.saw (map C.meaning children.old)
-        (loaded_acts S.shape strip.old.gap strip.old.frame)
-        children.old children.new (D.outputs drain.old) (D.outputs drain.new) watch watch }
-    ensures same { map C.meaning children.new ≡ map C.meaning children.old }
-    ensures faults { D.drain_faults drain.new ≡ D.drain_faults drain.old }
-    ensures drained { D.drained drain.old drain.new }
+    ensures { (watch : W) → ActedWhole C.Rx D.Drain W.Watch (loaded_acts S.shape strip.old.gap strip.old.frame)
+        children.old children.new drain.old drain.new watch watch }
 {
     for trib in 0..S::TRIBS {
         strip.read(trib);
@@ -194,22 +192,18 @@ pub(crate) fn give_in_room<S: Shape, C: Rx, D: Drain, W: Watch>(
 pub(crate) fn give_loaded<S: Shape, C: Rx, D: Drain, W: Watch>(
     children: &mut Children<S, C>,
     split: &mut Split<S>,
+    room: bool,
     drain: &mut D,
     watch: &mut W,
 ) -> Result<(), Failed>
     requires ready { AreReady C.stands C.meaning children.old (D.outputs drain.old) }
-    ensures played { OnOk result (Plays C.stands W.saw (map C.meaning children.old)
-        (loaded_acts S.shape split.old.strip.gap split.old.strip.frame)
-        children.old children.new (D.outputs drain.old) (D.outputs drain.new)
-        watch.old watch.new) }
-    ensures part { OnErr result (PlaysPart C.stands W.saw (map C.meaning children.old)
-        (loaded_acts S.shape split.old.strip.gap split.old.strip.frame)
-        children.old (D.outputs drain.old) (D.outputs drain.new) watch.old watch.new) }
-    ensures kept { Keeps C.meaning D.drain_faults D.drained children.old children.new drain.old drain.new result }
+    requires fits { room ≡ true → AllFit C.fits children.old (D.room drain.old) (loaded_most S.shape split.old.gap) }
+    ensures { Acted C.Rx D.Drain W.Watch (loaded_acts S.shape split.old.gap split.old.frame)
+        children.old children.new drain.old drain.new watch.old watch.new result }
 {
-    if children.have_room(drain, S::LOW as usize + 1) {
+    if room {
         give_in_room::<S, C, D, W>(children, &mut split.strip, drain);
         return Ok(());
     }
-    give_in_turn::<S, C, D, W>(children, split, drain, watch)
+    give_in_turn::<S, C, D, W>(children, &mut split.strip, &mut split.due, drain, watch)
 }

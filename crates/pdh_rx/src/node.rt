@@ -137,7 +137,10 @@ impl<S: Shape, C: Rx> RxNode<S, C> {
             (⟦<RxNode<S, C> as Rx>⟧.stands self.old) (⟦<RxNode<S, C> as Rx>⟧.stands self.new) }
         ensures same { ⟦<RxNode<S, C> as Rx>⟧.meaning self.new ≡ ⟦<RxNode<S, C> as Rx>⟧.meaning self.old }
     {
-        let most = (bits.len() - from).min(S::LEN as usize);
+        let most = (bits.len() - from).min(self.aligner.ahead(self.gap) as usize);
+        if most == 0 {
+            return 0;
+        }
         let calm = self.ais.calm(bits, from, most);
         let short = calm.min((S::LEN - 1 - self.gap) as usize);
         let mut count = self.aligner.pass(bits, from, short);

@@ -1,12 +1,12 @@
 //! The ones of a gap, given to the children in rounds: one to each in turn.
 
-ghost use Rattle.std.specs.Prelude.{◌≡◌, true, map, OnOk, OnErr};
+ghost use Rattle.std.specs.Prelude.{◌≡◌, true, map, OnErr};
 ghost use Rattle.pdh_events.specs.Acts.{round_acts, rounds_acts};
-ghost use Rattle.pdh_rx.specs.Node.{AreReady, Keeps, Plays, PlaysPart, PlaysUpTo};
+ghost use Rattle.pdh_rx.specs.Node.{AreReady, PlaysUpTo, Acted, ActedUpTo};
 
 use crate::Rx;
 use crate::children::Children;
-use crate::merging::{Split, give_in_room, give_in_turn};
+use crate::merging::{Split, give_in_room, give_loaded};
 use pdh_edge::{Drain, Failed};
 use pdh_shape::Shape;
 use pdh_watch::Watch;
@@ -18,11 +18,7 @@ fn push_round<S: Shape, C: Rx, D: Drain, W: Watch>(
     watch: &mut W,
 ) -> Result<(), Failed>
     requires ready { AreReady C.stands C.meaning children.old (D.outputs drain.old) }
-    ensures played { OnOk result (Plays C.stands W.saw (map C.meaning children.old) (round_acts S.shape)
-        children.old children.new (D.outputs drain.old) (D.outputs drain.new) watch.old watch.new) }
-    ensures part { OnErr result (PlaysUpTo C.stands W.saw (map C.meaning children.old) (round_acts S.shape)
-        children.old (D.outputs drain.old) (D.outputs drain.new) watch.old watch.new) }
-    ensures kept { Keeps C.meaning D.drain_faults D.drained children.old children.new drain.old drain.new result }
+    ensures { ActedUpTo C.Rx D.Drain W.Watch (round_acts S.shape) children.old children.new drain.old drain.new watch.old watch.new result }
 {
     for trib in 0..S::TRIBS {
         children.push(trib, true, drain, watch)?;
@@ -37,11 +33,7 @@ fn push_rounds<S: Shape, C: Rx, D: Drain, W: Watch>(
     watch: &mut W,
 ) -> Result<(), Failed>
     requires ready { AreReady C.stands C.meaning children.old (D.outputs drain.old) }
-    ensures played { OnOk result (Plays C.stands W.saw (map C.meaning children.old) (rounds_acts S.shape S.LOW)
-        children.old children.new (D.outputs drain.old) (D.outputs drain.new) watch.old watch.new) }
-    ensures part { OnErr result (PlaysUpTo C.stands W.saw (map C.meaning children.old) (rounds_acts S.shape S.LOW)
-        children.old (D.outputs drain.old) (D.outputs drain.new) watch.old watch.new) }
-    ensures kept { Keeps C.meaning D.drain_faults D.drained children.old children.new drain.old drain.new result }
+    ensures { ActedUpTo C.Rx D.Drain W.Watch (rounds_acts S.shape S.LOW) children.old children.new drain.old drain.new watch.old watch.new result }
 {
     for _round in 0..S::LOW {
         push_round::<S, C, D, W>(children, drain, watch)?;
@@ -59,14 +51,9 @@ pub(crate) fn give_ones<S: Shape, C: Rx, D: Drain, W: Watch>(
     watch: &mut W,
 ) -> Result<(), Failed>
     requires ready { AreReady C.stands C.meaning children.old (D.outputs drain.old) }
-    ensures played { OnOk result (Plays C.stands W.saw (map C.meaning children.old) (rounds_acts S.shape S.LOW)
-        children.old children.new (D.outputs drain.old) (D.outputs drain.new)
-        watch.old watch.new) }
-    ensures part { OnErr result (PlaysPart C.stands W.saw (map C.meaning children.old) (rounds_acts S.shape S.LOW)
-        children.old (D.outputs drain.old) (D.outputs drain.new) watch.old watch.new) }
+    ensures acted { Acted C.Rx D.Drain W.Watch (rounds_acts S.shape S.LOW) children.old children.new drain.old drain.new watch.old watch.new result }
     ensures rounds { C.IS_LEAF ≡ true → OnErr result (PlaysUpTo C.stands W.saw (map C.meaning children.old) (rounds_acts S.shape S.LOW)
         children.old (D.outputs drain.old) (D.outputs drain.new) watch.old watch.new) }
-    ensures kept { Keeps C.meaning D.drain_faults D.drained children.old children.new drain.old drain.new result }
 {
     split.strip.load_ones();
     if children.have_room(drain, S::LOW as usize) {
@@ -78,5 +65,5 @@ pub(crate) fn give_ones<S: Shape, C: Rx, D: Drain, W: Watch>(
     if one_by_one {
         return push_rounds::<S, C, D, W>(children, drain, watch);
     }
-    give_in_turn::<S, C, D, W>(children, split, drain, watch)
+    give_loaded::<S, C, D, W>(children, split, false, drain, watch)
 }

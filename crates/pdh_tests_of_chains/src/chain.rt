@@ -128,9 +128,12 @@ fn run_demux(
     zeros: usize,
     bits: u32,
 ) -> Result<(Result<u64, DemuxStop>, usize), Fail> {
-    let mut port = port_of_line(alloc, no_ones(alloc, zeros)?, chain)?;
+    let count = leaves(chain);
+    // a leaf receives no more than its share of a line
+    let share = zeros / count as usize + 1;
+    let mut port = port_of_line(alloc, no_ones(alloc, zeros)?, share, chain)?;
     let end = demux(alloc, chain, u64::from(bits), &mut port, &mut Quiet);
-    Ok((end, port.output(leaves(chain) - 1).len()))
+    Ok((end, port.output(count - 1).len()))
 }
 
 // No position of a line of zeros is confirmed, and each whole frame's length of positions gives ones. Nor is one of a line of
@@ -211,7 +214,7 @@ fn demuxed<W: Watch>(
     watch: &mut W,
 ) -> Result<(Result<u64, DemuxStop>, Vec<bool>), Fail> {
     let bits = line.len();
-    let mut port = port_of_line(alloc, Packed::of_bits(alloc, &line)?, chain)?;
+    let mut port = port_of_line(alloc, Packed::of_bits(alloc, &line)?, bits, chain)?;
     let end = demux(alloc, chain, bits as u64, &mut port, watch);
     let mut got = Vec::new(alloc);
     for leaf in 0..leaves(chain) {

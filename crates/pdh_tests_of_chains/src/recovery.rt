@@ -49,7 +49,7 @@ fn bent(alloc: Global, line: &[bool], text: &str) -> Result<Vec<bool>, Fail> {
 // What each leaf receives of a line.
 fn received(alloc: Global, chain: Chain, line: &[bool]) -> Result<Vec<Vec<bool>>, Fail> {
     let bits = line.len();
-    let mut port = port_of_line(alloc, Packed::of_bits(alloc, line)?, chain)?;
+    let mut port = port_of_line(alloc, Packed::of_bits(alloc, line)?, bits, chain)?;
     if demux(alloc, chain, bits as u64, &mut port, &mut Quiet).is_err() {
         return Err(Fail::new("demux stopped"));
     }

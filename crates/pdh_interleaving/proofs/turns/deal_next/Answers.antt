@@ -12,8 +12,8 @@ returns-then-tributaries-eq4 c =
     let line : List Bool = drop c.args.place c.args.line.now.bits in
     let four : t ≡ 4 = omega (arith, c.if-tributaries-eq4.true) in
     c.append_each.ensures
-    ∙ appended_same (λ j. take count (low_bits (16 * ((count + 15) / 16)) (get_or c.gather_pairs.new.words j 0))) (column t count line) 0 lists
-    (λ j within. c.gather_pairs.ensures j (omega (arith, four, within)) ∙ ap (λ (k : ℕ). column k count line j) (sym four))
+    ∙ appended_same (λ j. take count (low_bits (16 * ((count + 15) / 16)) (get_or c.gather_lanes.new.words j 0))) (column t count line) 0 lists
+    (λ j within. c.gather_lanes.ensures j (omega (arith, four, within)) ∙ ap (λ (k : ℕ). column k count line j) (sym four))
     ∙ sym (dealt_is count line lists)
 
 pub returns-else-tributaries-eq4 : goal.returns-else-tributaries-eq4

@@ -12,25 +12,13 @@ how_many : (bytes : List ℕ) (n k : ℕ) → interleaved (map bits_of_byte byte
 how_many bytes n k are =
     omega (arith, ap length are, length-low_bits k n, length-interleaved (map bits_of_byte bytes) 8, length-map bytes bits_of_byte)
 
-pub returns-then-words-eq4 : goal.returns-then-words-eq4
-returns-then-words-eq4 c j m who few =
-    let bytes = c.gather4.result in
-    let n = c.args.bits in
-    let old = c.args.words.now in
-    let line : List Bool = low_bits 64 n in
-    let rows : List Bool = low_bits 32 (n / 2 ^ 32) in
-    let many : length bytes ≡ 4 = omega (arith, how_many bytes (n / 2 ^ 32) 32 c.gather4.ensures) in
-    let byte : bits_of_byte (get_or bytes j 0) ≡ column 4 8 line j = bytes_are_columns bytes line rows 4 j many (omega arith) c.gather4.ensures (sym (take_low 32 64 n (omega arith))) in
-    c.shift_in.ensures j m who few ∙ ap (λ (bits : List Bool). low_bits m (get_or old j 0) ++ bits) (byte ∙ ap (λ (t : ℕ). column t 8 line j) (sym c.if-words-eq4.true))
-
-pub returns-else-words-eq4 : goal.returns-else-words-eq4
-returns-else-words-eq4 c j m who few =
+pub returns : goal.returns
+returns c j m who few =
     let bytes = c.gather7.result in
     let n = c.args.bits in
     let old = c.args.words.now in
     let line : List Bool = low_bits 64 n in
     let rows : List Bool = low_bits 56 (n / 2 ^ 8) in
     let many : length bytes ≡ 7 = omega (arith, how_many bytes (n / 2 ^ 8) 56 c.gather7.ensures) in
-    let seven : length old ≡ 7 = grind (arith, c.requires, c.if-words-eq4.false) in
-    let byte : bits_of_byte (get_or bytes j 0) ≡ column 7 8 line j = bytes_are_columns bytes line rows 7 j many (omega arith) c.gather7.ensures (sym (take_low 56 64 n (omega arith))) in
-    c.shift_in-else-words-eq4.ensures j m who few ∙ ap (λ (bits : List Bool). low_bits m (get_or old j 0) ++ bits) (byte ∙ ap (λ (t : ℕ). column t 8 line j) (sym seven))
+    let byte : bits_of_byte (get_or bytes j 0) ≡ column 7 8 line j = bytes_are_columns bytes line rows 7 j many who c.gather7.ensures (sym (take_low 56 64 n (omega arith))) in
+    c.shift_in.ensures j m (omega (arith, who, c.requires)) few ∙ ap (λ (bits : List Bool). low_bits m (get_or old j 0) ++ bits) byte

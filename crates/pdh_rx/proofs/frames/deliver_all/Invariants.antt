@@ -3,14 +3,12 @@ use Rattle.pdh_line.specs.Tracking.{Piece}
 use Rattle.pdh_line.specs.Tracking.Piece.{Delivered}
 use Rattle.pdh_events.specs.Acts.{frames_acts}
 use Rattle.pdh_events.specs.Keeping.{Remembers}
-use Rattle.pdh_rx.specs.Node.{Plays}
-use Rattle.pdh_rx.proofs.Keeping.{KeepsYet}
+use Rattle.pdh_rx.specs.Node.{ActedWhole}
 use Rattle.pdh_rx.proofs.frames.deliver_all.Given as goal
 
 -- so many of the frames were delivered
 abbrev pub invariant-loop-done : goal.invariant-loop-done
 invariant-loop-done g l = record {
-  played : (pieces : List Piece) → Remembers g.S.Shape.shape l.fn.teller pieces → Plays g.C.Rx.stands g.W.Watch.saw (map g.C.Rx.meaning l.fn.children) (frames_acts g.S.Shape.shape l.at.path l.at.number pieces (take l.done l.aligner.ready)) l.fn.children l.children (g.D.Drain.outputs l.fn.drain) (g.D.Drain.outputs l.drain) l.fn.watch l.watch;
+  acted : (pieces : List Piece) → Remembers g.S.Shape.shape l.fn.teller pieces → ActedWhole g.C.Rx g.D.Drain g.W.Watch (frames_acts g.S.Shape.shape l.at.path l.at.number pieces (take l.done l.aligner.ready)) l.fn.children l.children l.fn.drain l.drain l.fn.watch l.watch;
   remembers : (pieces : List Piece) → Remembers g.S.Shape.shape l.fn.teller pieces → Remembers g.S.Shape.shape l.teller (pieces ++ map Delivered (take l.done l.aligner.ready));
-  kept : KeepsYet g.C.Rx.meaning g.D.Drain.drain_faults g.D.Drain.drained l.fn.children l.children l.fn.drain l.drain;
 }

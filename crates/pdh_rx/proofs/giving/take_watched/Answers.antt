@@ -8,7 +8,7 @@ use Rattle.pdh_events.specs.laws.QuietLaws.{quiet_events}
 use Rattle.pdh_rx.specs.Meaning.{Meaning, TakesBits}
 use Rattle.pdh_rx.proofs.Gains.{on_err_from}
 use Rattle.pdh_rx.proofs.Shares.{takes_join, takes_part, bits_rest}
-use Rattle.pdh_rx.proofs.DueLaws.{take_and}
+use Rattle.std.proofs.Math.Seq.{take-add}
 use Rattle.pdh_rx.proofs.Watched.{seen_push, seen_quiet, part_push, part_more}
 use Rattle.pdh_rx.proofs.giving.take_watched.Goals as goal
 
@@ -112,10 +112,10 @@ loop-done-preserved g c =
     let k = c.in_ok-done-2.field-0 in
     record {
       within = omega (arith, ok.count);
-      taken = takes_join m (g.R.Rx.meaning c.push.new.self) (take (n + 1) bits) (take k (drop (n + 1) bits)) (take (n + 1 + k) bits) _ _ _ _ _ _ both (take_and (n + 1) k bits) joined ok.taken;
+      taken = takes_join m (g.R.Rx.meaning c.push.new.self) (take (n + 1) bits) (take k (drop (n + 1) bits)) (take (n + 1 + k) bits) _ _ _ _ _ _ both (take-add (n + 1) k bits) joined ok.taken;
       seen = λ line told.
           let N : Meaning → Type 0 = λ m. IsQuiet m.notes (line ++ take (n + 1) bits) (take k (drop (n + 1) bits)) in
-          seen_quiet g.W.Watch.saw g.met.W.Watch.saw_join m.notes line (take (n + 1) bits) (take k (drop (n + 1) bits)) (take (n + 1 + k) bits) _ _ (take_and (n + 1) k bits) (seen line told) (subst N both (ok.quiet (line ++ take (n + 1) bits) (joined.stands line told)));
+          seen_quiet g.W.Watch.saw g.met.W.Watch.saw_join m.notes line (take (n + 1) bits) (take k (drop (n + 1) bits)) (take (n + 1 + k) bits) _ _ (take-add (n + 1) k bits) (seen line told) (subst N both (ok.quiet (line ++ take (n + 1) bits) (joined.stands line told)));
       same = ok.same ∙ both;
       unfailed = ok.cause ∙ c.in_ok-push.ensures.cause ∙ inv.unfailed;
       drained = g.met.D.Drain.drained_join _ _ _ (g.met.D.Drain.drained_join _ _ _ inv.drained c.in_ok-push.ensures.drained) ok.drained;

@@ -1,16 +1,16 @@
-use Rattle.std.proofs.Common.{◌≡◌, ◌<◌, ◌≤◌, ℕ, Bool, List, [], length, map, refl, ap, ◌∙◌, subst, arith}
+use Rattle.std.proofs.Common.{◌≡◌, ◌<◌, ◌≤◌, ℕ, Bool, List, length, map, refl, ap, ◌∙◌, subst, arith}
 use Rattle.pdh_edge.specs.Ports.{for_leaf}
-use Rattle.pdh_events.specs.Acts.{with_more}
 use Rattle.pdh_events.specs.laws.QuietLaws.{IsQuiet}
 use Rattle.pdh_rx.specs.Meaning.{Meaning}
 use Rattle.pdh_rx.specs.Node.{EachStands, child_notes, Gives}
 use Rattle.pdh_rx.specs.Places.{loaded_cell, loaded_places, loaded_bits, loaded_most}
 use Rattle.pdh_rx.proofs.Gains.{gives_at}
-use Rattle.pdh_rx.proofs.Keeping.{keeps_nothing, keeps_more, ready_yet}
+use Rattle.pdh_rx.proofs.Keeping.{keeps_nothing, keeps_more, gives_ready}
 use Rattle.pdh_rx.proofs.Playing.{plays_same}
-use Rattle.pdh_rx.proofs.Ahead.{got_ahead}
+use Rattle.pdh_rx.specs.Merging.{FirstGot}
+use Rattle.pdh_rx.proofs.Ahead.{first_none, first_more}
 use Rattle.pdh_rx.proofs.Standing.{loaded_all, loaded_acts_are, loaded_some, read_same}
-use Rattle.pdh_rx.proofs.Fitting.{FirstGiven, first_bits, first_none, first_more, first_all, loaded_few}
+use Rattle.pdh_rx.proofs.Fitting.{first_all, loaded_few}
 use Rattle.pdh_rx.proofs.merging.give_in_room.Goals as goal
 
 pub loop-trib-init : goal.loop-trib-init
@@ -20,17 +20,12 @@ loop-trib-init g c =
       frame = refl;
       gap = refl;
       fits = λ j le. c.requires.fits j;
-      given = first_none g.C.Rx.stands (map g.C.Rx.meaning c.args.children.now) (loaded_bits s c.args.strip.now.gap c.args.strip.now.frame) _ _;
+      given = first_none _ _ _ _ _;
       kept = keeps_nothing g.C.Rx.meaning g.D.Drain.drain_faults g.D.Drain.drained _ _ (g.met.D.Drain.drained_same _);
     }
 
 pub take_in_room-requires-clause-ready : goal.take_in_room-requires-clause-ready
-take_in_room-requires-clause-ready g c =
-    let s = g.S.Shape.shape in
-    let inv = c.loop-trib.invariant in
-    ready_yet g.C.Rx.stands g.C.Rx.meaning g.D.Drain.drain_faults g.D.Drain.drained g.D.Drain.outputs g.met.D.Drain.drained_holds _ _ _ _ c.requires.ready inv.kept
-    (with_more c.requires.ready.lines (got_ahead [] (first_bits (loaded_bits s c.args.strip.now.gap c.args.strip.now.frame) c.loop-trib.trib)))
-    (inv.given.gives.each c.requires.ready.lines c.requires.ready.each)
+take_in_room-requires-clause-ready g c = gives_ready g.D.Drain.outputs g.met.D.Drain.drained_holds c.requires.ready c.loop-trib.invariant.kept c.loop-trib.invariant.given.gives
 
 pub take_in_room-requires-clause-fits : goal.take_in_room-requires-clause-fits
 take_in_room-requires-clause-fits g c child at =
@@ -61,28 +56,23 @@ loop-trib-preserved g c =
       frame = c.read.ensures.frame ∙ inv.frame;
       gap = c.read.ensures.gap ∙ inv.gap;
       fits = λ j le. taken.others j (loaded_most s gap) (λ e. omega (arith, le, e)) (inv.fits j (omega (arith, le)));
-      given = first_more g.C.Rx.stands ms (loaded_bits s gap frame) t _ _ _ _ _ _ inv.given (subst P read (gives_at g.C.Rx.stands ms _ inv.kept.same _ _ _ _ _ taken.given)) (subst Q read (subst M inv.kept.same taken.quiet));
+      given = first_more g.C.Rx.stands ms (loaded_bits s gap frame) (loaded_bits s gap frame) t _ _ _ _ _ _ (λ j lt. refl) inv.given (subst P read (gives_at g.C.Rx.stands ms _ inv.kept.same _ _ _ _ _ taken.given)) (subst Q read (subst M inv.kept.same taken.quiet));
       kept = keeps_more g.C.Rx.meaning g.D.Drain.drain_faults g.D.Drain.drained g.met.D.Drain.drained_join _ _ _ _ _ _ {T = Unit {0}} {E = Unit {0}} tt inv.kept (record { same = taken.same; drains = taken.drained; cause = taken.faults });
     }
 
-pub returns-clause-played : goal.returns-clause-played
-returns-clause-played g c watch =
+pub returns : goal.returns
+returns g c watch =
     let s = g.S.Shape.shape in
     let gap = c.args.strip.now.gap in
     let frame = c.args.strip.now.frame in
     let inv = c.loop-trib.invariant in
     let ms = map g.C.Rx.meaning c.args.children.now in
     let all : c.loop-trib.trib ≡ s.tribs = omega (arith, g.met.S.Shape.tribs_is) in
-    let P : ℕ → Type 0 = λ n. FirstGiven g.C.Rx.stands ms (loaded_bits s gap frame) n c.args.children.now c.loop-trib.children (g.D.Drain.outputs c.args.drain.now) (g.D.Drain.outputs c.loop-trib.drain) in
-    plays_same g.C.Rx.stands g.W.Watch.saw ms _ _ _ _ _ _ _ _ (loaded_acts_are s gap frame g.met.S.Shape.in_turn)
-    (first_all g.C.Rx.stands ms (loaded_bits s gap frame) g.W.Watch.saw s.tribs (loaded_cell s gap frame) (loaded_places s gap) (loaded_some s gap) (λ j lt. loaded_all s gap frame j g.met.S.Shape.in_turn g.met.S.Shape.has_tributaries lt)
-    _ _ _ _ watch (g.met.W.Watch.saw_nothing watch) (subst P all inv.given))
-
-pub returns-clause-same : goal.returns-clause-same
-returns-clause-same g c = c.loop-trib.invariant.kept.same
-
-pub returns-clause-faults : goal.returns-clause-faults
-returns-clause-faults g c = c.loop-trib.invariant.kept.cause
-
-pub returns-clause-drained : goal.returns-clause-drained
-returns-clause-drained g c = c.loop-trib.invariant.kept.drains
+    let P : ℕ → Type 0 = λ n. FirstGot g.C.Rx.stands ms (loaded_bits s gap frame) n c.args.children.now c.loop-trib.children (g.D.Drain.outputs c.args.drain.now) (g.D.Drain.outputs c.loop-trib.drain) in
+    record {
+      played = plays_same g.C.Rx.stands g.W.Watch.saw ms _ _ _ _ _ _ _ _ (loaded_acts_are s gap frame g.met.S.Shape.in_turn)
+          (first_all g.C.Rx.stands g.W.Watch.saw g.met.W.Watch.saw_join ms (loaded_bits s gap frame) s.tribs (loaded_cell s gap frame) (loaded_places s gap) (loaded_some s gap) (λ j lt. loaded_all s gap frame j g.met.S.Shape.in_turn g.met.S.Shape.has_tributaries lt)
+          _ _ _ _ watch (g.met.W.Watch.saw_nothing watch) (subst P all inv.given));
+      part = tt;
+      kept = inv.kept;
+    }

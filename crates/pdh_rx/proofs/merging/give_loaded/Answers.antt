@@ -1,14 +1,13 @@
-use Rattle.std.proofs.Common.{refl, arith}
-use Rattle.pdh_rx.proofs.Fitting.{most_few}
+use Rattle.std.proofs.Common.{sym, ap}
+use Rattle.pdh_rx.specs.Places.{Loaded, loaded_acts}
+use Rattle.pdh_rx.proofs.Acting.{acted_ok, acted_same}
 use Rattle.pdh_rx.proofs.merging.give_loaded.Goals as goal
 
 pub give_in_room-requires-clause-fits : goal.give_in_room-requires-clause-fits
-give_in_room-requires-clause-fits g c j child at =
-    let s = g.S.Shape.shape in
-    g.met.C.Rx.fits_by child _ _ _ _ (λ k mine. refl) (most_few s c.args.split.now.strip.gap c.LOW.result (omega (arith, c.LOW.ensures, g.met.S.Shape.low_is))) (c.have_room.ensures c.if-have_room.true j child at)
+give_in_room-requires-clause-fits g c = rw c.split.view_is (c.requires.fits c.if-room.true)
 
-pub returns-then-have_room-clause-kept : goal.returns-then-have_room-clause-kept
-returns-then-have_room-clause-kept g c = record { same = c.give_in_room.ensures.same; drains = c.give_in_room.ensures.drained; cause = c.give_in_room.ensures.faults }
+pub returns-then-room : goal.returns-then-room
+returns-then-room g c = acted_ok (acted_same (ap (λ (l : Loaded). loaded_acts g.S.Shape.shape l.gap l.frame) (sym c.split.view_is)) (c.give_in_room.ensures _))
 
-pub returns-then-have_room-clause-played : goal.returns-then-have_room-clause-played
-returns-then-have_room-clause-played g c = c.give_in_room.ensures.played _
+pub returns : goal.returns
+returns g c = acted_same (ap (λ (l : Loaded). loaded_acts g.S.Shape.shape l.gap l.frame) (sym c.split.view_is)) c.give_in_turn.ensures.acted

@@ -4,7 +4,7 @@ use Rattle.pdh_rx.proofs.merging.next_due.Given as goal
 
 -- none of the tributaries so far is due before this place, at which one of them is, or it is the end
 abbrev pub invariant-loop-trib : goal.invariant-loop-trib
-invariant-loop-trib l = record {
+invariant-loop-trib g l = record {
   least : (j : ℕ) (d : Due) → j < l.trib → l.first ≤ (slice_index_or l.due j d).place;
   within : l.first ≤ l.end;
   none : l.next ≡ None → l.first ≡ l.end;

@@ -1,8 +1,8 @@
 use Rattle.std.proofs.Common.{take, drop, map}
-use Rattle.std.proofs.lemmas.Result.{on_err_weaker}
+use Rattle.std.proofs.lemmas.Result.{on_err_weaker, IfOk-weaker}
 use Rattle.pdh_rx.specs.Node.{child_notes}
 use Rattle.pdh_rx.proofs.OneChild.{child_of, child_ready, child_keeps, still_children, child_notes_at, each_with_bits, gains_of_one, part_of_one}
-use Rattle.pdh_rx.proofs.Ahead.{quiet_alike, if_ok_then}
+use Rattle.pdh_rx.proofs.Ahead.{quiet_alike}
 use Rattle.pdh_rx.proofs.children.Children.glide.Goals as goal
 
 pub glide-requires : goal.glide-requires
@@ -16,7 +16,7 @@ returns-clause-given g c =
     let child = child_of g.C.Rx.meaning c.self.inside.list.items g.S.Shape.TRIBS c.args.trib c.index_mut-child.result.now c.self.invariant c.requires.known c.index_mut-child.ensures.value in
     let t = c.args.trib in
     let rest = drop c.args.from c.args.bits.now.bits in
-    rw (← c.self.view_is) (if_ok_then _ _ c.glide.result (λ count taken. record {
+    rw (← c.self.view_is) (IfOk-weaker c.glide.result _ _ (λ count taken. record {
       each = λ lines each. each_with_bits g.C.Rx.stands _ lines t (take count rest) c.glide.new.self each (taken.stands (lines t) (each t _ child.here));
       gains = λ lines each. gains_of_one _ lines t (take count rest) (g.C.Rx.meaning c.index_mut-child.result.now) child.known c.self.invariant.disjoint (g.met.C.Rx.sound c.index_mut-child.result.now) _ _ (taken.gains (lines t) (each t _ child.here));
     }) c.glide.ensures.taken)
@@ -27,7 +27,7 @@ returns-clause-quiet g c =
     let t = c.args.trib in
     let m = g.C.Rx.meaning c.index_mut-child.result.now in
     let rest = drop c.args.from c.args.bits.now.bits in
-    rw (← c.self.view_is) (if_ok_then _ _ c.glide.result (λ count quiet lines each.
+    rw (← c.self.view_is) (IfOk-weaker c.glide.result _ _ (λ count quiet lines each.
     quiet_alike m.notes (child_notes (map g.C.Rx.meaning c.self.inside.list.items) t) (λ line bit. child_notes_at (map g.C.Rx.meaning c.self.inside.list.items) t m line bit child.known) (lines t) (take count rest) (quiet (lines t) (each t _ child.here))) c.glide.ensures.quiet)
 
 pub returns-clause-part : goal.returns-clause-part

@@ -1,12 +1,15 @@
-use Rattle.std.proofs.Common.{◌≡◌, ◌+◌, ◌-◌, ◌^◌, ◌<◌, ◌≤◌, ℕ, min, Bool, List, ◌++◌, length, take, drop, length-drop, sym, ap, ◌∙◌, subst, arith}
+use Rattle.std.proofs.Common.{◌≡◌, ◌+◌, ◌-◌, ◌^◌, ◌<◌, ◌≤◌, ℕ, min, Bool, List, ◌++◌, length, take, drop, length-drop, ap, ◌∙◌, subst, arith}
 use Rattle.std.proofs.lemmas.List.{length-take-le}
 use Rattle.pdh_align.specs.Aligning.{Held, StandsFor}
 use Rattle.pdh_events.specs.Keeping.{OnesRun, CountsOnes}
 use Rattle.pdh_events.specs.laws.QuietLaws.{IsCalm}
 use Rattle.pdh_rx.specs.Node.{NodeStands}
-use Rattle.pdh_rx.proofs.QuietNode.{calm_fewer, wait_quiet, wait_same, wait_stands, pass_quiet, pass_same, pass_stands}
+use Rattle.pdh_rx.proofs.QuietNode.{quietly_none, calm_fewer, wait_quiet, wait_same, wait_stands, pass_quiet, pass_same, pass_stands}
 use Rattle.pdh_rx.proofs.node.RxNode.idle.Goals.{then-count-eq0, else-count-eq0}
 use Rattle.pdh_rx.proofs.node.RxNode.idle.Goals as goal
+
+pub returns-then-most-eq0-clause-taken : goal.returns-then-most-eq0-clause-taken
+returns-then-most-eq0-clause-taken g c = quietly_none _ _
 
 pub returns-clause-taken : goal.returns-clause-taken
 returns-clause-taken g c =
@@ -42,7 +45,7 @@ returns-clause-taken g c =
           let some : 0 < k = omega (arith, w.if-count-eq0.false) in
           let few : k ≤ c.calm-calm.result = omega (arith, c.pass-count.ensures.most, c.min-short.ensures) in
           let count : length (take k rest) ≡ k = length-take-le k rest (omega (arith, length-drop c.args.from c.args.bits.now.bits, few, c.calm-calm.ensures.most, c.min-most.ensures, c.len.ensures.count, c.requires.begun)) in
-          let short : old.gap + length (take k rest) < s.len = omega (arith, count, c.pass-count.ensures.most, c.min-short.ensures, c.requires.stands.1.node.inside, g.met.S.Shape.len_is, c.LEN-2.ensures) in
+          let short : old.gap + length (take k rest) < s.len = omega (arith, count, c.pass-count.ensures.most, c.min-short.ensures, c.requires.stands.1.node.inside, g.met.S.Shape.len_is, c.LEN.ensures) in
           let long : ais.long ≡ old.ais.long = c.skip.ensures.long ∙ ap (λ m. m.ais.long) w.self-is in
           let skips : Skips old.ais k = subst (λ j. Skips old.ais j) w.count-is (subst (λ a. Skips a c.if-count-eq0.count) (ap (λ m. m.ais) w.self-is) c.skip.ensures.counts) in
           let counts : bits ≡ min (old.bits + length (take k rest)) (2 ^ 64 - 1) = omega (arith, count, c.saturating_add-self.ensures, ap (λ m. m.bits) w.self-is, w.count-is) in

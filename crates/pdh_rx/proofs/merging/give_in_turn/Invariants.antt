@@ -1,18 +1,8 @@
 use Rattle.std.proofs.Common.{◌≡◌, length, map}
 use Rattle.pdh_rx.specs.Places.{loaded_cell, loaded_places, loaded_bits}
-use Rattle.pdh_rx.proofs.DueLaws.{Begun, Merges}
+use Rattle.pdh_rx.proofs.DueLaws.{Merges}
 use Rattle.pdh_rx.proofs.Keeping.{KeepsYet}
-use Rattle.pdh_rx.proofs.merging.merge_loaded.Given as goal
-
--- the first tributaries got what brings nothing
-abbrev pub invariant-loop-trib : goal.invariant-loop-trib
-invariant-loop-trib g l = record {
-  frame : l.strip.frame ≡ l.fn.strip.frame;
-  gap : l.strip.gap ≡ l.fn.strip.gap;
-  room : length l.due ≡ length l.fn.due;
-  begun : Begun g.C.Rx.stands g.W.Watch.saw (map g.C.Rx.meaning l.fn.children) g.S.Shape.shape.tribs (loaded_cell g.S.Shape.shape l.fn.strip.gap l.fn.strip.frame) (loaded_places g.S.Shape.shape l.fn.strip.gap) (loaded_bits g.S.Shape.shape l.fn.strip.gap l.fn.strip.frame) l.trib l.due l.fn.children l.children (g.D.Drain.outputs l.fn.drain) (g.D.Drain.outputs l.drain) l.fn.watch l.watch;
-  kept : KeepsYet g.C.Rx.meaning g.D.Drain.drain_faults g.D.Drain.drained l.fn.children l.children l.fn.drain l.drain;
-}
+use Rattle.pdh_rx.proofs.merging.give_in_turn.Given as goal
 
 -- so many tributaries were due
 abbrev pub invariant-loop-step : goal.invariant-loop-step
