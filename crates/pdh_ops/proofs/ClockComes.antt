@@ -17,25 +17,25 @@ use Rattle.pdh_clock.specs.Contents.{Contents, frames_of}
 use Rattle.pdh_clock.specs.Made.{made}
 use Rattle.pdh_clock.specs.Written.{text_of, text_with}
 use Rattle.pdh_rows.specs.Outside.{Run}
-use Rattle.pdh_ops.specs.Writing.{IsStartStop, IsAppendStop}
+use Rattle.pdh_runner.specs.Writing.{IsStartStop, IsAppendStop}
 use Rattle.pdh_answers.specs.Names.{schedule_name}
 use Rattle.pdh_answers.specs.Answer.{Answer, and_then}
-use Rattle.pdh_ops.specs.Reading.{HasLength, IsSizeStop}
+use Rattle.pdh_runner.specs.Reading.{HasLength, IsSizeStop}
 use Rattle.pdh_ops.specs.Schedules.{rows_of, contents_of}
 use Rattle.pdh_ops.specs.Commands.Clock.{check_inputs, run_outside, outside_at, outside_of, first_outside_of, first_of, checked, made_text, rows_in_text, clock_made, checking, making, inside_says, outside_says, make_says}
-use Rattle.pdh_ops.specs.Operation.{Files, AreTold, IsOutput, reaches_outputs, all_held}
-use Rattle.pdh_ops.specs.Run.{with_stop, Performs, GoesOn}
-use Rattle.pdh_ops.specs.Refusing.{Refuses}
+use Rattle.pdh_runner.specs.Operation.{Files, AreTold, IsOutput, reaches_outputs, all_held}
+use Rattle.pdh_runner.specs.Performing.{with_stop, Performs, GoesOn}
+use Rattle.pdh_runner.specs.Refusing.{Refuses}
 use Rattle.pdh_ops.specs.ScheduleSteps.{RowsAre, IsScheduleStop}
 use Rattle.pdh_answers.specs.declared.file.File.TheVariants.{Schedule}
 use Rattle.pdh_ops.specs.declared.commands.clock.OutOfTolerance.{OutOfTolerance}
 use Rattle.pdh_answers.specs.declared.answer.Stop.{Stop}
 use Rattle.pdh_answers.specs.declared.answer.Stop.TheVariants.{Memory, Missing, ManyFrames}
-use Rattle.pdh_ops.proofs.Touching.{looks_then, looks_none, counted_since}
-use Rattle.pdh_ops.proofs.Causes.{looks_others}
-use Rattle.pdh_ops.proofs.Refusing.{refuses_since, refuses_performs, size_refuses}
+use Rattle.pdh_runner.proofs.Touching.{looks_then, looks_none, counted_since}
+use Rattle.pdh_runner.proofs.Causes.{looks_others}
+use Rattle.pdh_runner.proofs.Refusing.{refuses_since, refuses_performs, size_refuses}
 use Rattle.pdh_ops.proofs.ScheduleComes.{Begins, HasSchedule, text_due, schedule_refuses, comes_on}
-use Rattle.pdh_ops.proofs.OneOutput.{HasOutput, Writes, start_refused, append_refused, writing_done}
+use Rattle.pdh_runner.proofs.OneOutput.{HasOutput, Writes, start_refused, append_refused, writing_done}
 use Rattle.pdh_chain.specs.declared.chain.Chain.{Chain}
 use Rattle.pdh_chain.specs.Chains.{levels_of}
 use Rattle.pdh_levels.proofs.LevelLaws.{stores_is, stores_count, no_stores_is}

@@ -19,20 +19,24 @@ use Rattle.pdh_words.specs.declared.commands.Bits.{Bits}
 use Rattle.pdh_words.specs.declared.commands.Bits.TheVariants.{Line as Recorded, Bent as Disturbed}
 use Rattle.pdh_answers.specs.Names.{name_of, line_file, output_name}
 use Rattle.pdh_answers.specs.Answer.{and_then}
-use Rattle.pdh_ops.specs.Commands.Demux.{line_of, frames_of, demuxed, demuxing}
-use Rattle.pdh_ops.specs.Operation.{AreTold, OfInputs, reaches_outputs, Files, bytes_in}
-use Rattle.pdh_ops.specs.LineSteps.{BeginsWith}
-use Rattle.pdh_ops.specs.Run.{GoesOn}
-use Rattle.pdh_ops.specs.PortFiles.{HasBits, AreFiles, AreRead, opened_for, input_name}
-use Rattle.pdh_ops.specs.Steps.{IsLine, AreLeafOutputs, CanReceive, IsDemuxPort}
-use Rattle.pdh_ops.specs.Running.{ArePrepared}
+use Rattle.pdh_runner.specs.Lines.{line_of, frames_of}
+use Rattle.pdh_ops.specs.Commands.Demux.{demuxed, demuxing}
+use Rattle.pdh_runner.specs.Operation.{AreTold, OfInputs, reaches_outputs, Files, bytes_in}
+use Rattle.pdh_runner.specs.LineSteps.{BeginsWith}
+use Rattle.pdh_runner.specs.Performing.{GoesOn}
+use Rattle.pdh_runner.specs.PortFiles.{HasBits, AreFiles, AreRead, opened_for, input_name}
+use Rattle.pdh_runner.specs.Lines.{IsLine}
+use Rattle.pdh_ops.specs.Steps.{AreLeafOutputs, CanReceive, IsDemuxPort}
+use Rattle.pdh_runner.specs.Running.{ArePrepared}
 use Rattle.pdh_answers.specs.declared.file.File.{File}
 use Rattle.pdh_answers.specs.declared.file.File.TheVariants.{Output}
-use Rattle.pdh_ops.specs.declared.port.Input.{Input}
-use Rattle.pdh_ops.proofs.OneInput.{held_of, only_input}
-use Rattle.pdh_ops.proofs.LineComes.{demuxed_reaches, few_bits}
-use Rattle.pdh_ops.proofs.OutputNames.{numbered, numbered_at, numbered_differ, one_more_differs, same_output, output_is_not_line, output_is_not_bent}
-use Rattle.pdh_ops.proofs.PortOpen.{open_for, long_has, told_read, left_read, holds_read, holds_written}
+use Rattle.pdh_runner.specs.declared.port.Input.{Input}
+use Rattle.pdh_runner.proofs.OneInput.{held_of, only_input}
+use Rattle.pdh_ops.proofs.LineComes.{demuxed_reaches}
+use Rattle.pdh_runner.proofs.LineComes.{few_bits}
+use Rattle.pdh_ops.proofs.OutputNames.{numbered, numbered_at, numbered_differ, same_output, output_is_not_line, output_is_not_bent}
+use Rattle.pdh_runner.proofs.Differing.{one_more_differs}
+use Rattle.pdh_runner.proofs.PortOpen.{open_for, long_has, told_read, left_read, holds_read, holds_written}
 use Rattle.pdh_shape.specs.OwnNumbers.{most_frames}
 
 pub begins_with_line : (chain : Chain) (source : Bits) → BeginsWith (demuxing chain source) (line_file source) (line_of (line_file source) chain) (demuxed chain)

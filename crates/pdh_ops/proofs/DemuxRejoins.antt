@@ -18,9 +18,10 @@ use Rattle.pdh_words.specs.declared.commands.Bits.{Bits}
 use Rattle.pdh_words.specs.declared.commands.Command.{Command}
 use Rattle.pdh_words.specs.declared.commands.Command.TheVariants.{Mux, Disturb, Demux}
 use Rattle.pdh_ops.specs.Schedules.{rows_in}
-use Rattle.pdh_ops.specs.Operation.{bytes_in}
+use Rattle.pdh_runner.specs.Operation.{bytes_in}
 use Rattle.pdh_ops.specs.Commands.Demux.{output_of, demuxing}
-use Rattle.pdh_ops.specs.Run.{Performs, Runs}
+use Rattle.pdh_runner.specs.Performing.{Performs}
+use Rattle.pdh_ops.specs.Run.{Runs}
 use Rattle.pdh_ops.specs.Commands.Mux.{line_bytes, muxing}
 use Rattle.pdh_ops.specs.Commands.Disturb.{script_in, bent_bytes, disturbing}
 use Rattle.pdh_ops.specs.Rejoined.{made_from, end_from, AreRejoined}

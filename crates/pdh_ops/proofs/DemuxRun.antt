@@ -21,14 +21,15 @@ use Rattle.pdh_blocks.specs.laws.PortLaws.{left_is}
 use Rattle.pdh_words.specs.declared.commands.Bits.{Bits}
 use Rattle.pdh_answers.specs.Names.{name_of}
 use Rattle.pdh_ops.specs.Commands.Demux.{frames_received, output_of, demuxing, demux_says}
-use Rattle.pdh_ops.specs.Operation.{AreTold, Files, bytes_in}
-use Rattle.pdh_ops.specs.Run.{Comes}
-use Rattle.pdh_ops.specs.Steps.{HasLine, IsDemuxPort}
-use Rattle.pdh_ops.specs.PortFiles.{PutsAll, PutsFront}
-use Rattle.pdh_ops.specs.declared.port.Input.{Input}
+use Rattle.pdh_runner.specs.Operation.{AreTold, Files, bytes_in}
+use Rattle.pdh_runner.specs.Performing.{Comes}
+use Rattle.pdh_runner.specs.Lines.{HasLine}
+use Rattle.pdh_ops.specs.Steps.{IsDemuxPort}
+use Rattle.pdh_runner.specs.PortFiles.{PutsAll, PutsFront}
+use Rattle.pdh_runner.specs.declared.port.Input.{Input}
 use Rattle.pdh_answers.specs.declared.answer.Stop.TheVariants.{NoAlignment}
 use Rattle.pdh_ops.proofs.LineComes.{demuxed_none, demuxed_some}
-use Rattle.pdh_ops.proofs.PortRun.{given_begins, all_given, prefix_join, put_is, put_begins}
+use Rattle.pdh_runner.proofs.PortRun.{given_begins, all_given, prefix_join, put_is, put_begins}
 
 module _ (chain : Chain) (bits : Bits) (line : Input) (a : ShelfState) (p q : PortState) (is : IsDemuxPort chain bits line a p) where
   -- the bits of the line's file

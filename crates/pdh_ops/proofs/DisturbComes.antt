@@ -10,21 +10,21 @@ use Rattle.pdh_script.specs.Scripts.{Row}
 use Rattle.pdh_script.specs.ScriptText.{most_script_bytes, script_of, Fails}
 use Rattle.pdh_answers.specs.Names.{line_name, script_name}
 use Rattle.pdh_answers.specs.Answer.{Answer, and_then, stop_of_script}
-use Rattle.pdh_ops.specs.Commands.Demux.{line_of, frames_of}
+use Rattle.pdh_runner.specs.Lines.{line_of, frames_of}
 use Rattle.pdh_ops.specs.Commands.Disturb.{disturb_inputs, script_or_stop, script_rows, bent, disturbing}
 use Rattle.pdh_ops.specs.DisturbSteps.{HasSizes, ScriptIs}
-use Rattle.pdh_ops.specs.Reading.{HasLength, IsSizeStop, IsReadStop}
-use Rattle.pdh_ops.specs.Operation.{AreTold, OfInputs, AreHeld, IsReadDue, all_held, Files, bytes_in}
-use Rattle.pdh_ops.specs.Run.{Comes}
-use Rattle.pdh_ops.specs.Refusing.{Refuses}
+use Rattle.pdh_runner.specs.Reading.{HasLength, IsSizeStop, IsReadStop}
+use Rattle.pdh_runner.specs.Operation.{AreTold, OfInputs, AreHeld, IsReadDue, all_held, Files, bytes_in}
+use Rattle.pdh_runner.specs.Performing.{Comes}
+use Rattle.pdh_runner.specs.Refusing.{Refuses}
 use Rattle.pdh_ops.specs.declared.commands.disturb.Sizes.{Sizes}
 use Rattle.pdh_answers.specs.declared.file.File.TheVariants.{Line, Script}
 use Rattle.pdh_answers.specs.declared.answer.Stop.{Stop}
 use Rattle.pdh_answers.specs.declared.answer.Stop.TheVariants.{Missing, LongScript, ManyFrames}
-use Rattle.pdh_ops.proofs.Touching.{has_length_still, looks_then}
-use Rattle.pdh_ops.proofs.Refusing.{size_refuses, read_refuses, refuses_since}
+use Rattle.pdh_runner.proofs.Touching.{has_length_still, looks_then}
+use Rattle.pdh_runner.proofs.Refusing.{size_refuses, read_refuses, refuses_since}
 use Rattle.pdh_ops.proofs.MuxComes.{is_held, length_is}
-use Rattle.pdh_ops.proofs.OneInput.{held_of}
+use Rattle.pdh_runner.proofs.OneInput.{held_of}
 use Rattle.pdh_chain.specs.declared.chain.Chain.{Chain}
 use Rattle.pdh_chain.specs.Chains.{frame_bytes_of}
 use Rattle.pdh_shape.specs.OwnNumbers.{most_frames}

@@ -13,20 +13,21 @@ use Rattle.pdh_blocks.specs.Lists.{inputs_of}
 use Rattle.pdh_blocks.specs.Held.{AllDiffer}
 use Rattle.pdh_answers.specs.Names.{name_of, line_name, bent_name, script_name}
 use Rattle.pdh_ops.specs.Commands.Disturb.{script_rows, bent, disturbing}
-use Rattle.pdh_ops.specs.Operation.{AreTold, OfInputs, reaches_outputs, IsReadDue, Files, bytes_in}
-use Rattle.pdh_ops.specs.Run.{GoesOn}
-use Rattle.pdh_ops.specs.PortFiles.{HasBits, AreFiles, AreRead, opened_for, input_name}
-use Rattle.pdh_ops.specs.Running.{ArePrepared}
+use Rattle.pdh_runner.specs.Operation.{AreTold, OfInputs, reaches_outputs, IsReadDue, Files, bytes_in}
+use Rattle.pdh_runner.specs.Performing.{GoesOn}
+use Rattle.pdh_runner.specs.PortFiles.{HasBits, AreFiles, AreRead, opened_for, input_name}
+use Rattle.pdh_runner.specs.Running.{ArePrepared}
 use Rattle.pdh_ops.specs.DisturbSteps.{IsBendPlan, CanBend, IsBendPort}
 use Rattle.pdh_ops.specs.declared.commands.disturb.Plan.{Plan}
 use Rattle.pdh_answers.specs.declared.file.File.{File}
 use Rattle.pdh_answers.specs.declared.file.File.TheVariants.{Line, Bent}
-use Rattle.pdh_ops.specs.declared.port.Input.{Input}
+use Rattle.pdh_runner.specs.declared.port.Input.{Input}
 use Rattle.pdh_ops.proofs.DisturbComes.{ready, script_found, line_told}
 use Rattle.pdh_ops.proofs.MuxComes.{length_is}
-use Rattle.pdh_ops.proofs.OneInput.{held_of}
-use Rattle.pdh_ops.proofs.OutputNames.{none_differ, one_more_differs, bent_is_not_line}
-use Rattle.pdh_ops.proofs.PortOpen.{open_for, long_has, told_read, left_read, holds_read, holds_written}
+use Rattle.pdh_runner.proofs.OneInput.{held_of}
+use Rattle.pdh_runner.proofs.Differing.{none_differ, one_more_differs}
+use Rattle.pdh_ops.proofs.OutputNames.{bent_is_not_line}
+use Rattle.pdh_runner.proofs.PortOpen.{open_for, long_has, told_read, left_read, holds_read, holds_written}
 
 -- the line's file, of which the port gives all bits
 abbrev bend_input : Plan → Input

@@ -12,12 +12,12 @@ use Rattle.pdh_blocks.specs.Held.{IsPort}
 use Rattle.pdh_blocks.specs.laws.PortLaws.{left_is}
 use Rattle.pdh_answers.specs.Names.{line_name}
 use Rattle.pdh_ops.specs.Commands.Disturb.{bent_bits, bent_bytes, disturbing, disturb_says}
-use Rattle.pdh_ops.specs.Operation.{AreTold, Files, bytes_in}
-use Rattle.pdh_ops.specs.Run.{Comes}
-use Rattle.pdh_ops.specs.Steps.{HasLine}
+use Rattle.pdh_runner.specs.Operation.{AreTold, Files, bytes_in}
+use Rattle.pdh_runner.specs.Performing.{Comes}
+use Rattle.pdh_runner.specs.Lines.{HasLine}
 use Rattle.pdh_ops.specs.DisturbSteps.{IsBendPort}
-use Rattle.pdh_ops.specs.PortFiles.{PutsAll, PutsFront}
-use Rattle.pdh_ops.proofs.PortRun.{given_begins, all_given, put_is, put_begins}
+use Rattle.pdh_runner.specs.PortFiles.{PutsAll, PutsFront}
+use Rattle.pdh_runner.proofs.PortRun.{given_begins, all_given, put_is, put_begins}
 
 module _ (chain : Chain) (rows : List Row) (a : ShelfState) (p q : PortState) (is : IsBendPort chain rows a p) where
   -- the bits of the line's file

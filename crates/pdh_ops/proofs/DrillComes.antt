@@ -14,12 +14,13 @@ use Rattle.pdh_answers.specs.Answer.{Answer}
 use Rattle.pdh_ops.specs.Commands.Drill.{drilled, drilling, drill_says}
 use Rattle.pdh_ops.specs.InTime.{AreInTime}
 use Rattle.pdh_answers.specs.Lines.{IsTold}
-use Rattle.pdh_ops.specs.Operation.{IsOutput}
-use Rattle.pdh_ops.specs.Run.{Performs, Runs}
+use Rattle.pdh_runner.specs.Operation.{IsOutput}
+use Rattle.pdh_runner.specs.Performing.{Performs}
+use Rattle.pdh_ops.specs.Run.{Runs}
 use Rattle.pdh_answers.specs.declared.answer.Stop.TheVariants.{ManyFrames}
-use Rattle.pdh_ops.proofs.Causes.{did, looks_others}
+use Rattle.pdh_runner.proofs.Causes.{did, looks_others}
 use Rattle.pdh_ops.proofs.MuxGivesBack.{stop_status}
-use Rattle.pdh_ops.proofs.Touching.{looks_none}
+use Rattle.pdh_runner.proofs.Touching.{looks_none}
 use Rattle.pdh_shape.specs.OwnNumbers.{most_drilled}
 
 many_drilled : (chain : Chain) (seed frames : ℕ) → most_drilled < frames → drilled chain seed frames ≡ Err (ManyFrames frames)

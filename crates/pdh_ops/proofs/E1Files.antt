@@ -11,14 +11,15 @@ use Rattle.pdh_words.specs.declared.commands.Command.{Command}
 use Rattle.pdh_words.specs.declared.commands.Command.TheVariants.{E1Pack}
 use Rattle.pdh_answers.specs.Names.{payload_name, e1_name, payload_out_name}
 use Rattle.pdh_ops.specs.Commands.E1.{payload_of, e1_packed, packed_line, frames_filled, framed_of, frames_framed, e1_unpacked, unpacked_payload, counts_of, packing, unpacking, pack_says, unpack_says}
-use Rattle.pdh_ops.specs.Reading.{HasLength, IsSizeStop, IsReadStop}
-use Rattle.pdh_ops.specs.LineSteps.{BeginsWith}
-use Rattle.pdh_ops.specs.Writing.{IsStartStop, IsAppendStop}
-use Rattle.pdh_ops.specs.Operation.{reaches_outputs, bytes_in}
+use Rattle.pdh_runner.specs.Reading.{HasLength, IsSizeStop, IsReadStop}
+use Rattle.pdh_runner.specs.LineSteps.{BeginsWith}
+use Rattle.pdh_runner.specs.Writing.{IsStartStop, IsAppendStop}
+use Rattle.pdh_runner.specs.Operation.{reaches_outputs, bytes_in}
 use Rattle.pdh_watch.specs.Monitors.{State}
 use Rattle.pdh_answers.specs.Lines.{IsTold}
-use Rattle.pdh_ops.specs.Run.{Performs, Runs}
-use Rattle.pdh_ops.specs.Refusing.{Refuses}
+use Rattle.pdh_runner.specs.Performing.{Performs}
+use Rattle.pdh_ops.specs.Run.{Runs}
+use Rattle.pdh_runner.specs.Refusing.{Refuses}
 use Rattle.pdh_answers.specs.Answer.{Answer, and_then}
 use Rattle.pdh_ops.specs.Packs.{Packs}
 use Rattle.pdh_answers.specs.declared.file.File.TheVariants.{Payload, E1Line, PayloadOut}
@@ -26,9 +27,9 @@ use Rattle.pdh_ops.specs.declared.commands.e1.E1Counts.{E1Counts}
 use Rattle.pdh_answers.specs.declared.answer.Done.{Done}
 use Rattle.pdh_answers.specs.declared.answer.Stop.{Stop}
 use Rattle.pdh_answers.specs.declared.answer.Stop.TheVariants.{ManyFrames, NoAlignment, NotWhole}
-use Rattle.pdh_ops.proofs.Refusing.{refuses_since}
-use Rattle.pdh_ops.proofs.OneInput.{RefusesAll, ServesAll, missing_refuses, length_refuses, reading_refuses, comes_of_bytes, goes_on_by_bytes, bytes_are}
-use Rattle.pdh_ops.proofs.OneOutput.{HasOutput, Writes, start_refused, append_refused, writing_done, whole, others, touches_again}
+use Rattle.pdh_runner.proofs.Refusing.{refuses_since}
+use Rattle.pdh_runner.proofs.OneInput.{RefusesAll, ServesAll, missing_refuses, length_refuses, reading_refuses, comes_of_bytes, goes_on_by_bytes, bytes_are}
+use Rattle.pdh_runner.proofs.OneOutput.{HasOutput, Writes, start_refused, append_refused, writing_done, whole, others, touches_again}
 use Rattle.pdh_ops.proofs.MuxGivesBack.{stop_status}
 use Rattle.pdh_ops.proofs.E1Packing.{line_is_packed}
 use Rattle.pdh_shape.specs.OwnNumbers.{most_frames}

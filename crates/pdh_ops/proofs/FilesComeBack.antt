@@ -11,7 +11,7 @@ use Rattle.pdh_chain.specs.declared.chain.Chain.{Chain}
 use Rattle.pdh_chain.specs.Chains.{shapes_of}
 use Rattle.pdh_chain.specs.Saying.{says_of}
 use Rattle.pdh_ops.specs.Schedules.{rows_in}
-use Rattle.pdh_ops.specs.Operation.{Files}
+use Rattle.pdh_runner.specs.Operation.{Files}
 use Rattle.pdh_ops.specs.Commands.Mux.{leaf_bits, line_len}
 use Rattle.pdh_ops.specs.Rejoined.{FileComesBack}
 

@@ -4,17 +4,18 @@ use Rattle.pdh_edge.specs.Files.{ShelfState, Looks}
 use Rattle.pdh_chain.specs.declared.chain.Chain.{Chain}
 use Rattle.pdh_words.specs.declared.commands.Bits.{Bits}
 use Rattle.pdh_answers.specs.Names.{line_file, e1_name}
-use Rattle.pdh_ops.specs.Commands.Demux.{line_of}
+use Rattle.pdh_runner.specs.Lines.{line_of}
 use Rattle.pdh_ops.specs.Commands.E1.{framed_of}
 use Rattle.pdh_ops.specs.Commands.Inspect.{inspected, e1_inspected, inspecting, inspecting_e1}
-use Rattle.pdh_ops.specs.Reading.{HasLength, IsSizeStop}
-use Rattle.pdh_ops.specs.LineSteps.{BeginsWith}
-use Rattle.pdh_ops.specs.Refusing.{Refuses, RefusesFramed}
+use Rattle.pdh_runner.specs.Reading.{HasLength, IsSizeStop}
+use Rattle.pdh_runner.specs.LineSteps.{BeginsWith}
+use Rattle.pdh_runner.specs.Refusing.{Refuses}
+use Rattle.pdh_ops.specs.E1Steps.{RefusesFramed}
 use Rattle.pdh_answers.specs.declared.file.File.TheVariants.{E1Line}
 use Rattle.pdh_answers.specs.declared.answer.Stop.{Stop}
 use Rattle.pdh_answers.specs.declared.answer.Stop.TheVariants.{ManyFrames}
-use Rattle.pdh_ops.proofs.Refusing.{refuses_since}
-use Rattle.pdh_ops.proofs.OneInput.{missing_refuses, length_refuses}
+use Rattle.pdh_runner.proofs.Refusing.{refuses_since}
+use Rattle.pdh_runner.proofs.OneInput.{missing_refuses, length_refuses}
 use Rattle.pdh_ops.proofs.E1Files.{long_framed, framed_missing, framed_long}
 use Rattle.pdh_shape.specs.OwnNumbers.{most_frames}
 

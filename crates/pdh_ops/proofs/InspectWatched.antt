@@ -15,23 +15,24 @@ use Rattle.pdh_inspect.specs.declared.framed.FramedSeen.{FramedSeen}
 use Rattle.pdh_watch.specs.Monitors.{State}
 use Rattle.pdh_words.specs.declared.commands.Bits.{Bits}
 use Rattle.pdh_answers.specs.Names.{name_of, line_file}
-use Rattle.pdh_ops.specs.Commands.Demux.{frames_of, line_of, frames_received}
+use Rattle.pdh_runner.specs.Lines.{frames_of, line_of}
+use Rattle.pdh_ops.specs.Commands.Demux.{frames_received}
 use Rattle.pdh_ops.specs.Commands.E1.{framed_of}
 use Rattle.pdh_ops.specs.E1Steps.{IsFramedLine}
 use Rattle.pdh_ops.specs.Commands.Inspect.{inspected, e1_inspected, inspecting, inspecting_e1, inspect_says, inspect_e1_says}
-use Rattle.pdh_ops.specs.LineSteps.{CanRead, IsLinePort}
-use Rattle.pdh_ops.specs.Operation.{View}
-use Rattle.pdh_ops.specs.Reading.{HasLength}
-use Rattle.pdh_ops.specs.Running.{ArePrepared}
-use Rattle.pdh_ops.specs.Steps.{IsLine}
+use Rattle.pdh_runner.specs.LineSteps.{CanRead, IsLinePort}
+use Rattle.pdh_runner.specs.Operation.{View}
+use Rattle.pdh_runner.specs.Reading.{HasLength}
+use Rattle.pdh_runner.specs.Running.{ArePrepared}
+use Rattle.pdh_runner.specs.Lines.{IsLine}
 use Rattle.pdh_answers.specs.declared.file.File.{File}
 use Rattle.pdh_answers.specs.declared.file.File.TheVariants.{E1Line}
-use Rattle.pdh_ops.specs.declared.port.Input.{Input}
+use Rattle.pdh_runner.specs.declared.port.Input.{Input}
 use Rattle.pdh_ops.proofs.E1Files.{whole_framed}
 use Rattle.pdh_ops.proofs.InspectFiles.{framed_begins}
-use Rattle.pdh_ops.proofs.LineComes.{few_bits}
-use Rattle.pdh_ops.proofs.LineRun.{ReadsWhole, line_prepared}
-use Rattle.pdh_ops.proofs.OneInput.{ServesAll}
+use Rattle.pdh_runner.proofs.LineComes.{few_bits}
+use Rattle.pdh_runner.proofs.LineRun.{ReadsWhole, line_prepared}
+use Rattle.pdh_runner.proofs.OneInput.{ServesAll}
 use Rattle.pdh_shape.specs.OwnNumbers.{most_frames}
 
 -- ---- a chain's line

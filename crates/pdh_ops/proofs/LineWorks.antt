@@ -12,17 +12,17 @@ use Rattle.pdh_answers.specs.Answer.{Answer}
 use Rattle.pdh_answers.specs.declared.file.File.{File}
 use Rattle.pdh_answers.specs.declared.answer.Stop.{Stop}
 use Rattle.pdh_answers.specs.declared.answer.Stop.TheVariants.{Read, Missing, ManyFrames}
-use Rattle.pdh_ops.specs.Commands.Demux.{frames_of, line_of}
-use Rattle.pdh_ops.specs.LineSteps.{ReadsLine, CanRead, IsLinePort}
-use Rattle.pdh_ops.specs.Operation.{Operation, View}
-use Rattle.pdh_ops.specs.Reading.{HasLength}
-use Rattle.pdh_ops.specs.Run.{WatchedBy}
-use Rattle.pdh_ops.specs.Running.{ArePrepared}
-use Rattle.pdh_ops.specs.Steps.{IsLine, IsLineCause}
-use Rattle.pdh_ops.specs.declared.port.Input.{Input}
-use Rattle.pdh_ops.proofs.LineComes.{few_bits}
-use Rattle.pdh_ops.proofs.LineRun.{ReadsWhole, line_prepared}
-use Rattle.pdh_ops.proofs.OneInput.{ServesAll}
+use Rattle.pdh_runner.specs.Lines.{frames_of, line_of}
+use Rattle.pdh_runner.specs.LineSteps.{ReadsLine, CanRead, IsLinePort}
+use Rattle.pdh_runner.specs.Operation.{Operation, View}
+use Rattle.pdh_runner.specs.Reading.{HasLength}
+use Rattle.pdh_runner.specs.Performing.{WatchedBy}
+use Rattle.pdh_runner.specs.Running.{ArePrepared}
+use Rattle.pdh_runner.specs.Lines.{IsLine, IsLineCause}
+use Rattle.pdh_runner.specs.declared.port.Input.{Input}
+use Rattle.pdh_runner.proofs.LineComes.{few_bits}
+use Rattle.pdh_runner.proofs.LineRun.{ReadsWhole, line_prepared}
+use Rattle.pdh_runner.proofs.OneInput.{ServesAll}
 use Rattle.pdh_shape.specs.OwnNumbers.{most_frames}
 
 pub serves_line : (file : File) (chain : Chain) (bytes : ℕ) → bytes / frame_bytes_of chain ≤ most_frames → ServesAll (line_of file chain) bytes

@@ -13,15 +13,15 @@ use Rattle.pdh_clock.specs.Begun.{Shortage}
 use Rattle.pdh_chain.specs.Chains.{leaves_of}
 use Rattle.pdh_answers.specs.Names.{schedule_name, leaf_name, name_of}
 use Rattle.pdh_answers.specs.Answer.{Answer, and_then}
-use Rattle.pdh_ops.specs.Reading.{HasLength, IsSizeStop}
+use Rattle.pdh_runner.specs.Reading.{HasLength, IsSizeStop}
 use Rattle.pdh_ops.specs.Schedules.{rows_of, frames_in}
 use Rattle.pdh_ops.specs.Commands.Mux.{mux_inputs, leaf_bits, bits_held, bits_needed, short_node, stop_of_shortage, short_leaf, muxed, muxing}
-use Rattle.pdh_ops.specs.Operation.{AreTold, OfInputs, AreHeld, all_held, Files, bytes_in}
-use Rattle.pdh_ops.specs.Run.{with_stop}
-use Rattle.pdh_ops.specs.Refusing.{Refuses}
+use Rattle.pdh_runner.specs.Operation.{AreTold, OfInputs, AreHeld, all_held, Files, bytes_in}
+use Rattle.pdh_runner.specs.Performing.{with_stop}
+use Rattle.pdh_runner.specs.Refusing.{Refuses}
 use Rattle.pdh_ops.specs.ScheduleSteps.{RowsAre}
 use Rattle.pdh_ops.proofs.Firsts.{first_of_range, none_of_range, each_fails, find-map}
-use Rattle.pdh_ops.proofs.Refusing.{size_refuses}
+use Rattle.pdh_runner.proofs.Refusing.{size_refuses}
 use Rattle.pdh_ops.proofs.ScheduleComes.{Begins, HasSchedule, text_due}
 use Rattle.pdh_ops.specs.MuxSteps.{AreSizes, AllHeld, HasRows, IsLong, IsShortNode, IsShort, IsEnoughStop}
 use Rattle.pdh_answers.specs.declared.file.File.{File}
@@ -29,7 +29,7 @@ use Rattle.pdh_answers.specs.declared.file.File.TheVariants.{Schedule, Leaf}
 use Rattle.pdh_ops.specs.declared.commands.mux.InputSizes.{InputSizes}
 use Rattle.pdh_answers.specs.declared.answer.Stop.{Stop}
 use Rattle.pdh_answers.specs.declared.answer.Stop.TheVariants.{Read, Write, Missing, ShortNode, Short, ManyFrames}
-use Rattle.pdh_ops.proofs.Touching.{has_length_still}
+use Rattle.pdh_runner.proofs.Touching.{has_length_still}
 use Rattle.pdh_chain.specs.declared.chain.Chain.{Chain}
 use Rattle.pdh_shape.specs.OwnNumbers.{most_frames}
 

@@ -24,19 +24,19 @@ use Rattle.pdh_blocks.specs.Opened.{HasBytesFor}
 use Rattle.pdh_answers.specs.Names.{leaf_name, line_name, schedule_name, name_of}
 use Rattle.pdh_ops.specs.Schedules.{rows_of, frames_in}
 use Rattle.pdh_ops.specs.Commands.Mux.{short_node, bits_held, bits_needed, stop_of_kind, stop_of_event, event_of, muxed, muxing, mux_says}
-use Rattle.pdh_ops.specs.Operation.{AreTold, OfInputs, reaches_outputs, IsReadDue, Files, bytes_in}
-use Rattle.pdh_ops.specs.Run.{GoesOn}
-use Rattle.pdh_ops.specs.PortFiles.{HasBits, AreFiles, AreRead, opened_for, input_name}
-use Rattle.pdh_ops.specs.Running.{ArePrepared}
+use Rattle.pdh_runner.specs.Operation.{AreTold, OfInputs, reaches_outputs, IsReadDue, Files, bytes_in}
+use Rattle.pdh_runner.specs.Performing.{GoesOn}
+use Rattle.pdh_runner.specs.PortFiles.{HasBits, AreFiles, AreRead, opened_for, input_name}
+use Rattle.pdh_runner.specs.Running.{ArePrepared}
 use Rattle.pdh_ops.specs.MuxSteps.{AreSizes, AllHeld, HasRows, AreEnough, IsPlanned, AreLeafInputs, CanSend, CanMake, IsMuxPort, run_answer, entering}
 use Rattle.pdh_answers.specs.declared.file.File.{File}
 use Rattle.pdh_answers.specs.declared.file.File.TheVariants.{Line, Leaf as LeafFile}
 use Rattle.pdh_ops.specs.declared.commands.mux.InputSizes.{InputSizes}
 use Rattle.pdh_ops.specs.declared.commands.mux.Plan.{Plan}
-use Rattle.pdh_ops.specs.declared.port.Input.{Input}
+use Rattle.pdh_runner.specs.declared.port.Input.{Input}
 use Rattle.pdh_ops.proofs.MuxComes.{comes_muxed, no_short_leaf, leaf_told}
 use Rattle.pdh_ops.proofs.OutputNames.{numbered, numbered_at, numbered_differ, last_differs, same_leaf, leaf_is_not_line}
-use Rattle.pdh_ops.proofs.PortOpen.{open_for, long_has, told_read, left_read, holds_read, holds_written}
+use Rattle.pdh_runner.proofs.PortOpen.{open_for, long_has, told_read, left_read, holds_read, holds_written}
 use Rattle.pdh_shape.specs.OwnNumbers.{most_frames}
 
 told_now : (chain : Chain) (feac : Option ℕ) (a b : ShelfState) (files : Files) → Looks a b → AreTold (muxing chain feac) a.told files → AreTold (muxing chain feac) b.told files

@@ -32,7 +32,8 @@ use Rattle.pdh_ops.specs.Schedules.{rows_of, rows_or_stop, rows_in, frames_in}
 use Rattle.pdh_ops.specs.Commands.Mux.{mux_inputs, line_len, short_node, leaf_bits, bits_held, bits_needed, short_leaf, event_of, stop_of_event, stop_of_shortage, muxed, frames_made, mux_line, line_bytes, muxing, mux_says}
 use Rattle.pdh_watch.specs.Monitors.{State}
 use Rattle.pdh_answers.specs.Lines.{IsTold}
-use Rattle.pdh_ops.specs.Run.{Performs, Runs}
+use Rattle.pdh_runner.specs.Performing.{Performs}
+use Rattle.pdh_ops.specs.Run.{Runs}
 use Rattle.pdh_edge.specs.Ports.{IsPrefix}
 use Rattle.pdh_ops.specs.GivesBack.{GivesBack}
 use Rattle.pdh_words.specs.declared.commands.Command.{Command}
@@ -45,7 +46,7 @@ use Rattle.pdh_chain.proofs.Scheduled.{arrive_singly}
 use Rattle.pdh_ops.proofs.MuxComes.{each_long}
 use Rattle.pdh_ops.proofs.MuxMade.{all_made}
 use Rattle.pdh_shape.specs.OwnNumbers.{most_frames}
-use Rattle.pdh_ops.specs.Operation.{all_held, Files, bytes_in}
+use Rattle.pdh_runner.specs.Operation.{all_held, Files, bytes_in}
 
 -- ---- what holds where the command did its work
 

@@ -23,14 +23,14 @@ use Rattle.pdh_blocks.specs.State.{PortState}
 use Rattle.pdh_blocks.specs.Lists.{inputs_of, outputs_of}
 use Rattle.pdh_ops.specs.Schedules.{rows_in, frames_in}
 use Rattle.pdh_ops.specs.Commands.Mux.{leaf_bits, bits_needed, frames_made, line_bytes, event_of, stop_of_kind, stop_of_event, muxing, mux_says}
-use Rattle.pdh_ops.specs.Operation.{AreTold, Files}
-use Rattle.pdh_ops.specs.Run.{Comes}
+use Rattle.pdh_runner.specs.Operation.{AreTold, Files}
+use Rattle.pdh_runner.specs.Performing.{Comes}
 use Rattle.pdh_ops.specs.MuxSteps.{IsMuxPort, entering}
-use Rattle.pdh_ops.specs.PortFiles.{PutsAll, PutsFront}
+use Rattle.pdh_runner.specs.PortFiles.{PutsAll, PutsFront}
 use Rattle.pdh_answers.specs.declared.answer.Stop.{Stop}
 use Rattle.pdh_answers.specs.declared.answer.Stop.TheVariants.{Overflow, Underflow}
 use Rattle.pdh_ops.proofs.MuxMade.{begins, clear_before, all_made, frames_before, kind_ends}
-use Rattle.pdh_ops.proofs.PortRun.{prefix_join, put_is, put_begins}
+use Rattle.pdh_runner.proofs.PortRun.{prefix_join, put_is, put_begins}
 
 -- a list that gave bits has them
 inside : (rest : Option (List Bool)) (given bits : List Bool) (n i : ℕ) → Some bits ≡ before given rest → i < length given → length bits ≤ n → i < n

@@ -27,10 +27,11 @@ use Rattle.pdh_answers.specs.Names.{name_of, schedule_name}
 use Rattle.pdh_answers.specs.Answer.{Answer, and_then, status_of, stop_of_fault}
 use Rattle.pdh_ops.specs.Schedules.{rows_of, rows_or_stop, rows_in, frames_in}
 use Rattle.pdh_ops.specs.Commands.Mux.{mux_inputs, line_len, short_node, stop_of_shortage, leaf_bits, bits_held, bits_needed, short_leaf, event_of, stop_of_event, muxed, line_bytes, muxing, mux_says}
-use Rattle.pdh_ops.specs.Operation.{AreTold, Files, bytes_in}
+use Rattle.pdh_runner.specs.Operation.{AreTold, Files, bytes_in}
 use Rattle.pdh_watch.specs.Monitors.{State}
 use Rattle.pdh_answers.specs.Lines.{IsTold}
-use Rattle.pdh_ops.specs.Run.{IsCause, Performs, Runs}
+use Rattle.pdh_runner.specs.Performing.{IsCause, Performs}
+use Rattle.pdh_ops.specs.Run.{Runs}
 use Rattle.pdh_ops.specs.Tolerated.{AreWithin, HasNoEvent, IsDelayed}
 use Rattle.pdh_words.specs.declared.commands.Command.{Command}
 use Rattle.pdh_words.specs.declared.commands.Command.TheVariants.{Mux}

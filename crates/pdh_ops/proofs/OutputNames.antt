@@ -4,6 +4,7 @@ use Rattle.std.specs.List.{range_with_len}
 use Rattle.std.proofs.lemmas.Option.{none-some, same_Some}
 use Rattle.pdh_blocks.specs.Held.{AllDiffer}
 use Rattle.pdh_answers.specs.Names.{leaf_name, output_name, numbered_name, line_name, bent_name}
+use Rattle.pdh_runner.proofs.Differing.{none_differ, one_more_differs}
 
 -- ---- numbers in names
 
@@ -70,16 +71,6 @@ pub numbered_at : {X : Type 0} (f : ℕ → X) (a n i j : ℕ) → i < n → a +
 numbered_at f a zero i j low same = absurd (omega arith)
 numbered_at f a (suc n) zero j low same = let is : a ≡ j = omega arith in ap (λ k. Some (f k)) is
 numbered_at f a (suc n) (suc i) j low same = numbered_at f (a + 1) n i j (omega arith) (omega arith)
-
-pub none_differ : AllDiffer []
-none_differ i j name here there = absurd (none-some name here)
-
--- one name before others
-pub one_more_differs : (first : List ℕ) (names : List (List ℕ)) → AllDiffer names → ((k : ℕ) → slice_get names k ≡ Some first → ⊥) → AllDiffer (first ∷ names)
-one_more_differs first names differ new zero zero name here there = refl
-one_more_differs first names differ new zero (suc j) name here there = absurd (new j (there ∙ sym here))
-one_more_differs first names differ new (suc i) zero name here there = absurd (new i (here ∙ sym there))
-one_more_differs first names differ new (suc i) (suc j) name here there = ap suc (differ i j name here there)
 
 -- numbered names
 pub numbered_differ : (f : ℕ → List ℕ) (n : ℕ) → ((a b : ℕ) → a < n → b < n → f a ≡ f b → a ≡ b) → AllDiffer (map f (range_with_len 0 n))

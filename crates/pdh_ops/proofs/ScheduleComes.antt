@@ -12,12 +12,12 @@ use Rattle.pdh_clock.specs.declared.fault.ScheduleFault.{ScheduleFault}
 use Rattle.pdh_clock.specs.declared.fault.ScheduleFault.TheVariants.{TooLong, BadRow as RowIsBad, UnknownNode as NodeIsUnknown, CountOver as CountIsOver, Memory as NoMemory}
 use Rattle.pdh_answers.specs.Names.{schedule_name}
 use Rattle.pdh_answers.specs.Answer.{Answer, and_then, stop_of_fault}
-use Rattle.pdh_ops.specs.Reading.{HasLength, IsReadStop}
+use Rattle.pdh_runner.specs.Reading.{HasLength, IsReadStop}
 use Rattle.pdh_ops.specs.Schedules.{rows_of, rows_or_stop, is_text_due}
-use Rattle.pdh_ops.specs.Operation.{Operation, Files, bytes_in, AreTold, OfInputs, IsReadDue, all_held}
-use Rattle.pdh_ops.specs.Run.{Comes, FailsInTurn, FailsEarly}
-use Rattle.pdh_ops.proofs.Refusing.{read_stop}
-use Rattle.pdh_ops.specs.Refusing.{Refuses}
+use Rattle.pdh_runner.specs.Operation.{Operation, Files, bytes_in, AreTold, OfInputs, IsReadDue, all_held}
+use Rattle.pdh_runner.specs.Performing.{Comes, FailsInTurn, FailsEarly}
+use Rattle.pdh_runner.proofs.Refusing.{read_stop}
+use Rattle.pdh_runner.specs.Refusing.{Refuses}
 use Rattle.pdh_ops.specs.ScheduleSteps.{RowsAre, IsScheduleStop}
 use Rattle.pdh_answers.specs.declared.file.File.{File}
 use Rattle.pdh_answers.specs.declared.file.File.TheVariants.{Schedule}

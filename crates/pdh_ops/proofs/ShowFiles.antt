@@ -11,25 +11,25 @@ use Rattle.pdh_chain.specs.declared.chain.Chain.{Chain}
 use Rattle.pdh_blocks.specs.Held.{AllDiffer}
 use Rattle.pdh_answers.specs.Names.{name_of, line_name}
 use Rattle.pdh_answers.specs.Answer.{and_then}
-use Rattle.pdh_ops.specs.Commands.Demux.{frames_of}
+use Rattle.pdh_runner.specs.Lines.{frames_of}
 use Rattle.pdh_ops.specs.Commands.Inspect.{bytes_upto, line_to_show, frame_shown, showing}
-use Rattle.pdh_ops.specs.Reading.{HasLength, IsSizeStop}
-use Rattle.pdh_ops.specs.LineSteps.{BeginsWith}
-use Rattle.pdh_ops.specs.Refusing.{Refuses}
-use Rattle.pdh_ops.specs.Operation.{AreTold, OfInputs, reaches_outputs, IsReadDue, Files, bytes_in}
-use Rattle.pdh_ops.specs.Run.{GoesOn}
-use Rattle.pdh_ops.specs.PortFiles.{HasBits, AreFiles, AreRead, opened_for, input_name}
-use Rattle.pdh_ops.specs.Running.{ArePrepared}
+use Rattle.pdh_runner.specs.Reading.{HasLength, IsSizeStop}
+use Rattle.pdh_runner.specs.LineSteps.{BeginsWith}
+use Rattle.pdh_runner.specs.Refusing.{Refuses}
+use Rattle.pdh_runner.specs.Operation.{AreTold, OfInputs, reaches_outputs, IsReadDue, Files, bytes_in}
+use Rattle.pdh_runner.specs.Performing.{GoesOn}
+use Rattle.pdh_runner.specs.PortFiles.{HasBits, AreFiles, AreRead, opened_for, input_name}
+use Rattle.pdh_runner.specs.Running.{ArePrepared}
 use Rattle.pdh_ops.specs.ShowSteps.{HasFrame, CanShow, IsShowPort}
 use Rattle.pdh_answers.specs.declared.file.File.{File}
 use Rattle.pdh_answers.specs.declared.file.File.TheVariants.{Line}
-use Rattle.pdh_ops.specs.declared.port.Input.{Input}
+use Rattle.pdh_runner.specs.declared.port.Input.{Input}
 use Rattle.pdh_answers.specs.declared.answer.Stop.{Stop}
 use Rattle.pdh_answers.specs.declared.answer.Stop.TheVariants.{ManyFrames, Short}
-use Rattle.pdh_ops.proofs.Refusing.{refuses_since}
-use Rattle.pdh_ops.proofs.OneInput.{RefusesAll, missing_refuses, length_refuses, held_of}
-use Rattle.pdh_ops.proofs.OutputNames.{none_differ, one_more_differs}
-use Rattle.pdh_ops.proofs.PortOpen.{open_for, long_has, told_read, left_read, holds_read}
+use Rattle.pdh_runner.proofs.Refusing.{refuses_since}
+use Rattle.pdh_runner.proofs.OneInput.{RefusesAll, missing_refuses, length_refuses, held_of}
+use Rattle.pdh_runner.proofs.Differing.{none_differ, one_more_differs}
+use Rattle.pdh_runner.proofs.PortOpen.{open_for, long_has, told_read, left_read, holds_read}
 use Rattle.pdh_shape.specs.OwnNumbers.{most_frames}
 
 -- ---- why it is refused

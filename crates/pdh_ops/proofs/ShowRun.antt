@@ -13,11 +13,11 @@ use Rattle.pdh_show.specs.Shown.{shown}
 use Rattle.pdh_show.specs.Showing.{Shows}
 use Rattle.pdh_answers.specs.Names.{line_name}
 use Rattle.pdh_ops.specs.Commands.Inspect.{bytes_upto, frame_shown, showing}
-use Rattle.pdh_ops.specs.Operation.{AreTold, Files, bytes_in}
-use Rattle.pdh_ops.specs.Run.{Comes}
-use Rattle.pdh_ops.specs.Steps.{HasLine}
+use Rattle.pdh_runner.specs.Operation.{AreTold, Files, bytes_in}
+use Rattle.pdh_runner.specs.Performing.{Comes}
+use Rattle.pdh_runner.specs.Lines.{HasLine}
 use Rattle.pdh_ops.specs.ShowSteps.{IsShowPort}
-use Rattle.pdh_ops.proofs.PortRun.{all_given}
+use Rattle.pdh_runner.proofs.PortRun.{all_given}
 use Rattle.pdh_answers.specs.declared.answer.Done.TheVariants.{Frame}
 
 -- a frame's bits, counted either way

@@ -8,7 +8,7 @@ pub mod Disturb
 pub mod Drill
 use Rattle.pdh_words.specs.declared.commands.Command.{Command}
 use Rattle.pdh_words.specs.declared.commands.Command.TheVariants.{Demux as DemuxWords, Mux as MuxWords, ClockCheck, ClockMake, Inspect as InspectWords, InspectE1, Show, E1Pack, E1Unpack, Disturb as DisturbWords, Drill as DrillWords}
-use Rattle.pdh_ops.specs.Operation.{Operation}
+use Rattle.pdh_runner.specs.Operation.{Operation}
 use Rattle.pdh_ops.specs.Commands.Demux.{demuxing}
 use Rattle.pdh_ops.specs.Commands.Mux.{muxing}
 use Rattle.pdh_ops.specs.Commands.Clock.{checking, making}

@@ -9,11 +9,11 @@ use Rattle.pdh_chain.specs.declared.chain.Chain.{Chain}
 use Rattle.pdh_chain.specs.Chains.{frame_bytes_of}
 use Rattle.pdh_script.specs.Scripts.{Row, FitIn}
 use Rattle.pdh_answers.specs.Names.{line_name, script_name}
-use Rattle.pdh_ops.specs.Reading.{HasLength}
+use Rattle.pdh_runner.specs.Reading.{HasLength}
 use Rattle.pdh_ops.specs.Commands.Disturb.{script_rows, script_in, bent, disturbing}
-use Rattle.pdh_ops.specs.Operation.{OfInputs, bytes_in}
-use Rattle.pdh_ops.specs.PortFiles.{IsOpenFor}
-use Rattle.pdh_ops.specs.Steps.{HasLine}
+use Rattle.pdh_runner.specs.Operation.{OfInputs, bytes_in}
+use Rattle.pdh_runner.specs.PortFiles.{IsOpenFor}
+use Rattle.pdh_runner.specs.Lines.{HasLine}
 use Rattle.pdh_ops.specs.declared.commands.disturb.Sizes.{Sizes}
 use Rattle.pdh_ops.specs.declared.commands.disturb.Plan.{Plan}
 use Rattle.pdh_answers.specs.declared.answer.Stop.{Stop}

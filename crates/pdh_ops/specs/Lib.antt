@@ -1,10 +1,6 @@
-pub mod Operation
 pub mod Schedules
 pub mod Commands
 pub mod Run
-pub mod Reading
-pub mod Refusing
-pub mod Writing
 pub mod Steps
 pub mod ScheduleSteps
 pub mod MuxSteps
@@ -15,8 +11,5 @@ pub mod Rejoined
 pub mod Packs
 pub mod Tolerated
 pub mod InTime
-pub mod PortFiles
-pub mod Running
-pub mod LineSteps
 pub mod ShowSteps
 pub mod laws

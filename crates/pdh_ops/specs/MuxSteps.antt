@@ -13,15 +13,15 @@ use Rattle.pdh_clock.specs.Row.{Row}
 use Rattle.pdh_clock.specs.Contents.{IsRowOf}
 use Rattle.pdh_answers.specs.Names.{schedule_name, leaf_name}
 use Rattle.pdh_answers.specs.Answer.{Answer}
-use Rattle.pdh_ops.specs.Reading.{HasLength}
+use Rattle.pdh_runner.specs.Reading.{HasLength}
 use Rattle.pdh_ops.specs.Schedules.{rows_of, frames_in}
 use Rattle.pdh_ops.specs.Commands.Mux.{mux_inputs, leaf_bits, short_node, stop_of_shortage, bits_needed, event_of, stop_of_event, muxing, mux_says}
-use Rattle.pdh_ops.specs.Operation.{OfInputs, all_held, Files, bytes_in}
-use Rattle.pdh_ops.specs.PortFiles.{HasBits, IsOpenFor}
+use Rattle.pdh_runner.specs.Operation.{OfInputs, all_held, Files, bytes_in}
+use Rattle.pdh_runner.specs.PortFiles.{HasBits, IsOpenFor}
 use Rattle.pdh_answers.specs.declared.file.File.TheVariants.{Leaf}
 use Rattle.pdh_ops.specs.declared.commands.mux.InputSizes.{InputSizes}
 use Rattle.pdh_ops.specs.declared.commands.mux.Plan.{Plan}
-use Rattle.pdh_ops.specs.declared.port.Input.{Input}
+use Rattle.pdh_runner.specs.declared.port.Input.{Input}
 use Rattle.pdh_answers.specs.declared.answer.Stop.{Stop}
 use Rattle.pdh_answers.specs.declared.answer.Stop.TheVariants.{ShortNode, Short, ManyFrames}
 use Rattle.pdh_shape.specs.OwnNumbers.{most_frames}

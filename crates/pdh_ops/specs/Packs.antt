@@ -4,7 +4,7 @@ use Rattle.pdh_e1.specs.Codec.{IsPacked}
 use Rattle.pdh_edge.specs.Files.{ShelfState}
 use Rattle.pdh_edge.specs.Files.Told.{Known}
 use Rattle.pdh_answers.specs.Names.{payload_name, e1_name}
-use Rattle.pdh_ops.specs.Operation.{AreTold, Files, bytes_in}
+use Rattle.pdh_runner.specs.Operation.{AreTold, Files, bytes_in}
 use Rattle.pdh_words.specs.declared.commands.Command.{Command}
 use Rattle.pdh_words.specs.declared.commands.Command.TheVariants.{E1Pack}
 use Rattle.pdh_ops.specs.Commands.E1.{packing}

@@ -18,7 +18,7 @@ use Rattle.pdh_answers.specs.Names.{name_of, line_file, line_name, bent_name, ou
 use Rattle.pdh_ops.specs.Schedules.{rows_in}
 use Rattle.pdh_ops.specs.Commands.Mux.{leaf_bits, line_len, muxing}
 use Rattle.pdh_ops.specs.Commands.Disturb.{script_in, disturbing}
-use Rattle.pdh_ops.specs.Operation.{AreTold, Files, bytes_in}
+use Rattle.pdh_runner.specs.Operation.{AreTold, Files, bytes_in}
 use Rattle.pdh_words.specs.declared.commands.Command.{Command}
 use Rattle.pdh_words.specs.declared.commands.Command.TheVariants.{Mux, Disturb, Demux}
 use Rattle.pdh_ops.specs.Commands.Demux.{demuxing}

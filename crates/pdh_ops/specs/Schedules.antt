@@ -11,7 +11,7 @@ use Rattle.pdh_answers.specs.Names.{schedule_name}
 use Rattle.pdh_answers.specs.Answer.{stop_of_fault}
 use Rattle.pdh_answers.specs.declared.file.File.{File}
 use Rattle.pdh_answers.specs.declared.answer.Stop.{Stop}
-use Rattle.pdh_ops.specs.Operation.{Files, bytes_in, all_held}
+use Rattle.pdh_runner.specs.Operation.{Files, bytes_in, all_held}
 use Rattle.pdh_shape.specs.OwnNumbers.{most_bytes}
 
 -- the rows of a schedule's text, or why it is refused

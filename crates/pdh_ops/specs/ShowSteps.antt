@@ -7,11 +7,11 @@ use Rattle.pdh_blocks.specs.Lists.{inputs_of}
 use Rattle.pdh_chain.specs.declared.chain.Chain.{Chain}
 use Rattle.pdh_chain.specs.Chains.{frame_bytes_of}
 use Rattle.pdh_answers.specs.Names.{line_name}
-use Rattle.pdh_ops.specs.Reading.{HasLength}
+use Rattle.pdh_runner.specs.Reading.{HasLength}
 use Rattle.pdh_ops.specs.Commands.Inspect.{bytes_upto, frame_shown, showing}
-use Rattle.pdh_ops.specs.Operation.{OfInputs, bytes_in}
-use Rattle.pdh_ops.specs.PortFiles.{IsOpenFor}
-use Rattle.pdh_ops.specs.Steps.{HasLine}
+use Rattle.pdh_runner.specs.Operation.{OfInputs, bytes_in}
+use Rattle.pdh_runner.specs.PortFiles.{IsOpenFor}
+use Rattle.pdh_runner.specs.Lines.{HasLine}
 use Rattle.pdh_shape.specs.OwnNumbers.{most_frames}
 
 -- the line has no more frames than a line may have, and frame n whole

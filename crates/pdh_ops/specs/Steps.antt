@@ -1,45 +1,21 @@
 -- The steps of `demux`: what each makes, and why it stops.
-use Rattle.std.specs.Prelude.{◌≡◌, ℕ, ◌*◌, ◌/◌, ◌^◌, ◌<◌, ◌≤◌, true, List, Some, Err, IsTrue, map}
+use Rattle.std.specs.Prelude.{◌≡◌, ℕ, ◌^◌, ◌<◌, true, List, Some, IsTrue, map}
 use Rattle.std.specs.List.{range_with_len}
 use Rattle.pdh_bits.specs.Bits.{bits_of}
-use Rattle.pdh_edge.specs.Files.{ShelfState, WhereTold, FailsToRead}
-use Rattle.pdh_edge.specs.declared.shelf.Call.TheVariants.{Size as SizeCall}
-use Rattle.pdh_edge.specs.Ports.{Inputs}
+use Rattle.pdh_edge.specs.Files.{ShelfState}
 use Rattle.pdh_blocks.specs.State.{PortState}
 use Rattle.pdh_blocks.specs.Lists.{inputs_of, outputs_of}
-use Rattle.pdh_chain.specs.Chains.{leaves_of, frame_bytes_of}
+use Rattle.pdh_chain.specs.Chains.{leaves_of}
 use Rattle.pdh_chain.specs.declared.chain.Chain.{Chain}
 use Rattle.pdh_words.specs.declared.commands.Bits.{Bits}
 use Rattle.pdh_answers.specs.Names.{name_of, line_file}
-use Rattle.pdh_ops.specs.Reading.{HasLength}
-use Rattle.pdh_ops.specs.Commands.Demux.{line_of, demuxed, demuxing}
-use Rattle.pdh_ops.specs.Operation.{OfInputs, bytes_in}
-use Rattle.pdh_ops.specs.PortFiles.{IsOpenFor}
+use Rattle.pdh_ops.specs.Commands.Demux.{demuxed, demuxing}
+use Rattle.pdh_runner.specs.Operation.{OfInputs, bytes_in}
+use Rattle.pdh_runner.specs.PortFiles.{IsOpenFor}
 use Rattle.pdh_answers.specs.declared.file.File.{File}
 use Rattle.pdh_answers.specs.declared.file.File.TheVariants.{Output}
-use Rattle.pdh_ops.specs.declared.port.Input.{Input}
-use Rattle.pdh_answers.specs.declared.answer.Stop.{Stop}
-use Rattle.pdh_answers.specs.declared.answer.Stop.TheVariants.{Read, Missing, ManyFrames}
-use Rattle.pdh_shape.specs.OwnNumbers.{most_frames}
-
--- why the line of a file can't be read
-abbrev pub IsLineCause : File → Chain → ShelfState → ShelfState → Stop → Type 0
-IsLineCause file chain old new (Read failed) = (failed ≡ file) × FailsToRead SizeCall (name_of file) old new
-IsLineCause file chain old new (Missing missed) = WhereTold (old.told (name_of file)) (λ held. line_of file chain held ≡ Err (Missing missed))
-IsLineCause file chain old new (ManyFrames frames) = WhereTold (old.told (name_of file)) (λ held. line_of file chain held ≡ Err (ManyFrames frames))
-IsLineCause file chain old new _ = ⊥
-
--- these are all bits of the line of a file, which has no more frames than a line may have
-pub record IsLine (chain : Chain) (line : Input) (state : ShelfState) : Type 0 where
-  pub bytes : ℕ
-  pub bits_are : line.bits ≡ 8 * bytes
-  pub long : HasLength (name_of line.file) bytes state
-  pub few : bytes / frame_bytes_of chain ≤ most_frames
-
--- list 0 has so many bits
-pub record HasLine (bits : ℕ) (inputs : Inputs) : Type 0 where
-  pub holds : IsTrue (inputs.holds 0)
-  pub left : inputs.left 0 ≡ bits
+use Rattle.pdh_runner.specs.declared.port.Input.{Input}
+use Rattle.pdh_runner.specs.Lines.{HasLine}
 
 -- a fresh port has so many bits of a line in list 0, and a list for each leaf
 pub record CanReceive (chain : Chain) (bits : ℕ) (port : PortState) : Type 0 where

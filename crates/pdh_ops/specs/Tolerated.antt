@@ -11,7 +11,7 @@ use Rattle.pdh_chain.specs.Chains.{shapes_of, leaves_of, delay_of}
 use Rattle.pdh_chain.specs.declared.chain.Chain.{Chain}
 use Rattle.pdh_answers.specs.Names.{line_name}
 use Rattle.pdh_ops.specs.Schedules.{rows_in}
-use Rattle.pdh_ops.specs.Operation.{AreTold, Files}
+use Rattle.pdh_runner.specs.Operation.{AreTold, Files}
 use Rattle.pdh_words.specs.declared.commands.Command.{Command}
 use Rattle.pdh_words.specs.declared.commands.Command.TheVariants.{Mux}
 use Rattle.pdh_ops.specs.Commands.Mux.{muxing}

@@ -14,9 +14,9 @@ ghost use Rattle.std.specs.String.{string_bytes};
 ghost use Rattle.pdh_words.specs.Commands.{command_of};
 ghost use Rattle.pdh_ops.specs.Run.{Does, Watches};
 
-use crate::port::Ended;
 use pdh_answers::Stop;
 use pdh_edge::Shelf;
+use pdh_runner::Ended;
 use pdh_watch::Monitor;
 use pdh_words::{Command, command_for};
 use std::alloc::Global;

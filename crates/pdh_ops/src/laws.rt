@@ -1,7 +1,7 @@
 //! What the clauses of `run` on lines with errors give together. Each function does nothing: what it ensures is the law.
 ghost use Rattle.std.specs.Prelude.{ℕ, Option, List};
 ghost use Rattle.pdh_chain.specs.declared.chain.Chain.{Chain};
-ghost use Rattle.pdh_ops.specs.Operation.{Files};
+ghost use Rattle.pdh_runner.specs.Operation.{Files};
 ghost use Rattle.pdh_ops.specs.Rejoined.{FileComesBack};
 
 /// What `mux` wrote of its files, disturbed before some bit, gives each leaf's file back by `demux`, from

@@ -4,15 +4,11 @@
 #![tactic(auto)]
 
 mod commands;
-mod files;
 pub mod laws;
 mod leaf;
-mod line;
 mod line_work;
 mod never_failing;
-mod port;
 mod program;
-mod running;
 mod schedule;
 mod texts;
 

@@ -7,20 +7,18 @@ ghost use Rattle.pdh_blocks.specs.Kept.{Keeps};
 ghost use Rattle.pdh_chain.specs.declared.chain.Chain.{Chain};
 ghost use Rattle.pdh_answers.specs.Answer.{Answer};
 ghost use Rattle.pdh_answers.specs.declared.file.File.{File};
-ghost use Rattle.pdh_ops.specs.LineSteps.{CanRead, IsLinePort, ReadsLine};
-ghost use Rattle.pdh_ops.specs.Operation.{Operation};
-ghost use Rattle.pdh_ops.specs.Run.{Performs, IsWatched};
-ghost use Rattle.pdh_ops.specs.Running.{ComesOut, IsCountedBy, IsSeen};
-ghost use Rattle.pdh_ops.specs.Steps.{IsLine};
-ghost use Rattle.pdh_ops.specs.declared.port.Input.{Input};
+ghost use Rattle.pdh_runner.specs.LineSteps.{CanRead, IsLinePort, ReadsLine};
+ghost use Rattle.pdh_runner.specs.Operation.{Operation};
+ghost use Rattle.pdh_runner.specs.Performing.{Performs, IsWatched};
+ghost use Rattle.pdh_runner.specs.Running.{ComesOut, IsCountedBy, IsSeen};
+ghost use Rattle.pdh_runner.specs.Lines.{IsLine};
+ghost use Rattle.pdh_runner.specs.declared.port.Input.{Input};
 
-use crate::line::line_of;
-use crate::port::{Ended, Input, PortFiles};
-use crate::running::{Work, Worked, run_over};
 use pdh_answers::File;
 use pdh_blocks::ShelfPort;
 use pdh_chain::Chain;
 use pdh_edge::Shelf;
+use pdh_runner::{Ended, Input, PortFiles, Work, Worked, line_of, run_over};
 use pdh_watch::Monitor;
 use std::alloc::{AllocError, Global};
 

@@ -4,16 +4,16 @@ ghost use Rattle.std.specs.Prelude.{◌≡◌, Ok, All, IfOk, IfErr};
 ghost use Rattle.pdh_edge.specs.Files.{Looks};
 ghost use Rattle.pdh_clock.specs.Contents.{IsRowOf};
 ghost use Rattle.pdh_answers.specs.Names.{schedule_name};
-ghost use Rattle.pdh_ops.specs.Reading.{HasLength};
-ghost use Rattle.pdh_ops.specs.Run.{IsCounted};
+ghost use Rattle.pdh_runner.specs.Reading.{HasLength};
+ghost use Rattle.pdh_runner.specs.Performing.{IsCounted};
 ghost use Rattle.pdh_chain.specs.Chains.{levels_of};
 ghost use Rattle.pdh_ops.specs.ScheduleSteps.{RowsAre, IsScheduleStop};
 
-use crate::files::read;
 use pdh_answers::{File, Stop};
 use pdh_chain::Chain;
 use pdh_clock::Schedule;
 use pdh_edge::Shelf;
+use pdh_runner::files::read;
 use pdh_shape::MOST_BYTES;
 use std::alloc::Global;
 

@@ -21,7 +21,7 @@ use Rattle.pdh_answers.specs.declared.answer.Done.{Done}
 use Rattle.pdh_answers.specs.declared.answer.Stop.TheVariants.{ManyFrames}
 use Rattle.pdh_shape.specs.OwnNumbers.{most_frames}
 use Rattle.pdh_answers.specs.Names.{schedule_name}
-use Rattle.pdh_ops.specs.Operation.{Operation, all_held, no_names, one_name, no_bytes, none_in_run, reaches_outputs, due_at_outputs, Files, bytes_in}
+use Rattle.pdh_runner.specs.Operation.{Operation, all_held, no_names, one_name, no_bytes, none_in_run, reaches_outputs, due_at_outputs, Files, bytes_in}
 use Rattle.pdh_answers.specs.declared.answer.Done.TheVariants.{Line}
 
 -- ---- `clock check`

@@ -1,29 +1,18 @@
 -- What `demux` comes to, and what its outputs hold.
-use Rattle.std.specs.Prelude.{ℕ, ◌*◌, ◌/◌, ◌==◌, nat_lt, List, Option, Some, None, Result, Ok, Err, length, if◌then◌else◌, ◌++◌, codes, decimal}
+use Rattle.std.specs.Prelude.{if◌then◌else◌, ℕ, ◌*◌, ◌==◌, List, None, Ok, Err, length, ◌++◌, codes, decimal}
 use Rattle.pdh_bits.specs.Bits.{bits_of, bytes_of}
-use Rattle.pdh_chain.specs.Chains.{shapes_of, frame_bytes_of, leaves_of, name_of as name_of_chain}
+use Rattle.pdh_chain.specs.Chains.{shapes_of, leaves_of, name_of as name_of_chain}
 use Rattle.pdh_chain.specs.Demuxes.{top_delivered}
 use Rattle.pdh_chain.specs.declared.chain.Chain.{Chain}
 use Rattle.pdh_nesting.specs.Receiving.{far}
 use Rattle.pdh_answers.specs.Answer.{Answer, and_then}
-use Rattle.pdh_answers.specs.declared.file.File.{File}
-use Rattle.pdh_answers.specs.declared.answer.Stop.{Stop}
-use Rattle.pdh_answers.specs.declared.answer.Stop.TheVariants.{Missing, ManyFrames, NoAlignment}
-use Rattle.pdh_shape.specs.OwnNumbers.{most_frames}
+use Rattle.pdh_answers.specs.declared.answer.Stop.TheVariants.{NoAlignment}
 use Rattle.pdh_answers.specs.Names.{name_of, line_file, output_name}
-use Rattle.pdh_ops.specs.Operation.{Operation, one_name, all_in_run, due_at_outputs, Files, bytes_in}
+use Rattle.pdh_runner.specs.Operation.{Operation, one_name, all_in_run, due_at_outputs, Files, bytes_in}
 use Rattle.pdh_words.specs.declared.commands.Bits.{Bits}
 use Rattle.pdh_answers.specs.declared.answer.Done.TheVariants.{Line}
 use Rattle.pdh_answers.specs.declared.answer.Done.{Done}
-
--- how many whole frames a line holds
-abbrev pub frames_of : Chain → List ℕ → ℕ
-frames_of chain line = length line / frame_bytes_of chain
-
--- the line that this file holds, or why it is refused before it is read
-abbrev pub line_of : File → Chain → Option (List ℕ) → Result (List ℕ) Stop
-line_of file chain None = Err (Missing file)
-line_of file chain (Some line) = (if nat_lt most_frames (frames_of chain line) then Err (ManyFrames (frames_of chain line)) else Ok line)
+use Rattle.pdh_runner.specs.Lines.{line_of}
 
 -- how many frames of the line are delivered at the top
 abbrev pub frames_received : Chain → List ℕ → ℕ

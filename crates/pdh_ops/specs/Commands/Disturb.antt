@@ -11,9 +11,9 @@ use Rattle.pdh_answers.specs.Answer.{Answer, stop_of_script, and_then}
 use Rattle.pdh_answers.specs.declared.file.File.{File}
 use Rattle.pdh_answers.specs.declared.file.File.TheVariants.{Line, Script}
 use Rattle.pdh_answers.specs.declared.answer.Stop.{Stop}
-use Rattle.pdh_ops.specs.Commands.Demux.{frames_of, line_of}
+use Rattle.pdh_runner.specs.Lines.{frames_of, line_of}
 use Rattle.pdh_shape.specs.OwnNumbers.{most_frames}
-use Rattle.pdh_ops.specs.Operation.{Operation, all_held, one_name, reaches_outputs, Files, bytes_in}
+use Rattle.pdh_runner.specs.Operation.{Operation, all_held, one_name, reaches_outputs, Files, bytes_in}
 use Rattle.pdh_answers.specs.declared.answer.Done.TheVariants.{Line as TextLine}
 use Rattle.pdh_answers.specs.declared.answer.Done.{Done}
 use Rattle.pdh_chain.specs.Chains.{name_of as name_of_chain}

@@ -5,7 +5,7 @@ use Rattle.pdh_lab.specs.Drill.{drill_of}
 use Rattle.pdh_answers.specs.Answer.{Answer}
 use Rattle.pdh_answers.specs.declared.answer.Stop.TheVariants.{ManyFrames}
 use Rattle.pdh_shape.specs.OwnNumbers.{most_drilled}
-use Rattle.pdh_ops.specs.Operation.{Operation, no_names, no_bytes, none_in_run, due_at_outputs}
+use Rattle.pdh_runner.specs.Operation.{Operation, no_names, no_bytes, none_in_run, due_at_outputs}
 use Rattle.pdh_answers.specs.declared.answer.Done.TheVariants.{Line}
 use Rattle.pdh_answers.specs.declared.answer.Done.{Done}
 use Rattle.pdh_chain.specs.Chains.{name_of as name_of_chain}

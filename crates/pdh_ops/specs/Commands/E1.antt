@@ -11,7 +11,7 @@ use Rattle.pdh_answers.specs.declared.answer.Stop.{Stop}
 use Rattle.pdh_answers.specs.declared.answer.Stop.TheVariants.{Missing, ManyFrames, NoAlignment, NotWhole}
 use Rattle.pdh_shape.specs.OwnNumbers.{most_frames}
 use Rattle.pdh_answers.specs.Names.{payload_name, e1_name, payload_out_name}
-use Rattle.pdh_ops.specs.Operation.{Operation, one_name, none_in_run, due_at_outputs, Files, bytes_in}
+use Rattle.pdh_runner.specs.Operation.{Operation, one_name, none_in_run, due_at_outputs, Files, bytes_in}
 use Rattle.pdh_answers.specs.declared.answer.Done.TheVariants.{Line}
 use Rattle.pdh_answers.specs.declared.answer.Done.{Done}
 

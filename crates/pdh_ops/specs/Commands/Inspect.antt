@@ -7,7 +7,8 @@ use Rattle.pdh_g706.specs.Tracking.{multiframes_in, counted}
 use Rattle.pdh_inspect.specs.Seen.{line_events, framed_events, events_counted, line_bits_events}
 use Rattle.pdh_show.specs.Shown.{shown}
 use Rattle.pdh_answers.specs.Answer.{Answer, and_then}
-use Rattle.pdh_ops.specs.Commands.Demux.{line_of, frames_received}
+use Rattle.pdh_runner.specs.Lines.{line_of}
+use Rattle.pdh_ops.specs.Commands.Demux.{frames_received}
 use Rattle.pdh_answers.specs.declared.file.File.TheVariants.{Line, E1Line}
 use Rattle.pdh_answers.specs.declared.answer.Stop.{Stop}
 use Rattle.pdh_answers.specs.declared.answer.Stop.TheVariants.{Short}
@@ -15,7 +16,7 @@ use Rattle.pdh_answers.specs.Names.{name_of, line_file, line_name, e1_name}
 use Rattle.pdh_g706.specs.Events.{e1_events}
 use Rattle.pdh_words.specs.declared.commands.Bits.{Bits}
 use Rattle.pdh_ops.specs.Commands.E1.{framed_of}
-use Rattle.pdh_ops.specs.Operation.{Operation, no_names, one_name, no_bytes, all_in_run, due_at_outputs, Files}
+use Rattle.pdh_runner.specs.Operation.{Operation, no_names, one_name, no_bytes, all_in_run, due_at_outputs, Files}
 use Rattle.pdh_answers.specs.declared.answer.Done.TheVariants.{Watched, Frame}
 use Rattle.pdh_answers.specs.declared.answer.Done.{Done}
 

@@ -27,7 +27,7 @@ use Rattle.pdh_answers.specs.declared.file.File.TheVariants.{Schedule, Leaf}
 use Rattle.pdh_answers.specs.declared.answer.Stop.{Stop}
 use Rattle.pdh_answers.specs.declared.answer.Stop.TheVariants.{ShortNode, Short, Overflow, Underflow, ManyFrames}
 use Rattle.pdh_shape.specs.OwnNumbers.{most_frames}
-use Rattle.pdh_ops.specs.Operation.{Operation, all_held, one_name, reaches_outputs, Files, bytes_in}
+use Rattle.pdh_runner.specs.Operation.{Operation, all_held, one_name, reaches_outputs, Files, bytes_in}
 use Rattle.pdh_answers.specs.declared.answer.Done.TheVariants.{Line}
 use Rattle.pdh_answers.specs.declared.answer.Done.{Done}
 

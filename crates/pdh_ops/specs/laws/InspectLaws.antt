@@ -5,8 +5,8 @@ use Rattle.pdh_chain.specs.declared.chain.Chain.{Chain}
 use Rattle.pdh_words.specs.declared.commands.Bits.{Bits}
 use Rattle.pdh_answers.specs.Names.{line_file}
 use Rattle.pdh_ops.specs.Commands.Inspect.{inspected, inspecting}
-use Rattle.pdh_ops.specs.LineSteps.{ReadsLine}
-use Rattle.pdh_ops.specs.Operation.{View}
+use Rattle.pdh_runner.specs.LineSteps.{ReadsLine}
+use Rattle.pdh_runner.specs.Operation.{View}
 
 pub inspect_reads : (chain : Chain) (bits : Bits) → ReadsLine (inspecting chain bits) (line_file bits) chain (inspected chain)
 unfolding inspected

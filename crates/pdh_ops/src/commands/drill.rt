@@ -2,7 +2,7 @@
 
 ghost use Rattle.std.specs.Prelude.{◌≡◌, ◌≤◌, ◌++◌, length};
 ghost use Rattle.pdh_edge.specs.Files.{ShelfState};
-ghost use Rattle.pdh_ops.specs.Run.{Performs};
+ghost use Rattle.pdh_runner.specs.Performing.{Performs};
 ghost use Rattle.pdh_ops.specs.Commands.Drill.{drill_text, drill_says, drilling};
 
 use pdh_answers::{Done, Stop};

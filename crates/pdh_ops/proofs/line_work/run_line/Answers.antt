@@ -1,7 +1,7 @@
 use Rattle.std.proofs.Common.{◌∙◌, ap, subst}
-use Rattle.pdh_ops.proofs.LineStops.{line_refuses}
+use Rattle.pdh_runner.proofs.LineStops.{line_refuses}
 use Rattle.pdh_ops.proofs.LineWorks.{refused_unseen}
-use Rattle.pdh_ops.proofs.Refusing.{refuses_performs}
+use Rattle.pdh_runner.proofs.Refusing.{refuses_performs}
 use Rattle.pdh_ops.proofs.line_work.run_line.Goals as goal
 
 pub run_over-requires : goal.run_over-requires

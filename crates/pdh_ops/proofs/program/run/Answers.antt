@@ -1,7 +1,7 @@
 use Rattle.std.proofs.Common.{map, subst}
 use Rattle.pdh_watch.specs.contracts.members.BoxDynMonitorMonitor.TheImpl.{state-value}
 use Rattle.pdh_answers.specs.Lines.{IsTold}
-use Rattle.pdh_ops.proofs.Causes.{completes}
+use Rattle.pdh_ops.proofs.Completing.{completes}
 use Rattle.pdh_ops.proofs.MuxGivesBack.{gives_back}
 use Rattle.pdh_ops.proofs.MuxTolerated.{has_no_event, is_delayed}
 use Rattle.pdh_ops.proofs.DemuxRejoins.{are_rejoined}

@@ -1,8 +1,8 @@
 use Rattle.std.proofs.Common.{◌∙◌}
 use Rattle.pdh_answers.specs.Names.{line_file}
 use Rattle.pdh_ops.specs.Commands.Demux.{demuxed, demuxing}
-use Rattle.pdh_ops.proofs.LineStops.{line_refuses}
-use Rattle.pdh_ops.proofs.Refusing.{refuses_performs}
+use Rattle.pdh_runner.proofs.LineStops.{line_refuses}
+use Rattle.pdh_runner.proofs.Refusing.{refuses_performs}
 use Rattle.pdh_ops.proofs.DemuxFiles.{begins_with_line}
 use Rattle.pdh_ops.proofs.commands.demux.demux.Goals as goal
 

@@ -1,5 +1,5 @@
 use Rattle.std.proofs.lemmas.Result.{err_from_is_err_and}
-use Rattle.pdh_ops.proofs.Refusing.{refuses_since}
+use Rattle.pdh_runner.proofs.Refusing.{refuses_since}
 use Rattle.pdh_ops.proofs.commands.disturb.read_plan.Goals as goal
 use Rattle.pdh_ops.specs.Commands.Disturb.{disturbing}
 

@@ -1,4 +1,4 @@
-use Rattle.pdh_ops.proofs.OneInput.{err_map}
+use Rattle.pdh_runner.proofs.OneInput.{err_map}
 use Rattle.pdh_ops.proofs.E1Files.{framed_unread}
 use Rattle.pdh_ops.proofs.commands.e1.read_framed.Goals as goal
 

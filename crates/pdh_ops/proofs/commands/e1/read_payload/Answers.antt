@@ -1,5 +1,5 @@
 use Rattle.std.proofs.Common.{arith}
-use Rattle.pdh_ops.proofs.OneInput.{err_map}
+use Rattle.pdh_runner.proofs.OneInput.{err_map}
 use Rattle.pdh_ops.proofs.E1Files.{payload_unread}
 use Rattle.pdh_ops.proofs.commands.e1.read_payload.Goals as goal
 

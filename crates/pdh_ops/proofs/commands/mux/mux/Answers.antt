@@ -1,4 +1,4 @@
-use Rattle.pdh_ops.proofs.Refusing.{refuses_performs}
+use Rattle.pdh_runner.proofs.Refusing.{refuses_performs}
 use Rattle.pdh_ops.proofs.commands.mux.mux.Goals as goal
 use Rattle.pdh_ops.specs.Commands.Mux.{muxing}
 

@@ -3,7 +3,7 @@ use Rattle.std.specs.List.{range_with_len}
 use Rattle.std.proofs.lemmas.List.FromFn.{map-range_with_len_more}
 use Rattle.pdh_ops.specs.Commands.Mux.{bits_needed}
 use Rattle.pdh_answers.specs.declared.file.File.TheVariants.{Leaf}
-use Rattle.pdh_ops.specs.declared.port.Input.{Input}
+use Rattle.pdh_runner.specs.declared.port.Input.{Input}
 use Rattle.pdh_ops.proofs.Scheduled.{needed_here}
 use Rattle.pdh_ops.proofs.commands.mux.port_files.Goals as goal
 

@@ -2,8 +2,8 @@ use Rattle.std.proofs.Common.{◌∙◌}
 use Rattle.std.specs.Prelude.{None}
 use Rattle.std.proofs.lemmas.Result.{err_from_is_err_and}
 use Rattle.pdh_ops.specs.Commands.Mux.{muxed, muxing}
-use Rattle.pdh_ops.proofs.Touching.{looks_then}
-use Rattle.pdh_ops.proofs.Refusing.{refuses_since}
+use Rattle.pdh_runner.proofs.Touching.{looks_then}
+use Rattle.pdh_runner.proofs.Refusing.{refuses_since}
 use Rattle.pdh_ops.proofs.ScheduleComes.{schedule_refuses}
 use Rattle.pdh_ops.proofs.MuxComes.{enough_refuses, sizes_since, all_are_held, has_schedule, mux_begins, has_rows, of_inputs_since}
 use Rattle.pdh_ops.proofs.MuxFiles.{is_planned}

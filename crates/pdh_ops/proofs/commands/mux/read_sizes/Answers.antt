@@ -4,9 +4,9 @@ use Rattle.std.proofs.lemmas.Result.{err_from_is_err_and}
 use Rattle.std.proofs.lemmas.List.{get_or-set_same, get_or-set_other, length-set}
 use Rattle.pdh_chain.specs.Chains.{leaves_of}
 use Rattle.pdh_answers.specs.Names.{schedule_name, leaf_name}
-use Rattle.pdh_ops.specs.Reading.{HasLength}
-use Rattle.pdh_ops.proofs.Touching.{has_length_still, looks_then, looks_none, counted_since}
-use Rattle.pdh_ops.proofs.Refusing.{refuses_since}
+use Rattle.pdh_runner.specs.Reading.{HasLength}
+use Rattle.pdh_runner.proofs.Touching.{has_length_still, looks_then, looks_none, counted_since}
+use Rattle.pdh_runner.proofs.Refusing.{refuses_since}
 use Rattle.pdh_ops.proofs.MuxComes.{schedule_size_refuses, leaf_size_refuses, all_are_held}
 use Rattle.pdh_ops.proofs.commands.mux.read_sizes.Goals as goal
 use Rattle.pdh_ops.specs.Commands.Mux.{muxing}

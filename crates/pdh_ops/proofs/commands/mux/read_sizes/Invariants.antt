@@ -2,7 +2,7 @@ use Rattle.std.proofs.Common.{◌≡◌, ℕ, ◌<◌, length}
 use Rattle.std.specs.Prelude.{slice_index}
 use Rattle.pdh_edge.specs.Files.{Looks}
 use Rattle.pdh_answers.specs.Names.{schedule_name, leaf_name}
-use Rattle.pdh_ops.specs.Reading.{HasLength}
+use Rattle.pdh_runner.specs.Reading.{HasLength}
 use Rattle.pdh_ops.proofs.commands.mux.read_sizes.Given as goal
 
 abbrev pub invariant-loop-leaf : goal.invariant-loop-leaf

@@ -1,4 +1,4 @@
-use Rattle.pdh_ops.proofs.Prepared.{ok_both}
+use Rattle.pdh_runner.proofs.Prepared.{ok_both}
 use Rattle.pdh_ops.proofs.LineWorks.{work_prepared}
 use Rattle.pdh_ops.proofs.line_work.LinePlanWork.files.Goals as goal
 

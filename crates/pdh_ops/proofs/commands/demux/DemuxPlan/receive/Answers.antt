@@ -2,7 +2,7 @@ use Rattle.std.proofs.Common.{◌≡◌, ◌≢◌, Ok, refl, sym, subst, inl, i
 use Rattle.pdh_blocks.specs.State.{over}
 use Rattle.pdh_answers.specs.declared.answer.Done.{Done}
 use Rattle.pdh_ops.specs.Commands.Demux.{demuxing}
-use Rattle.pdh_ops.specs.Running.{IsDone}
+use Rattle.pdh_runner.specs.Running.{IsDone}
 use Rattle.pdh_ops.proofs.Stopping.{demux_kinds}
 use Rattle.pdh_ops.proofs.DemuxRun.{long, received_all, received_front, received_part, comes_some, comes_none}
 use Rattle.pdh_ops.proofs.commands.demux.DemuxPlan.receive.Goals as goal

@@ -2,7 +2,7 @@ use Rattle.std.proofs.Common.{Ok, refl, sym, subst, inl, inr, arith}
 use Rattle.pdh_blocks.specs.State.{over}
 use Rattle.pdh_answers.specs.declared.answer.Done.{Done}
 use Rattle.pdh_ops.specs.Commands.Disturb.{disturbing}
-use Rattle.pdh_ops.specs.Running.{IsDone}
+use Rattle.pdh_runner.specs.Running.{IsDone}
 use Rattle.pdh_ops.proofs.Stopping.{apply_kinds}
 use Rattle.pdh_ops.proofs.DisturbRun.{long, bent_all, bent_comes, bent_front}
 use Rattle.pdh_ops.proofs.commands.disturb.DisturbPlan.apply.Goals as goal

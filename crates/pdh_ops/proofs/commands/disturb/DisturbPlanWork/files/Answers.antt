@@ -1,4 +1,4 @@
-use Rattle.pdh_ops.proofs.Prepared.{ok_both}
+use Rattle.pdh_runner.proofs.Prepared.{ok_both}
 use Rattle.pdh_ops.proofs.DisturbFiles.{bend_prepared}
 use Rattle.pdh_ops.proofs.commands.disturb.DisturbPlanWork.files.Goals as goal
 

@@ -2,9 +2,9 @@ use Rattle.std.proofs.Common.{refl, inl, sym, ap, ◌∙◌}
 use Rattle.std.specs.Prelude.{Err}
 use Rattle.pdh_blocks.specs.State.{over}
 use Rattle.pdh_inspect.specs.Seen.{line_bits_events}
-use Rattle.pdh_ops.proofs.LineRun.{given_all, all_seen, first_seen}
+use Rattle.pdh_runner.proofs.LineRun.{given_all, all_seen, first_seen}
 use Rattle.pdh_ops.proofs.InspectWatched.{line_comes}
-use Rattle.pdh_ops.proofs.Finished.{fed_done, fed_unstarted, fed_stops}
+use Rattle.pdh_runner.proofs.Finished.{fed_done, fed_unstarted, fed_stops}
 use Rattle.pdh_ops.proofs.commands.inspect.InspectionLineWork.read.Goals.{in-Ok, in-Err-Memory, in-Err-Failed}
 use Rattle.pdh_ops.proofs.commands.inspect.InspectionLineWork.read.Goals as goal
 

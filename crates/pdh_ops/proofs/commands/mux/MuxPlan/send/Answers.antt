@@ -4,7 +4,7 @@ use Rattle.pdh_chain.specs.Muxes.{place_of}
 use Rattle.pdh_answers.specs.declared.answer.Stop.{Stop}
 use Rattle.pdh_answers.specs.declared.answer.Stop.TheVariants.{Overflow, Underflow}
 use Rattle.pdh_ops.specs.Commands.Mux.{muxing}
-use Rattle.pdh_ops.specs.Running.{IsDone}
+use Rattle.pdh_runner.specs.Running.{IsDone}
 use Rattle.pdh_answers.specs.declared.answer.Done.{Done}
 use Rattle.pdh_ops.proofs.Stopping.{mux_kinds}
 use Rattle.pdh_ops.proofs.MuxFiles.{kind_reaches}

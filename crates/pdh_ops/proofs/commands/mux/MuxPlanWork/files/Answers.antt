@@ -1,4 +1,4 @@
-use Rattle.pdh_ops.proofs.Prepared.{ok_both}
+use Rattle.pdh_runner.proofs.Prepared.{ok_both}
 use Rattle.pdh_ops.proofs.MuxFiles.{mux_prepared}
 use Rattle.pdh_ops.proofs.commands.mux.MuxPlanWork.files.Goals as goal
 

@@ -1,7 +1,7 @@
 use Rattle.std.proofs.Common.{refl, inl}
 use Rattle.pdh_blocks.specs.State.{over}
 use Rattle.pdh_ops.proofs.ShowRun.{shown_comes}
-use Rattle.pdh_ops.proofs.Finished.{fed_done, fed_unstarted, fed_stops}
+use Rattle.pdh_runner.proofs.Finished.{fed_done, fed_unstarted, fed_stops}
 use Rattle.pdh_ops.proofs.commands.show.ShowPlan.text.Goals as goal
 
 pub returns-in-Ok-clause-comes : goal.returns-in-Ok-clause-comes

@@ -2,7 +2,7 @@ use Rattle.std.proofs.Common.{◌≡◌, suc, ◌+◌, ◌*◌, [], ◌∷◌, �
 use Rattle.pdh_chain.specs.Chains.{frame_bytes_of}
 use Rattle.pdh_answers.specs.declared.file.File.TheVariants.{Line}
 use Rattle.pdh_ops.specs.Commands.Inspect.{bytes_upto}
-use Rattle.pdh_ops.proofs.Prepared.{ok_both}
+use Rattle.pdh_runner.proofs.Prepared.{ok_both}
 use Rattle.pdh_ops.proofs.ShowFiles.{show_prepared}
 use Rattle.pdh_ops.proofs.commands.show.ShowPlanWork.files.Goals as goal
 

@@ -1,6 +1,0 @@
-use Rattle.std.proofs.Common.{take}
-use Rattle.pdh_ops.specs.PortFiles.{AreSources}
-use Rattle.pdh_ops.proofs.port.sources.Given as goal
-
-abbrev pub invariant-loop-input : goal.invariant-loop-input
-invariant-loop-input l = AreSources (take l.input-index l.inputs) l.sources.items

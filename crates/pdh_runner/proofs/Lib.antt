@@ -1,0 +1,13 @@
+pub mod Differing
+pub mod PortOpen
+pub mod PortRun
+pub mod Finished
+pub mod Prepared
+pub mod Touching
+pub mod LineComes
+pub mod Causes
+pub mod Refusing
+pub mod LineStops
+pub mod OneOutput
+pub mod OneInput
+pub mod LineRun

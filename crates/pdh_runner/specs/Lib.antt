@@ -1,0 +1,9 @@
+pub mod Operation
+pub mod Performing
+pub mod Reading
+pub mod Refusing
+pub mod Writing
+pub mod Lines
+pub mod PortFiles
+pub mod Running
+pub mod LineSteps
