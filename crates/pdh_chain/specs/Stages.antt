@@ -8,7 +8,7 @@ use Rattle.pdh_shape.specs.declared.place.Level.{Level}
 use Rattle.pdh_nesting.specs.Chains.{width, top_len}
 use Rattle.pdh_recovery.specs.Losing.{KeepsRight}
 use Rattle.pdh_levels.specs.Levels.{shortest_frame, longest_frame, fewest_tributaries, most_tributaries}
-use Rattle.pdh_clock.specs.Made.{fast, slow}
+use Rattle.pdh_clock.specs.RateWords.{fast, slow}
 
 -- The rate of a line and that of each of its tributaries, each in bits a second as a number and what it is divided by, and by
 -- how many parts per million they may be off.
@@ -61,7 +61,7 @@ carries_between level =
 abbrev pub has_rates : Level → Bool
 has_rates level =
     nat_lt 0 (level.rate * level.trib_per)
-    && (nat_lt (level.rate * level.trib_per) (2 ^ 64)
+    && (nat_lt (level.rate * level.trib_per) (2 ^ 55)
     && (nat_le (2 * (level.trib_rate * level.per)) (level.rate * level.trib_per)
     && (nat_le level.ppm 1000 && (nat_le level.trib_ppm 1000 && (if level.locked then carries_exactly level else carries_between level)))))
 

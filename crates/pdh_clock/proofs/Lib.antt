@@ -17,5 +17,8 @@ pub mod MadeTrees
 pub mod MadeNodes
 pub mod Worked
 pub mod WorkedSchedules
+pub mod WorkedVersions
 pub mod RatesLaws
 pub mod Entered
+pub mod RatedFlows
+pub mod RateLaws

@@ -1,13 +1,13 @@
 -- Bounds on made schedules.
-use Rattle.std.proofs.Common.{◌≡◌, ℕ, suc, ◌+◌, ◌*◌, ◌/◌, ◌<◌, ◌≤◌, ◌^◌, inl, inr, ap, ◌∙◌, subst, sym, arith}
+use Rattle.std.proofs.Common.{◌≡◌, ℕ, suc, ◌+◌, ◌*◌, ◌/◌, ◌<◌, ◌≤◌, inl, inr, ap, ◌∙◌, subst, sym, arith}
 use Rattle.std.proofs.Math.Nat.{mul-le-mul_left, mul-le-mul_right, suc-mul, add-mul, div-mul-le_self, lt-div-mul-add}
 use Rattle.std.proofs.lemmas.Nat.{le-div}
 use Rattle.std.proofs.lemmas.Bool.{cases_lt}
 use Rattle.pdh_shape.specs.declared.place.Level.{Level}
-use Rattle.pdh_levels.specs.Levels.{longest_frame}
 use Rattle.pdh_clock.specs.declared.bias.Offset.{Offset}
 use Rattle.pdh_clock.specs.declared.bias.Offset.TheVariants.{Exact, Ahead, Behind}
-use Rattle.pdh_clock.specs.Made.{IsRated, scale_of, fast, slow, made_arrived, most_made}
+use Rattle.pdh_clock.specs.RateWords.{fast, slow}
+use Rattle.pdh_clock.specs.Made.{IsRated, scale_of, made_arrived}
 
 pub scale-between : (offset : Offset) (ppm : ℕ) → (slow ppm ≤ scale_of offset ppm) × (scale_of offset ppm ≤ fast ppm)
 scale-between Exact ppm = (omega arith, omega arith)
@@ -19,14 +19,6 @@ scale-most offset ppm h = let most = (scale-between offset ppm).1 in omega arith
 
 pub scale-least : (offset : Offset) (ppm : ℕ) → ppm ≤ 1000 → 999000 ≤ scale_of offset ppm
 scale-least offset ppm h = let least = (scale-between offset ppm).0 in omega arith
-
--- the bits of frames times the rate at which a tributary's arrive
-pub product-fits : (n len rate scale : ℕ) → n ≤ most_made → len ≤ longest_frame → rate < 2 ^ 63 → scale ≤ 1001000 → n * len * (rate * scale) < 2 ^ 128
-product-fits n len rate scale few longest small slight =
-    let slots : n * len ≤ most_made * longest_frame = omega (arith, mul-le-mul_left n longest, mul-le-mul_right longest_frame few) in
-    let fast_rate : rate * scale ≤ 2 ^ 63 * 1001000 = omega (arith, mul-le-mul_left rate slight) in
-    let upto : n * len * (rate * scale) ≤ n * len * (2 ^ 63 * 1001000) = mul-le-mul_left (n * len) fast_rate in
-    omega (arith, upto)
 
 -- what is divided grows by a part that is no more than so many times the divisor
 pub div-grows : (x part line len : ℕ) → 0 < line → part ≤ len * line → (x + part) / line ≤ x / line + len

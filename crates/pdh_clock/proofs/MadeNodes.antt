@@ -1,38 +1,34 @@
 -- One more node of a made schedule, and the whole schedule.
 use Rattle.std.proofs.Common.{◌≡◌, ℕ, ◌+◌, ◌*◌, ◌<◌, ◌≤◌, List, [], ◌∷◌, ◌++◌, length, get_or, map, set, Option, Some, None, is_some, IsSome, IsNone, All, inl, inr, refl, ap, sym, ◌∙◌, subst, arith}
-use Rattle.std.specs.Prelude.{replicate}
 use Rattle.std.specs.List.{flat_map}
 use Rattle.std.specs.Option.{option_map_or}
 use Rattle.std.proofs.lemmas.Bool.{cases_lt, false≢true}
-use Rattle.std.proofs.lemmas.List.Elements.{All-get_or, All-head, All-tail, filter-append}
+use Rattle.std.proofs.lemmas.List.Elements.{All-head, All-tail, filter-append}
 use Rattle.pdh_shape.specs.declared.place.Level.{Level}
 use Rattle.pdh_shape.specs.Frame.{FrameShape}
 use Rattle.pdh_line.specs.Tolerance.{IsWithin}
+use Rattle.pdh_rows.specs.Flows.{each}
 use Rattle.pdh_rows.specs.Rows.{node_frames}
 use Rattle.pdh_rows.specs.Stored.{IsTable, rows_of, row_frames}
 use Rattle.pdh_clock.specs.declared.bias.Bias.{Bias}
 use Rattle.pdh_clock.specs.declared.bias.Offset.{Offset}
 use Rattle.pdh_clock.specs.declared.tree.NodeRows.{NodeRows}
 use Rattle.pdh_clock.specs.declared.tree.Tree.{Tree}
-use Rattle.pdh_clock.specs.Row.{Row}
+use Rattle.pdh_clock.specs.Row.{Row, ratio_of}
 use Rattle.pdh_levels.specs.Levels.{IsLevel, AreLevels, nodes_in, level_at, level_stores, stores_at, low_at, place_of}
-use Rattle.pdh_clock.specs.Contents.{IsRowOf, rows_at, frames_of, frame_count, counts, same_path}
+use Rattle.pdh_clock.specs.Contents.{IsRowOf, rows_at, frames_of_row, frames_of, frame_count, counts, same_path}
 use Rattle.pdh_line.specs.Progress.{begun_by}
 use Rattle.pdh_clock.specs.Begun.{frames_begun, shortage}
 use Rattle.pdh_clock.specs.Made.{IsRated, made_frames, made, most_made}
-use Rattle.pdh_clock.specs.Making.{AreMade, line_at}
-use Rattle.pdh_clock.specs.Stored.{IsTree, at_path, contents_of, node_path, node_rows, rows_in, most_node_frames}
-use Rattle.pdh_levels.proofs.LevelLaws.{has_level, level_in, level_is, stores_count, known}
+use Rattle.pdh_clock.specs.Making.{AreMade, line_at, made_rows}
+use Rattle.pdh_clock.specs.Stored.{IsTree, at_path, ratio_at, contents_of, node_path, node_rows, rows_in, most_node_frames}
+use Rattle.pdh_levels.proofs.LevelLaws.{has_level, stores_count, known}
+use Rattle.pdh_clock.proofs.Laws.{rated_is}
 use Rattle.pdh_clock.proofs.Trees.{Changes, IsTree_changed, length-nodes, length-changed, path_of_node, frames_of_node, known_node, place_inside, node_changed, node_kept, rows_at_none, at_path-paths}
 use Rattle.pdh_clock.proofs.Begins.{shortage_none, begun_by_whole}
-use Rattle.pdh_clock.proofs.MadeRows.{made_rows, made_rows-few, made_rows-sound, node_frames-made, length-made_frames}
+use Rattle.pdh_clock.proofs.MadeRows.{made_rows-few, made_rows-sound, node_frames-made, length-made_frames}
 use Rattle.pdh_clock.proofs.MadeRuns.{frame_counts, made-within}
 use Rattle.pdh_clock.proofs.MadeTrees.{height_of, bits_of_made, made_is, made_none, made_at, begun_is_made, none_short_made}
-
-pub rated_is : (levels : List Level) (path : List ℕ) (level : Level) → All IsRated levels → level_at levels path ≡ Some level → IsRated level
-rated_is levels path level each h =
-    let at = level_in levels path level h in
-    subst IsRated (at.at level) (All-get_or IsRated levels (length path) level at.inside each)
 
 -- ---- one more node
 
@@ -47,6 +43,7 @@ pub record IsMadeNode (tree : Tree) (bias : Bias) (frames place : ℕ) (path : L
   pub line_is : line ≡ line_at tree.levels.items bias path
   pub frames_are : n ≡ frames_begun (contents_of tree) frames path
   pub stored : IsTable node.table
+  pub ratio : node.table.ratio ≡ ratio_of level
   pub tribs : node.table.tribs ≡ level_stores level
   pub few : n ≤ most_made
   pub rows : rows_of node.table ≡ made_rows level bias height line n
@@ -61,12 +58,13 @@ changes_made old new bias frames place path node level height line n h rated m l
   path = λ d. m.node_is ∙ sym m.path_is ∙ sym (path_of_node old place d [] h m.inside);
   node_is = record {
     stored = m.stored;
+    ratio = m.ratio ∙ ap (λ o. option_map_or ratio_of o (each 0)) (sym m.known_is) ∙ ap (ratio_at old.levels.items) (sym m.node_is);
     tribs = m.tribs ∙ sym (stores_count old.levels.items path level m.known_is) ∙ ap (stores_at old.levels.items) (sym m.node_is);
     frames_few = subst (λ rows. row_frames rows ≤ most_node_frames) (sym m.rows)
-        (made_rows-few level bias height line n (level_is old.levels.items path level h.levels_are.each m.known_is) (rated_is old.levels.items path level rated m.known_is) m.few);
+        (made_rows-few level bias height line n m.few);
     rows = subst (All (IsRowOf old.levels.items))
         (ap (λ p. map (at_path p) (made_rows level bias height line n)) (sym m.node_is) ∙ ap (map (at_path (node_path node))) (sym m.rows))
-        (made_rows-sound old.levels.items path level bias height line n h.levels_are.each m.known_is (rated_is old.levels.items path level rated m.known_is));
+        (made_rows-sound old.levels.items path level bias height line n m.known_is (rated_is old.levels.items path level rated m.known_is));
   };
 }
 
@@ -130,7 +128,7 @@ none_elsewhere levels path (node ∷ nodes) known none =
 
 no_frames : (tree : Tree) (path : List ℕ) → IsTree tree → level_at tree.levels.items path ≡ None → frames_of (rows_in tree) path ≡ []
 unfolding frames_of
-no_frames tree path h none = ap (flat_map (λ (row : Row). replicate row.repeat row.counts))
+no_frames tree path h none = ap (flat_map frames_of_row)
     (none_elsewhere tree.levels.items path tree.nodes.items (λ k d l. known_node tree k d h l) none)
 
 -- the rows of a made schedule, and what holds of them

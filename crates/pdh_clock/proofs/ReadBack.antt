@@ -1,26 +1,36 @@
 -- The text that a schedule is written as reads back as a schedule with the same frames.
 use Rattle.std.proofs.Common.{◌≡◌, ℕ, suc, ◌+◌, ◌-◌, ◌*◌, ◌/◌, ◌%◌, ◌<◌, ◌≤◌, ◌==◌, ◌&&◌, true, false, cond, nat_lt, nat_le, List, [], ◌∷◌, ◌++◌, length, get_or, map, find, replicate, decimal, Some, None, Ok, Err, All, is_some, IsSome, refl, ap, sym, ◌∙◌, subst, arith, inl, inr, lit<, append_assoc, append-nil, eq-eqb}
-use Rattle.std.specs.List.{flat_map, list_all, onto_first}
+use Rattle.std.specs.Prelude.{codes}
+use Rattle.std.specs.List.{flat_map, list_all, onto_first, range_with_len}
 use Rattle.std.specs.Str.{bytes_eq}
 use Rattle.std.specs.Char.{is_ascii_digit}
 use Rattle.std.specs.Option.{ok_or, option_map_or}
 use Rattle.std.proofs.lemmas.Bool.{cases_Bool, cases_lt, eqb-true, le-leb, le-ltb, false≢true}
 use Rattle.std.proofs.lemmas.Bool.Decides.{nat_tests}
 use Rattle.std.proofs.lemmas.Fmt.{decimal_by_steps, decimal_digit, decimal_nonempty, first_decimal, length-decimal-le}
-use Rattle.std.proofs.lemmas.List.Elements.{All-nil, All-cons, All-head, All-tail, All-append, All-replicate, All-weaker}
+use Rattle.std.proofs.lemmas.List.{length-map, map-append}
+use Rattle.std.proofs.lemmas.List.Elements.{All-nil, All-cons, All-head, All-tail, All-append, All-map, All-from_get_or, All-weaker}
 use Rattle.std.proofs.lemmas.List.Folds.{list_all-append}
 use Rattle.std.proofs.lemmas.List.Splits.{slice_split_at, slice_split_none}
 use Rattle.std.proofs.lemmas.List.Sums.{fold_push, AllPass-from_list_all}
 use Rattle.std.proofs.lemmas.Slice.Eq.{bytes_eq-Decides}
 use Rattle.pdh_shape.specs.declared.place.Level.{Level}
 use Rattle.pdh_clock.specs.declared.fault.ScheduleFault.TheVariants.{TooLong, BadRow, UnknownNode, CountOver}
-use Rattle.pdh_clock.specs.Text.{lines_of, words_of, digits_value, is_number, number_of, numbers_of, path_of}
-use Rattle.pdh_clock.specs.Row.{Row, row_of, row_of_words}
+use Rattle.pdh_clock.specs.Text.{lines_of, words_of, digits_value, is_number, number_of, each_of, path_of}
+use Rattle.pdh_rows.specs.declared.flow.Flow.{Flow}
+use Rattle.pdh_rows.specs.declared.flow.Says.{Says}
+use Rattle.pdh_rows.specs.declared.flow.Says.TheVariants.{Counts}
+use Rattle.pdh_rows.specs.Flows.{flow_count, each}
+use Rattle.pdh_rows.specs.Rows.{frames_in}
+use Rattle.pdh_rows.proofs.Counted.{said_row-each}
+use Rattle.pdh_rows.proofs.Joining.{frames_in-each}
+use Rattle.pdh_clock.specs.declared.row.Version.TheVariants.{First, Second}
+use Rattle.pdh_clock.specs.Row.{Form, Row, counts_form, counts_row, form_of, ratio_of, row_of}
 use Rattle.pdh_levels.specs.Levels.{most_tributaries, IsLevel, AreLevels, nodes_in, level_at, level_stores, stores_at, len_at, place_of}
-use Rattle.pdh_clock.specs.Contents.{IsRowOf, rows_at, by_nodes, frames_of, same_path}
-use Rattle.pdh_clock.specs.Judged.{◌>>=◌, is_passed_over, counts_judged, stores_judged, row_judged, rows_judged, lines_judged, schedule_of}
+use Rattle.pdh_clock.specs.Contents.{IsRowOf, rows_at, by_nodes, frames_of_row, frames_of, same_path}
+use Rattle.pdh_clock.specs.Judged.{◌>>=◌, first_over, is_passed_over, counts_judged, stores_judged, row_judged, rows_judged, versions_judged, lines_judged, schedule_of}
 use Rattle.pdh_shape.specs.OwnNumbers.{most_bytes}
-use Rattle.pdh_clock.specs.Stored.{path_row}
+use Rattle.pdh_clock.specs.Stored.{ratio_at, row_in}
 use Rattle.pdh_clock.specs.Written.{text_with, with_frame, longest_rows, rows_written, number_words, row_line, text_of, ReadsBack}
 use Rattle.pdh_line.specs.Paths.{path_text}
 use Rattle.pdh_clock.proofs.Laws.{same_path-true}
@@ -77,7 +87,7 @@ number_of_decimal n l =
     let is = is_number_digits (decimal n) (decimal_nonempty n (omega arith)) short written.each (zero_alone n l) in
     ap (λ b. cond b (Some (digits_value (decimal n))) None) is ∙ ap Some written.value
 
-numbers_of_decimals : (numbers : List ℕ) → All (λ n. n ≤ 999999999) numbers → numbers_of (map decimal numbers) ≡ Some numbers
+numbers_of_decimals : (numbers : List ℕ) → All (λ n. n ≤ 999999999) numbers → each_of number_of (map decimal numbers) ≡ Some numbers
 numbers_of_decimals [] h = refl
 numbers_of_decimals (n ∷ numbers) h =
     let first = number_of_decimal n (All-head (λ n. n ≤ 999999999) n numbers h) in
@@ -205,10 +215,14 @@ path_word_is levels (a ∷ b ∷ c ∷ path) h some =
     let few = h.few in
     absurd (omega arith)
 
--- a line that begins with a path isn't passed over
+-- a line that begins with a path isn't passed over, and says no version
 not_passed : (path rest : List ℕ) → is_passed_over (path_text path ++ rest) ≡ false
 not_passed [] rest = refl
 not_passed (step ∷ path) rest = refl
+
+not_version : (path rest : List ℕ) → bytes_eq (path_text path ++ rest) (codes "version 2") ≡ false
+not_version [] rest = refl
+not_version (step ∷ path) rest = refl
 
 -- ---- a row
 
@@ -217,40 +231,44 @@ record IsFrame (level : Level) (counts : List ℕ) : Type 0 where
   number : length counts ≡ level_stores level
   most : All (λ count. count ≤ level.len) counts
 
--- a row of a node with a repeat that a text may have
-record IsWritable (levels : List Level) (most : ℕ) (row : Row) : Type 0 where
+-- a row of counts of a node with a repeat that a text may have
+record IsWritable (levels : List Level) (most : ℕ) (row : Form) : Type 0 where
+  says : row.says ≡ Counts
   some : 0 < row.repeat
   repeat : row.repeat ≤ most
   level : Level
   known : level_at levels row.path ≡ Some level
-  frame : IsFrame level row.counts
+  frame : IsFrame level row.numbers
 
 -- the line of a row without its line feed
-abbrev node_line : Row → List ℕ
-node_line row = path_text row.path ++ number_words (row.repeat ∷ row.counts)
+abbrev node_line : Form → List ℕ
+node_line row = path_text row.path ++ number_words (row.repeat ∷ row.numbers)
 
-numbers_small : (levels : List Level) (row : Row) → AreLevels levels → IsWritable levels 999999999 row
-    → All (λ n. n ≤ 999999999) (row.repeat ∷ row.counts)
+numbers_small : (levels : List Level) (row : Form) → AreLevels levels → IsWritable levels 999999999 row
+    → All (λ n. n ≤ 999999999) (row.repeat ∷ row.numbers)
 numbers_small levels row l w =
     let longest = (level_is levels row.path w.level l.each w.known).longest in
-    All-cons (λ n. n ≤ 999999999) row.repeat row.counts w.repeat
-    (All-weaker (λ n. n ≤ w.level.len) (λ n. n ≤ 999999999) (λ n h. omega arith) row.counts w.frame.most)
+    All-cons (λ n. n ≤ 999999999) row.repeat row.numbers w.repeat
+    (All-weaker (λ n. n ≤ w.level.len) (λ n. n ≤ 999999999) (λ n h. omega arith) row.numbers w.frame.most)
 
 not_zero : (n : ℕ) → 0 < n → (n == 0) ≡ false
 not_zero n some = grind (arith, nat_tests)
 
-word_of_row : (levels : List Level) (row : Row) → AreLevels levels → IsWritable levels 999999999 row → IsPathWord row.path (path_text row.path)
+word_of_row : (levels : List Level) (row : Form) → AreLevels levels → IsWritable levels 999999999 row → IsPathWord row.path (path_text row.path)
 word_of_row levels row l w = path_word_is levels row.path l (ap is_some w.known)
 
-row_of_line : (levels : List Level) (row : Row) → AreLevels levels → IsWritable levels 999999999 row → row_of (node_line row) ≡ Some row
+abbrev with_says : Form → Says → Form
+with_says row says = record { path = row.path; repeat = row.repeat; says = says; numbers = row.numbers }
+
+row_of_line : (levels : List Level) (row : Form) → AreLevels levels → IsWritable levels 999999999 row → form_of First (node_line row) ≡ Some row
 row_of_line levels row l w =
     let small = numbers_small levels row l w in
     let word = word_of_row levels row l w in
-    let words = words_of_numbers (path_text row.path) (row.repeat ∷ row.counts) word.no_space small in
+    let words = words_of_numbers (path_text row.path) (row.repeat ∷ row.numbers) word.no_space small in
     let repeat = number_of_decimal row.repeat w.repeat in
-    let counts = numbers_of_decimals row.counts (All-tail (λ n. n ≤ 999999999) row.repeat row.counts small) in
+    let counts = numbers_of_decimals row.numbers (All-tail (λ n. n ≤ 999999999) row.repeat row.numbers small) in
     let some : (row.repeat == 0) ≡ false = not_zero row.repeat w.some in
-    ap row_of_words words ∙ rw (word.reads, repeat, counts, some) refl
+    ap counts_row words ∙ rw (word.reads, repeat, counts, some) (ap (λ says. Some (with_says row says)) (sym w.says))
 
 none_over : (most : ℕ) (counts : List ℕ) → All (λ count. count ≤ most) counts → find (nat_lt most) counts ≡ None
 none_over most [] h = refl
@@ -259,49 +277,58 @@ none_over most (count ∷ counts) h =
     ap (λ b. cond b (Some count) (find (nat_lt most) counts)) first
     ∙ none_over most counts (All-tail (λ count. count ≤ most) count counts h)
 
-line_judged : (levels : List Level) (number : ℕ) (row : Row) → AreLevels levels → IsWritable levels 999999999 row
-    → row_judged levels number (node_line row) ≡ Ok row
+line_judged : (levels : List Level) (number : ℕ) (row : Form) → AreLevels levels → IsWritable levels 999999999 row
+    → row_judged levels First number (node_line row) ≡ Ok (row_in levels row)
 line_judged levels number row l w =
-    let judged = λ (row : Row). ok_or (level_at levels row.path) (UnknownNode number) >>= λ level. stores_judged number level row in
-    let stores : (length row.counts == level_stores w.level) ≡ true = eq-eqb (length row.counts) (level_stores w.level)
+    let judged = λ (form : Form). ok_or (level_at levels form.path) (UnknownNode number) >>= λ level. stores_judged number level form in
+    let stores : (length row.numbers == level_stores w.level) ≡ true = eq-eqb (length row.numbers) (level_stores w.level)
     w.frame.number in
-    let none = none_over w.level.len row.counts w.frame.most in
+    let none : first_over w.level.len row.says row.numbers ≡ None =
+    ap (λ says. first_over w.level.len says row.numbers) w.says ∙ none_over w.level.len row.numbers w.frame.most in
     ap (λ o. ok_or o (BadRow number) >>= judged) (row_of_line levels row l w)
     ∙ ap (λ o. ok_or o (UnknownNode number) >>= λ level. stores_judged number level row) w.known
     ∙ ap (λ b. cond b (counts_judged number w.level row) (Err (BadRow number))) stores
-    ∙ ap (λ o. option_map_or (λ count. Err (CountOver number count w.level.len)) o (Ok row)) none
+    ∙ ap (λ o. option_map_or (λ count. Err (CountOver number count w.level.len)) o (Ok (row_of (ratio_of w.level) row))) none
+    ∙ ap (λ o. Ok (row_of (option_map_or ratio_of o (each 0)) row)) (sym w.known)
 
-lines_judged_rows : (levels : List Level) (number : ℕ) (rows : List Row) → AreLevels levels → All (IsWritable levels 999999999) rows
-    → rows_judged levels number (map node_line rows) ≡ Ok rows
+lines_judged_rows : (levels : List Level) (number : ℕ) (rows : List Form) → AreLevels levels → All (IsWritable levels 999999999) rows
+    → rows_judged levels First number (map node_line rows) ≡ Ok (map (row_in levels) rows)
 lines_judged_rows levels number [] l w = refl
 lines_judged_rows levels number (row ∷ rows) l w =
-    let kept = not_passed row.path (number_words (row.repeat ∷ row.counts)) in
+    let kept = not_passed row.path (number_words (row.repeat ∷ row.numbers)) in
     let first = line_judged levels number row l (All-head (IsWritable levels 999999999) row rows w) in
     let rest = lines_judged_rows levels (suc number) rows l (All-tail (IsWritable levels 999999999) row rows w) in
     rw (kept, first, rest) refl
 
-lines_of_rows : (levels : List Level) (rows : List Row) → AreLevels levels → All (IsWritable levels 999999999) rows
+versions_judged_rows : (levels : List Level) (rows : List Form) → AreLevels levels → All (IsWritable levels 999999999) rows
+    → versions_judged levels (map node_line rows) ≡ Ok (map (row_in levels) rows)
+versions_judged_rows levels [] l w = refl
+versions_judged_rows levels (row ∷ rows) l w =
+    ap (λ b. cond b (rows_judged levels Second 2 (map node_line rows)) (rows_judged levels First 1 (map node_line (row ∷ rows)))) (not_version row.path (number_words (row.repeat ∷ row.numbers)))
+    ∙ lines_judged_rows levels 1 (row ∷ rows) l w
+
+lines_of_rows : (levels : List Level) (rows : List Form) → AreLevels levels → All (IsWritable levels 999999999) rows
     → lines_of (flat_map row_line rows) ≡ map node_line rows
 lines_of_rows levels [] l w = refl
 lines_of_rows levels (row ∷ rows) l w =
     let first = All-head (IsWritable levels 999999999) row rows w in
     let rest = lines_of_rows levels rows l (All-tail (IsWritable levels 999999999) row rows w) in
-    let lacks = All-append (λ byte. (byte == 10) ≡ false) (path_text row.path) (number_words (row.repeat ∷ row.counts))
-    (word_of_row levels row l first).no_feed (number_words_lack (row.repeat ∷ row.counts) (numbers_small levels row l first)) in
+    let lacks = All-append (λ byte. (byte == 10) ≡ false) (path_text row.path) (number_words (row.repeat ∷ row.numbers))
+    (word_of_row levels row l first).no_feed (number_words_lack (row.repeat ∷ row.numbers) (numbers_small levels row l first)) in
     ap lines_of (append_assoc (node_line row) (10 ∷ []) (flat_map row_line rows))
     ∙ line_read (node_line row) (flat_map row_line rows) lacks
     ∙ ap (λ lines. node_line row ∷ lines) rest
 
 -- ---- frames
 
-joined_rows : List Row → List (List ℕ)
-joined_rows rows = flat_map (λ (row : Row). replicate row.repeat row.counts) rows
+joined_rows : List Form → List (List ℕ)
+joined_rows rows = flat_map (λ (row : Form). replicate row.repeat row.numbers) rows
 
-joined_with : (path frame : List ℕ) (rows : List Row) → joined_rows (with_frame path frame rows) ≡ frame ∷ joined_rows rows
+joined_with : (path frame : List ℕ) (rows : List Form) → joined_rows (with_frame path frame rows) ≡ frame ∷ joined_rows rows
 unfolding joined_rows
 joined_with path frame [] = refl
-joined_with path frame (row ∷ rows) = elim (cases_Bool (bytes_eq frame row.counts)) [
-  | inl is ↦ rw is (ap (λ counts. frame ∷ replicate row.repeat counts ++ joined_rows rows) ((bytes_eq-Decides frame row.counts).0 is))
+joined_with path frame (row ∷ rows) = elim (cases_Bool (bytes_eq frame row.numbers)) [
+  | inl is ↦ rw is (ap (λ counts. frame ∷ replicate row.repeat counts ++ joined_rows rows) ((bytes_eq-Decides frame row.numbers).0 is))
   | inr isnt ↦ rw isnt refl
 ]
 
@@ -311,33 +338,57 @@ joined_longest path [] = refl
 joined_longest path (frame ∷ frames) =
     joined_with path frame (longest_rows path frames) ∙ ap (λ frames. frame ∷ frames) (joined_longest path frames)
 
-path_with : (path frame : List ℕ) (rows : List Row) → AtPath path rows → AtPath path (with_frame path frame rows)
-path_with path frame [] h = All-cons (λ (row : Row). row.path ≡ path) (path_row path 1 frame) [] refl h
-path_with path frame (row ∷ rows) h = elim (cases_Bool (bytes_eq frame row.counts)) [
-  | inl is ↦ rw is (All-cons (λ (row : Row). row.path ≡ path) (path_row path (suc row.repeat) frame) rows refl (All-tail (λ (row : Row). row.path ≡ path) row rows h))
-  | inr isnt ↦ rw isnt (All-cons (λ (row : Row). row.path ≡ path) (path_row path 1 frame) (row ∷ rows) refl h)
+-- a row of counts of the node at a path
+record IsCountsAt (path : List ℕ) (row : Form) : Type 0 where
+  path_is : row.path ≡ path
+  says_is : row.says ≡ Counts
+
+counts_with : (path frame : List ℕ) (rows : List Form) → All (IsCountsAt path) rows → All (IsCountsAt path) (with_frame path frame rows)
+counts_with path frame [] h = All-cons (IsCountsAt path) (counts_form path 1 frame) [] (record { path_is = refl; says_is = refl }) h
+counts_with path frame (row ∷ rows) h = elim (cases_Bool (bytes_eq frame row.numbers)) [
+  | inl is ↦ rw is (All-cons (IsCountsAt path) (counts_form path (suc row.repeat) frame) rows (record { path_is = refl; says_is = refl }) (All-tail (IsCountsAt path) row rows h))
+  | inr isnt ↦ rw isnt (All-cons (IsCountsAt path) (counts_form path 1 frame) (row ∷ rows) (record { path_is = refl; says_is = refl }) h)
 ]
 
-path_longest : (path : List ℕ) (frames : List (List ℕ)) → AtPath path (longest_rows path frames)
-path_longest path [] = All-nil (λ (row : Row). row.path ≡ path)
-path_longest path (frame ∷ frames) = path_with path frame (longest_rows path frames) (path_longest path frames)
+counts_longest : (path : List ℕ) (frames : List (List ℕ)) → All (IsCountsAt path) (longest_rows path frames)
+counts_longest path [] = All-nil (IsCountsAt path)
+counts_longest path (frame ∷ frames) = counts_with path frame (longest_rows path frames) (counts_longest path frames)
 
-writable_more : (levels : List Level) (n : ℕ) (rows : List Row) → All (IsWritable levels n) rows → All (IsWritable levels (suc n)) rows
+-- what rows of counts mean has their frames
+joined_meant : (levels : List Level) (path : List ℕ) (rows : List Form) → All (IsCountsAt path) rows → flat_map frames_of_row (map (row_in levels) rows) ≡ joined_rows rows
+unfolding joined_rows
+joined_meant levels path [] h = refl
+joined_meant levels path (row ∷ rows) h =
+    let says = (All-head (IsCountsAt path) row rows h).says_is in
+    let frames : frames_of_row (row_in levels row) ≡ replicate row.repeat row.numbers =
+    ap frames_in (said_row-each (ratio_at levels row.path) row.repeat row.says row.numbers says) ∙ frames_in-each row.repeat row.numbers in
+    ap (λ front. front ++ flat_map frames_of_row (map (row_in levels) rows)) frames
+    ∙ ap (λ rest. replicate row.repeat row.numbers ++ rest) (joined_meant levels path rows (All-tail (IsCountsAt path) row rows h))
+
+meant_at : (levels : List Level) (path : List ℕ) (rows : List Form) → All (IsCountsAt path) rows → AtPath path (map (row_in levels) rows)
+meant_at levels path rows h = All-map (λ (row : Row). row.path ≡ path) (row_in levels) rows
+    (All-weaker (IsCountsAt path) (λ (row : Form). row.path ≡ path) (λ row h. h.path_is) rows h)
+
+map_joined : {X Y Z : Type 0} (f : Y → Z) (g : X → List Y) (xs : List X) → map f (flat_map g xs) ≡ flat_map (λ x. map f (g x)) xs
+map_joined f g [] = refl
+map_joined f g (x ∷ xs) = map-append f (g x) (flat_map g xs) ∙ ap (λ ys. map f (g x) ++ ys) (map_joined f g xs)
+
+writable_more : (levels : List Level) (n : ℕ) (rows : List Form) → All (IsWritable levels n) rows → All (IsWritable levels (suc n)) rows
 writable_more levels n rows h = All-weaker (IsWritable levels n) (IsWritable levels (suc n))
-    (λ row w. record { some = w.some; repeat = omega (arith, w.repeat); level = w.level; known = w.known; frame = w.frame }) rows h
+    (λ row w. record { says = w.says; some = w.some; repeat = omega (arith, w.repeat); level = w.level; known = w.known; frame = w.frame }) rows h
 
-writable_with : (levels : List Level) (level : Level) (path : List ℕ) (n : ℕ) (frame : List ℕ) (rows : List Row) → level_at levels path ≡ Some level
+writable_with : (levels : List Level) (level : Level) (path : List ℕ) (n : ℕ) (frame : List ℕ) (rows : List Form) → level_at levels path ≡ Some level
     → IsFrame level frame → All (IsWritable levels n) rows → All (IsWritable levels (suc n)) (with_frame path frame rows)
-writable_with levels level path n frame [] is f h = All-cons (IsWritable levels (suc n)) (path_row path 1 frame) []
-    (record { some = omega arith; repeat = omega arith; level = level; known = is; frame = f }) (All-nil (IsWritable levels (suc n)))
+writable_with levels level path n frame [] is f h = All-cons (IsWritable levels (suc n)) (counts_form path 1 frame) []
+    (record { says = refl; some = omega arith; repeat = omega arith; level = level; known = is; frame = f }) (All-nil (IsWritable levels (suc n)))
 writable_with levels level path n frame (row ∷ rows) is f h =
     let first = All-head (IsWritable levels n) row rows h in
-    elim (cases_Bool (bytes_eq frame row.counts)) [
-      | inl same ↦ rw same (All-cons (IsWritable levels (suc n)) (path_row path (suc row.repeat) frame) rows
-          (record { some = omega arith; repeat = omega (arith, first.repeat); level = level; known = is; frame = f })
+    elim (cases_Bool (bytes_eq frame row.numbers)) [
+      | inl same ↦ rw same (All-cons (IsWritable levels (suc n)) (counts_form path (suc row.repeat) frame) rows
+          (record { says = refl; some = omega arith; repeat = omega (arith, first.repeat); level = level; known = is; frame = f })
           (writable_more levels n rows (All-tail (IsWritable levels n) row rows h)))
-      | inr isnt ↦ rw isnt (All-cons (IsWritable levels (suc n)) (path_row path 1 frame) (row ∷ rows)
-          (record { some = omega arith; repeat = omega arith; level = level; known = is; frame = f })
+      | inr isnt ↦ rw isnt (All-cons (IsWritable levels (suc n)) (counts_form path 1 frame) (row ∷ rows)
+          (record { says = refl; some = omega arith; repeat = omega arith; level = level; known = is; frame = f })
           (writable_more levels n (row ∷ rows) h))
     ]
 
@@ -349,72 +400,86 @@ writable_longest levels level path (frame ∷ frames) is h = writable_with level
 
 -- ---- a schedule
 
-frame_of_row : (levels : List Level) (level : Level) (path : List ℕ) (row : Row) → AreLevels levels → level_at levels path ≡ Some level
-    → row.path ≡ path → IsRowOf levels row → IsFrame level row.counts
-frame_of_row levels level path row l is at h = record {
-  number = h.stores ∙ ap (stores_at levels) at ∙ stores_count levels path level is;
-  most = subst (λ len. All (λ count. count ≤ len) row.counts) (ap (len_at levels) at ∙ len_is levels path level is) h.most;
-}
+is_frame : (levels : List Level) (level : Level) (path : List ℕ) (row : Row) (n : ℕ) → level_at levels path ≡ Some level
+    → row.path ≡ path → IsRowOf levels row → IsFrame level (map (λ flow. flow_count flow n) row.flows)
+is_frame levels level path row n is at h =
+    let len : len_at levels row.path ≡ level.len = ap (len_at levels) at ∙ len_is levels path level is in
+    let most : All (λ (flow : Flow). flow_count flow n ≤ level.len) row.flows =
+    subst (λ len. All (λ (flow : Flow). flow_count flow n ≤ len) row.flows) len (λ k d m. h.most k d m n) in
+    record {
+      number = length-map row.flows (λ flow. flow_count flow n) ∙ h.stores ∙ ap (stores_at levels) at ∙ stores_count levels path level is;
+      most = All-map (λ count. count ≤ level.len) (λ (flow : Flow). flow_count flow n) row.flows most;
+    }
 
-frames_are : (levels : List Level) (level : Level) (path : List ℕ) (rows : List Row) → AreLevels levels → level_at levels path ≡ Some level
+frames_of_one : (levels : List Level) (level : Level) (path : List ℕ) (row : Row) → level_at levels path ≡ Some level
+    → row.path ≡ path → IsRowOf levels row → All (IsFrame level) (frames_of_row row)
+frames_of_one levels level path row is at h =
+    All-map (IsFrame level) (λ n. map (λ flow. flow_count flow n) row.flows) (range_with_len 0 row.repeat)
+    (All-from_get_or (λ n. IsFrame level (map (λ flow. flow_count flow n) row.flows)) (range_with_len 0 row.repeat) 0 (λ i l. is_frame levels level path row _ is at h))
+
+frames_are : (levels : List Level) (level : Level) (path : List ℕ) (rows : List Row) → level_at levels path ≡ Some level
     → All (IsRowOf levels) rows → All (IsFrame level) (frames_of rows path)
 unfolding frames_of
-frames_are levels level path [] l is h = All-nil (IsFrame level)
-frames_are levels level path (row ∷ rows) l is h =
+frames_are levels level path [] is h = All-nil (IsFrame level)
+frames_are levels level path (row ∷ rows) is h =
     let first = All-head (IsRowOf levels) row rows h in
-    let rest = frames_are levels level path rows l is (All-tail (IsRowOf levels) row rows h) in
+    let rest = frames_are levels level path rows is (All-tail (IsRowOf levels) row rows h) in
     elim (cases_Bool (same_path row.path path)) [
-      | inl same ↦ rw same (All-append (IsFrame level) (replicate row.repeat row.counts) (frames_of rows path)
-          (All-replicate (IsFrame level) row.repeat row.counts (frame_of_row levels level path row l is (same_path-true row.path path same) first)) rest)
+      | inl same ↦ rw same (All-append (IsFrame level) (frames_of_row row) (frames_of rows path)
+          (frames_of_one levels level path row is (same_path-true row.path path same) first) rest)
       | inr isnt ↦ rw isnt rest
     ]
 
 -- what is written of a node can be read
-node_writable : (levels : List Level) (rows : List Row) (path : List ℕ) → AreLevels levels → All (IsRowOf levels) rows → IsSome (level_at levels path)
+node_writable : (levels : List Level) (rows : List Row) (path : List ℕ) → All (IsRowOf levels) rows → IsSome (level_at levels path)
     → length (frames_of rows path) ≤ 999999999 → All (IsWritable levels 999999999) (longest_rows path (frames_of rows path))
-node_writable levels rows path l h some few =
+node_writable levels rows path h some few =
     let has = has_level (level_at levels path) some in
     All-weaker (IsWritable levels (length (frames_of rows path))) (IsWritable levels 999999999)
-    (λ row w. record { some = w.some; repeat = omega (arith, w.repeat); level = w.level; known = w.known; frame = w.frame }) (longest_rows path (frames_of rows path))
-    (writable_longest levels has.level path (frames_of rows path) has.is (frames_are levels has.level path rows l has.is h))
+    (λ row w. record { says = w.says; some = w.some; repeat = omega (arith, w.repeat); level = w.level; known = w.known; frame = w.frame }) (longest_rows path (frames_of rows path))
+    (writable_longest levels has.level path (frames_of rows path) has.is (frames_are levels has.level path rows has.is h))
 
-nodes_writable : (levels : List Level) (rows : List Row) (nodes : List (List ℕ)) → AreLevels levels → All (IsRowOf levels) rows
+nodes_writable : (levels : List Level) (rows : List Row) (nodes : List (List ℕ)) → All (IsRowOf levels) rows
     → ((path : List ℕ) → IsSome (level_at levels path) → length (frames_of rows path) ≤ 999999999) → All (λ path. IsSome (level_at levels path)) nodes
     → All (IsWritable levels 999999999) (flat_map (λ path. longest_rows path (frames_of rows path)) nodes)
-nodes_writable levels rows [] l h few known = All-nil (IsWritable levels 999999999)
-nodes_writable levels rows (path ∷ nodes) l h few known =
+nodes_writable levels rows [] h few known = All-nil (IsWritable levels 999999999)
+nodes_writable levels rows (path ∷ nodes) h few known =
     let some = All-head (λ path. IsSome (level_at levels path)) path nodes known in
     All-append (IsWritable levels 999999999) (longest_rows path (frames_of rows path)) (flat_map (λ path. longest_rows path (frames_of rows path)) nodes)
-    (node_writable levels rows path l h some (few path some))
-    (nodes_writable levels rows nodes l h few (All-tail (λ path. IsSome (level_at levels path)) path nodes known))
+    (node_writable levels rows path h some (few path some))
+    (nodes_writable levels rows nodes h few (All-tail (λ path. IsSome (level_at levels path)) path nodes known))
 
 -- the frames of what is written
 frames_written : (levels : List Level) (frames : List ℕ → List (List ℕ)) (path : List ℕ) → IsSome (level_at levels path)
-    → frames_of (rows_written levels frames) path ≡ frames path
+    → frames_of (map (row_in levels) (rows_written levels frames)) path ≡ frames path
 unfolding frames_of joined_rows
 frames_written levels frames path some =
     let at = placed levels path some in
     let place = place_of levels path in
-    let written = λ (path : List ℕ). longest_rows path (frames path) in
+    let longest = λ (path : List ℕ). longest_rows path (frames path) in
+    let written = λ (path : List ℕ). map (row_in levels) (longest path) in
+    let written_at = λ (path : List ℕ). meant_at levels path (longest path) (counts_longest path (frames path)) in
     let here : get_or (nodes_in levels) place [] ≡ path = at.node [] in
-    let rows : rows_at (rows_written levels frames) path ≡ written path =
-    rows_at-joined written (nodes_in levels) path
+    let rows : rows_at (map (row_in levels) (rows_written levels frames)) path ≡ written path =
+    ap (λ rows. rows_at rows path) (map_joined (row_in levels) longest (nodes_in levels))
+    ∙ rows_at-joined written (nodes_in levels) path
     ∙ only_at (λ node. rows_at (written node) path) (nodes_in levels) place [] at.inside
-    (λ j l other. rows_at_none (get_or (nodes_in levels) j []) path (written (get_or (nodes_in levels) j [])) (path_longest (get_or (nodes_in levels) j []) (frames (get_or (nodes_in levels) j [])))
+    (λ j l other. rows_at_none (get_or (nodes_in levels) j []) path (written (get_or (nodes_in levels) j [])) (written_at (get_or (nodes_in levels) j []))
     (λ same. other (sym (node_place levels j [] l) ∙ ap (place_of levels) same)))
     ∙ ap (λ node. rows_at (written node) path) here
-    ∙ rows_at_all path (written path) (path_longest path (frames path)) in
-    ap joined_rows rows ∙ joined_longest path (frames path)
+    ∙ rows_at_all path (written path) (written_at path) in
+    ap (flat_map frames_of_row) rows ∙ joined_meant levels path (longest path) (counts_longest path (frames path)) ∙ joined_longest path (frames path)
 
 pub reads_back : (levels : List Level) (rows : List Row) (text : List ℕ) → AreLevels levels → All (IsRowOf levels) rows
     → text ≡ text_of (record { levels = levels; rows = rows }) → ReadsBack (record { levels = levels; rows = rows }) text
 unfolding schedule_of text_with
 reads_back levels rows text l h e = λ short few.
     let written = rows_written levels (frames_of rows) in
-    let writable = nodes_writable levels rows (nodes_in levels) l h few (nodes_known levels) in
+    let meant = map (row_in levels) written in
+    let writable = nodes_writable levels rows (nodes_in levels) h few (nodes_known levels) in
     let long : nat_lt most_bytes (length text) ≡ false = le-ltb most_bytes (length text) short in
     let read = ap (λ b. cond b (Err (TooLong (length text))) (lines_judged levels (lines_of text))) long
     ∙ ap (λ text. lines_judged levels (lines_of text)) e
     ∙ ap (lines_judged levels) (lines_of_rows levels written l writable)
-    ∙ ap (λ read. read >>= λ rows. Ok (by_nodes levels rows)) (lines_judged_rows levels 1 written l writable) in
-    (by_nodes levels written, read, λ path some. frames_of-by_nodes levels written path some ∙ frames_written levels (frames_of rows) path some)
+    ∙ ap (λ read. read >>= λ rows. Ok (by_nodes levels rows)) (versions_judged_rows levels written l writable) in
+    (by_nodes levels meant, read, λ path some. frames_of-by_nodes levels meant path some ∙ frames_written levels (frames_of rows) path some)

@@ -1,7 +1,7 @@
 -- What a tree answers about its nodes.
 use Rattle.std.proofs.Common.{◌≡◌, ℕ, ◌*◌, ◌<◌, ◌≤◌, List, [], ◌∷◌, length, get_or, All, IsSome, ap, sym, ◌∙◌, subst, arith, slice_index}
 use Rattle.std.specs.List.{flat_map, slice_index_or}
-use Rattle.std.proofs.lemmas.List.Elements.{All-nil, All-append, All-head, All-tail}
+use Rattle.std.proofs.lemmas.List.Elements.{All-nil, All-append, All-get_or, All-head, All-tail}
 use Rattle.pdh_shape.specs.declared.place.Level.{Level}
 use Rattle.pdh_line.specs.Progress.{arrived}
 use Rattle.pdh_rows.specs.Rows.{node_frames, node_counts}
@@ -9,12 +9,27 @@ use Rattle.pdh_rows.specs.Stored.{rows_of}
 use Rattle.pdh_rows.specs.declared.table.Table.{Table}
 use Rattle.pdh_clock.specs.declared.tree.NodeRows.{NodeRows}
 use Rattle.pdh_clock.specs.declared.tree.Tree.{Tree}
-use Rattle.pdh_levels.specs.Levels.{len_at, level_at, nodes_in, place_of}
+use Rattle.pdh_levels.specs.Levels.{IsLevel, len_at, level_at, stores_at, most_tributaries, nodes_in, place_of}
+use Rattle.pdh_levels.proofs.LevelLaws.{has_level, level_is, stores_count, stores_few}
 use Rattle.pdh_clock.specs.Contents.{IsRowOf, frames_of, frame_count, counts}
-use Rattle.pdh_clock.specs.Stored.{IsNode, IsTree, node_rows, rows_in, most_node_frames}
+use Rattle.pdh_clock.specs.Stored.{IsNode, IsTree, node_path, node_rows, rows_in, most_node_frames}
 use Rattle.pdh_clock.proofs.Laws.{counts_most, arrived_most}
-use Rattle.pdh_clock.proofs.Trees.{length-nodes, path_of_node, frames_of_node, node_at, place_inside}
+use Rattle.pdh_clock.proofs.Trees.{length-nodes, known_node, path_of_node, frames_of_node, node_at, place_inside}
 use Rattle.pdh_rows.proofs.Tabled.{node_frame_count-row_frames}
+
+-- a node has few stores
+pub stores_at_few : (levels : List Level) (path : List ℕ) → All IsLevel levels → IsSome (level_at levels path) → stores_at levels path ≤ most_tributaries
+stores_at_few levels path each some =
+    let has = has_level (level_at levels path) some in
+    let most = (level_is levels path has.level each has.is).most in
+    omega (arith, stores_count levels path has.level has.is, stores_few has.level, most)
+
+-- nor has one that is stored
+pub tribs_few : (tree : Tree) (k : ℕ) (d : NodeRows) → IsTree tree → k < length tree.nodes.items → (get_or tree.nodes.items k d).table.tribs ≤ most_tributaries
+tribs_few tree k d h l =
+    let node = get_or tree.nodes.items k d in
+    let is = All-get_or (IsNode tree.levels.items) tree.nodes.items k d l h.each in
+    omega (arith, is.tribs, stores_at_few tree.levels.items (node_path node) h.levels_are.each (known_node tree k d h l))
 
 nodes_sound : (levels : List Level) (nodes : List NodeRows) → All (IsNode levels) nodes → All (IsRowOf levels) (flat_map node_rows nodes)
 nodes_sound levels [] h = All-nil (IsRowOf levels)

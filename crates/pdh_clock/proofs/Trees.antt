@@ -1,19 +1,18 @@
 -- The rows of nodes, by node and all in order.
 use Rattle.std.proofs.Common.{◌≡◌, ℕ, ◌+◌, ◌<◌, ◌≤◌, arith, ◌==◌, Bool, true, false, cond, List, [], ◌∷◌, ◌++◌, length, get_or, take, map, set, IsSome, All, ◌⊎◌, inl, inr, refl, ap, sym, ◌∙◌, subst, append-nil}
-use Rattle.std.specs.Prelude.{replicate}
 use Rattle.std.specs.List.{flat_map}
 use Rattle.std.proofs.lemmas.Bool.{cases_Bool, eq-eqb, eqb-true, eqb-false}
 use Rattle.std.proofs.lemmas.List.{length-map, length-set, get_or-map, get_or-set_same, get_or-set_other, map-set, set-get_or, map_push, take_more}
 use Rattle.std.proofs.lemmas.List.Elements.{All-nil, All-cons, All-push, All-head, All-tail, All-set, All-get_or, All-weaker, filter-append}
 use Rattle.pdh_shape.specs.declared.place.Level.{Level}
-use Rattle.pdh_rows.specs.Rows.{NodeRow, node_frames}
-use Rattle.pdh_rows.specs.Stored.{IsTable, rows_of, node_row, row_frames}
+use Rattle.pdh_rows.specs.Rows.{NodeRow, frames_in, node_frames}
+use Rattle.pdh_rows.specs.Stored.{IsTable, rows_of, row_frames}
 use Rattle.pdh_clock.specs.declared.tree.NodeRows.{NodeRows}
 use Rattle.pdh_clock.specs.declared.tree.Tree.{Tree}
 use Rattle.pdh_clock.specs.Row.{Row}
 use Rattle.pdh_levels.specs.Levels.{AreLevels, level_at, nodes_in, stores_at, place_of}
-use Rattle.pdh_clock.specs.Contents.{IsRowOf, rows_at, by_nodes, frames_of, same_path}
-use Rattle.pdh_clock.specs.Stored.{IsNode, IsTree, at_path, path_row, node_path, node_rows, rows_in, most_node_frames}
+use Rattle.pdh_clock.specs.Contents.{IsRowOf, rows_at, by_nodes, frames_of_row, frames_of, same_path}
+use Rattle.pdh_clock.specs.Stored.{IsNode, IsTree, at_path, ratio_at, node_path, node_rows, rows_in, most_node_frames}
 use Rattle.pdh_clock.proofs.Laws.{same_path-true}
 use Rattle.pdh_levels.proofs.NodeOrder.{only_at, node_place, nodes_known, placed}
 
@@ -84,7 +83,7 @@ pub frames_of-by_nodes : (levels : List Level) (rows : List Row) (path : List �
     → frames_of (by_nodes levels rows) path ≡ frames_of rows path
 unfolding frames_of
 frames_of-by_nodes levels rows path some =
-    ap (λ rows. flat_map (λ (row : Row). replicate row.repeat row.counts) rows) (rows_at-by_nodes levels rows path some)
+    ap (flat_map frames_of_row) (rows_at-by_nodes levels rows path some)
 
 -- ---- the rows of a tree
 
@@ -130,17 +129,16 @@ rows_of_node tree k d h l =
     (λ same. other (sym (place_of_node tree j d h m) ∙ ap (place_of tree.levels.items) same ∙ place_of_node tree k d h l)))
     ∙ rows_at_all path (node_rows (get_or nodes k d)) (at_path-paths path (rows_of (get_or nodes k d).table))
 
-frames_at_path : (path : List ℕ) (rows : List NodeRow)
-    → flat_map (λ (row : Row). replicate row.repeat row.counts) (map (at_path path) rows) ≡ node_frames rows
+frames_at_path : (path : List ℕ) (rows : List NodeRow) → flat_map frames_of_row (map (at_path path) rows) ≡ node_frames rows
 unfolding node_frames
 frames_at_path path [] = refl
-frames_at_path path (row ∷ rows) = ap (λ frames. replicate row.repeat row.counts ++ frames) (frames_at_path path rows)
+frames_at_path path (row ∷ rows) = ap (λ frames. frames_in row ++ frames) (frames_at_path path rows)
 
 pub frames_of_node : (tree : Tree) (k : ℕ) (d : NodeRows) → IsTree tree → k < length tree.nodes.items
     → frames_of (rows_in tree) (node_path (get_or tree.nodes.items k d)) ≡ node_frames (rows_of (get_or tree.nodes.items k d).table)
 unfolding frames_of
 frames_of_node tree k d h l =
-    ap (λ rows. flat_map (λ (row : Row). replicate row.repeat row.counts) rows) (rows_of_node tree k d h l)
+    ap (flat_map frames_of_row) (rows_of_node tree k d h l)
     ∙ frames_at_path (node_path (get_or tree.nodes.items k d)) (rows_of (get_or tree.nodes.items k d).table)
 
 -- the node that is found at the place of a path
@@ -272,12 +270,14 @@ rows_added old new path node row rows h c some at more known =
 -- a node that has no row yet
 pub record IsEmptyNode (levels : List Level) (node : NodeRows) : Type 0 where
   pub stored : IsTable node.table
+  pub ratio : node.table.ratio ≡ ratio_at levels (node_path node)
   pub tribs : node.table.tribs ≡ stores_at levels (node_path node)
   pub none : rows_of node.table ≡ []
 
 empty_is_node : (levels : List Level) (node : NodeRows) → IsEmptyNode levels node → IsNode levels node
 empty_is_node levels node h = record {
   stored = h.stored;
+  ratio = h.ratio;
   tribs = h.tribs;
   frames_few = subst (λ rows. row_frames rows ≤ most_node_frames) (sym h.none) (omega arith);
   rows = subst (λ rows. All (IsRowOf levels) (map (at_path (node_path node)) rows)) (sym h.none) (All-nil (IsRowOf levels));
@@ -309,49 +309,51 @@ paths_more levels nodes node k inside paths at =
 -- ---- one more row at a node
 
 -- the node is found, and a row is put behind its rows
-pub record PutsRow (tree : Tree) (path : List ℕ) (node more : NodeRows) (repeat : ℕ) (counts : List ℕ) : Type 0 where
+pub record PutsRow (tree : Tree) (path : List ℕ) (node more : NodeRows) (row : NodeRow) : Type 0 where
   pub some : IsSome (level_at tree.levels.items path)
   pub found : IsNodeAt tree path node
   pub path_is : node_path more ≡ path
   pub stored : IsTable more.table
+  pub ratio : more.table.ratio ≡ node.table.ratio
   pub tribs : more.table.tribs ≡ node.table.tribs
-  pub rows : rows_of more.table ≡ rows_of node.table ++ node_row repeat counts ∷ []
+  pub rows : rows_of more.table ≡ rows_of node.table ++ row ∷ []
   pub frames_few : row_frames (rows_of more.table) ≤ most_node_frames
-  pub sound : IsRowOf tree.levels.items (path_row path repeat counts)
+  pub sound : IsRowOf tree.levels.items (at_path path row)
 
-pub node_put : (tree : Tree) (path : List ℕ) (node more : NodeRows) (repeat : ℕ) (counts : List ℕ) → PutsRow tree path node more repeat counts
-    → node_rows more ≡ node_rows node ++ path_row path repeat counts ∷ []
-node_put tree path node more repeat counts p =
+pub node_put : (tree : Tree) (path : List ℕ) (node more : NodeRows) (row : NodeRow) → PutsRow tree path node more row
+    → node_rows more ≡ node_rows node ++ at_path path row ∷ []
+node_put tree path node more row p =
     ap (λ path. map (at_path path) (rows_of more.table)) (p.path_is ∙ sym p.found.path_is)
-    ∙ ap (map (at_path (node_path node))) p.rows ∙ map_push (at_path (node_path node)) (rows_of node.table) (node_row repeat counts)
-    ∙ ap (λ path. node_rows node ++ path_row path repeat counts ∷ []) p.found.path_is
+    ∙ ap (map (at_path (node_path node))) p.rows ∙ map_push (at_path (node_path node)) (rows_of node.table) row
+    ∙ ap (λ path. node_rows node ++ at_path path row ∷ []) p.found.path_is
 
-pub is_node_put : (tree : Tree) (path : List ℕ) (node more : NodeRows) (repeat : ℕ) (counts : List ℕ) → PutsRow tree path node more repeat counts
+pub is_node_put : (tree : Tree) (path : List ℕ) (node more : NodeRows) (row : NodeRow) → PutsRow tree path node more row
     → IsNode tree.levels.items more
-is_node_put tree path node more repeat counts p = record {
+is_node_put tree path node more row p = record {
   stored = p.stored;
+  ratio = p.ratio ∙ p.found.node_is.ratio ∙ ap (ratio_at tree.levels.items) (p.found.path_is ∙ sym p.path_is);
   tribs = p.tribs ∙ p.found.node_is.tribs ∙ ap (stores_at tree.levels.items) (p.found.path_is ∙ sym p.path_is);
   frames_few = p.frames_few;
-  rows = subst (All (IsRowOf tree.levels.items)) (sym (node_put tree path node more repeat counts p))
-      (All-push (IsRowOf tree.levels.items) (node_rows node) (path_row path repeat counts) p.found.node_is.rows p.sound);
+  rows = subst (All (IsRowOf tree.levels.items)) (sym (node_put tree path node more row p))
+      (All-push (IsRowOf tree.levels.items) (node_rows node) (at_path path row) p.found.node_is.rows p.sound);
 }
 
-pub changes_put : (tree new : Tree) (path : List ℕ) (node more : NodeRows) (repeat : ℕ) (counts : List ℕ) → IsTree tree → PutsRow tree path node more repeat counts
+pub changes_put : (tree new : Tree) (path : List ℕ) (node more : NodeRows) (row : NodeRow) → IsTree tree → PutsRow tree path node more row
     → new.levels.items ≡ tree.levels.items → new.nodes.items ≡ set tree.nodes.items (place_of tree.levels.items path) more
     → Changes tree new (place_of tree.levels.items path) more
-changes_put tree new path node more repeat counts h p levels nodes = record {
+changes_put tree new path node more row h p levels nodes = record {
   levels = levels;
   nodes = nodes;
   inside = place_inside tree path h p.some;
   path = λ d. p.path_is ∙ sym (node_at tree path d h p.some).path_is;
-  node_is = is_node_put tree path node more repeat counts p;
+  node_is = is_node_put tree path node more row p;
 }
 
 -- a row is put behind the others of its node
-pub rows_put : (tree new : Tree) (path : List ℕ) (node more : NodeRows) (repeat : ℕ) (counts : List ℕ) → IsTree tree → PutsRow tree path node more repeat counts
+pub rows_put : (tree new : Tree) (path : List ℕ) (node more : NodeRows) (row : NodeRow) → IsTree tree → PutsRow tree path node more row
     → new.levels.items ≡ tree.levels.items → new.nodes.items ≡ set tree.nodes.items (place_of tree.levels.items path) more
     → (rows : List Row) → rows_in tree ≡ by_nodes tree.levels.items rows
-    → rows_in new ≡ by_nodes tree.levels.items (rows ++ path_row path repeat counts ∷ [])
-rows_put tree new path node more repeat counts h p levels nodes rows known =
-    rows_added tree new path more (path_row path repeat counts) rows h (changes_put tree new path node more repeat counts h p levels nodes) p.some refl
-    (node_put tree path node more repeat counts p ∙ ap (λ rs. rs ++ path_row path repeat counts ∷ []) (sym p.found.rows_are)) known
+    → rows_in new ≡ by_nodes tree.levels.items (rows ++ at_path path row ∷ [])
+rows_put tree new path node more row h p levels nodes rows known =
+    rows_added tree new path more (at_path path row) rows h (changes_put tree new path node more row h p levels nodes) p.some refl
+    (node_put tree path node more row p ∙ ap (λ rs. rs ++ at_path path row ∷ []) (sym p.found.rows_are)) known

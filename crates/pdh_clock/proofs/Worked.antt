@@ -1,11 +1,12 @@
 -- The definitions on worked texts.
-use Rattle.std.proofs.Common.{◌≡◌, ℕ, List, [], ◌∷◌, ◌++◌, length, take, Some, None, Result, Ok, Err, refl}
+use Rattle.std.proofs.Common.{◌≡◌, ℕ, List, [], ◌∷◌, ◌++◌, length, map, take, Some, None, Result, Ok, Err, refl}
 use Rattle.std.specs.Prelude.{codes, replicate}
 use Rattle.pdh_levels.proofs.Worked.{e2, e3, e4, ds3_locked, ds2_locked}
 use Rattle.pdh_clock.specs.declared.fault.ScheduleFault.{ScheduleFault}
 use Rattle.pdh_clock.specs.declared.fault.ScheduleFault.TheVariants.{BadRow, UnknownNode, CountOver}
 use Rattle.pdh_line.specs.Progress.{arrived}
 use Rattle.pdh_clock.specs.Text.{lines_of, words_of, number_of, path_of}
+use Rattle.pdh_rows.specs.Flows.{each}
 use Rattle.pdh_clock.specs.Row.{Row}
 use Rattle.pdh_line.specs.Nodes.{entered_at}
 use Rattle.pdh_levels.specs.Levels.{nodes_in, size_of, place_of}
@@ -20,9 +21,13 @@ line bytes = bytes ++ 10 ∷ []
 abbrev read : List ℕ → Result (List Row) ScheduleFault
 read text = schedule_of (e2 ∷ []) text
 
--- a row of the top
+-- a row whose frames have the same counts
+abbrev row_at : List ℕ → ℕ → List ℕ → Row
+row_at path repeat counts = record { path = path; repeat = repeat; flows = map each counts }
+
+-- one of the top
 abbrev row : ℕ → List ℕ → Row
-row repeat counts = record { path = []; repeat = repeat; counts = counts }
+row repeat counts = row_at [] repeat counts
 
 -- ---- lines, words, numbers and paths
 
@@ -103,7 +108,7 @@ blanks = (refl, refl, refl)
 
 -- two rows of the top and one of another node
 abbrev rows : List Row
-rows = row 2 (206 ∷ 205 ∷ []) ∷ record { path = 1 ∷ []; repeat = 5; counts = 7 ∷ 7 ∷ [] } ∷ row 1 (3 ∷ 4 ∷ []) ∷ []
+rows = row 2 (206 ∷ 205 ∷ []) ∷ row_at (1 ∷ []) 5 (7 ∷ 7 ∷ []) ∷ row 1 (3 ∷ 4 ∷ []) ∷ []
 
 joined_rows : frames_of rows [] ≡ (206 ∷ 205 ∷ []) ∷ (206 ∷ 205 ∷ []) ∷ (3 ∷ 4 ∷ []) ∷ []
 unfolding frames_of
@@ -133,7 +138,7 @@ places_of_nodes = (refl, refl, refl)
 
 -- the rows of the top are joined, and those of its first tributary follow
 rows_by_nodes : by_nodes (e3 ∷ e2 ∷ []) rows
-    ≡ row 2 (206 ∷ 205 ∷ []) ∷ row 1 (3 ∷ 4 ∷ []) ∷ record { path = 1 ∷ []; repeat = 5; counts = 7 ∷ 7 ∷ [] } ∷ []
+    ≡ row 2 (206 ∷ 205 ∷ []) ∷ row 1 (3 ∷ 4 ∷ []) ∷ row_at (1 ∷ []) 5 (7 ∷ 7 ∷ []) ∷ []
 rows_by_nodes = refl
 
 -- three frames of a 34368 kbit/s top that brings 377 bits a frame begin two frames of its first tributary: 48 + 3 · 377 = 1179 bits
@@ -161,7 +166,7 @@ locked_rows = (refl, refl, refl, refl)
 
 -- seventeen frames of the top, and ten of a node below it
 abbrev locked_top : Contents
-locked_top = record { levels = ds3_locked ∷ ds2_locked ∷ []; rows = row 17 [] ∷ record { path = 1 ∷ []; repeat = 10; counts = replicate 4 288 } ∷ [] }
+locked_top = record { levels = ds3_locked ∷ ds2_locked ∷ []; rows = row 17 [] ∷ row_at (1 ∷ []) 10 (replicate 4 288) ∷ [] }
 
 -- the node makes 17 · 671 = 11407 bits, which are 9 frames and 823 bits of a tenth one
 bits_below_locked : (bits_made locked_top 17 (1 ∷ []) ≡ 11407) × (frames_begun locked_top 17 (1 ∷ []) ≡ 10) × (frames_begun locked_top 17 (2 ∷ []) ≡ 10)

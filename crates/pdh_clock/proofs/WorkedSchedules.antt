@@ -1,5 +1,5 @@
 -- Worked schedules, computed by the checker.
-use Rattle.std.proofs.Common.{◌≡◌, List, [], ◌∷◌, refl}
+use Rattle.std.proofs.Common.{◌≡◌, List, [], ◌∷◌, map, refl}
 use Rattle.std.specs.Prelude.{replicate, codes}
 use Rattle.std.specs.Fmt.{digits}
 use Rattle.pdh_levels.proofs.Worked.{e2, e3, ds3_locked, ds2_locked}
@@ -9,6 +9,8 @@ use Rattle.pdh_clock.specs.declared.bias.Bias.{Bias}
 use Rattle.pdh_clock.specs.declared.bias.Offset.{Offset}
 use Rattle.pdh_clock.specs.Making.{line_at}
 use Rattle.pdh_line.specs.Progress.{arrived}
+use Rattle.pdh_rows.specs.Flows.{each}
+use Rattle.pdh_clock.specs.Row.{row_of}
 use Rattle.pdh_clock.specs.Contents.{frames_of}
 use Rattle.pdh_clock.specs.Made.{made, made_frames, offset_of, tributary_offset}
 use Rattle.pdh_clock.specs.Written.{longest_rows, text_of, text_with}
@@ -18,7 +20,7 @@ pub nominal_frames : made (e2 ∷ []) Nominal 3 [] ≡ replicate 4 205 ∷ repli
 unfolding made made_frames
 nominal_frames = refl
 
-pub nominal_text : text_of (record { levels = e2 ∷ []; rows = longest_rows [] (replicate 4 205 ∷ replicate 4 206 ∷ replicate 4 206 ∷ []) }) ≡ codes "/ 1 205 205 205 205\n/ 2 206 206 206 206\n"
+pub nominal_text : text_of (record { levels = e2 ∷ []; rows = map (row_of (each 0)) (longest_rows [] (replicate 4 205 ∷ replicate 4 206 ∷ replicate 4 206 ∷ [])) }) ≡ codes "/ 1 205 205 205 205\n/ 2 206 206 206 206\n"
 unfolding text_with frames_of digits
 nominal_text = refl
 

@@ -1,7 +1,9 @@
 -- A schedule as its callers see it, and the counts that it gives a node.
-use Rattle.std.specs.Prelude.{◌≡◌, ℕ, ◌<◌, ◌≤◌, ◌==◌, ◌&&◌, Bool, true, false, List, [], ◌∷◌, All, IsSome, length, filter, replicate, slice_index}
+use Rattle.std.specs.Prelude.{◌≡◌, ℕ, ◌<◌, ◌≤◌, ◌==◌, ◌&&◌, Bool, true, false, List, [], ◌∷◌, All, IsSome, length, filter, slice_index}
 use Rattle.std.specs.List.{flat_map, slice_index_or}
 use Rattle.pdh_shape.specs.declared.place.Level.{Level}
+use Rattle.pdh_rows.specs.Flows.{flow_count}
+use Rattle.pdh_rows.specs.Rows.{frames_in}
 use Rattle.pdh_clock.specs.Row.{Row}
 use Rattle.pdh_levels.specs.Levels.{nodes_in, level_at, stores_at, len_at}
 
@@ -10,12 +12,12 @@ pub record Contents : Type 0 where
   pub levels : List Level
   pub rows : List Row
 
--- a row of a node of the levels: it is of some frames, and each store has a count that is no more than the bits of a frame
+-- a row of a node of the levels: it is of some frames, and each store has a flow, which brings a frame no more than its bits
 pub record IsRowOf (levels : List Level) (row : Row) : Type 0 where
   pub node : IsSome (level_at levels row.path)
   pub some_frames : 0 < row.repeat
-  pub stores : length row.counts ≡ stores_at levels row.path
-  pub most : All (λ count. count ≤ len_at levels row.path) row.counts
+  pub stores : length row.flows ≡ stores_at levels row.path
+  pub most : All (λ flow. (n : ℕ) → flow_count flow n ≤ len_at levels row.path) row.flows
 
 -- two paths are the same
 abbrev pub same_path : List ℕ → List ℕ → Bool
@@ -31,9 +33,13 @@ rows_at rows path = filter (λ row. same_path row.path path) rows
 abbrev pub by_nodes : List Level → List Row → List Row
 by_nodes levels rows = flat_map (rows_at rows) (nodes_in levels)
 
--- the counts of each frame of the node at a path: the counts of its rows, each as often as the row says
+-- the counts of each frame of a row
+abbrev pub frames_of_row : Row → List (List ℕ)
+frames_of_row row = frames_in (record { repeat = row.repeat; flows = row.flows })
+
+-- those of each frame of the node at a path
 unfoldable pub frames_of : List Row → List ℕ → List (List ℕ)
-frames_of rows path = flat_map (λ row. replicate row.repeat row.counts) (rows_at rows path)
+frames_of rows path = flat_map frames_of_row (rows_at rows path)
 
 -- how many frames the node has
 abbrev pub frame_count : List Row → List ℕ → ℕ

@@ -1,5 +1,6 @@
 pub mod Text
 pub mod Row
+pub mod RateWords
 pub mod Judged
 pub mod Contents
 pub mod Begun
@@ -9,3 +10,4 @@ pub mod Made
 pub mod Making
 pub mod Rates
 pub mod Written
+pub mod Runs

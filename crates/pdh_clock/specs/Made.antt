@@ -1,5 +1,5 @@
 -- Schedules made from rates and clock offsets. The offsets are this project's own profile.
-use Rattle.std.specs.Prelude.{◌≡◌, true, ℕ, ◌<◌, ◌≤◌, ◌^◌, suc, ◌+◌, ◌-◌, ◌*◌, ◌/◌, ◌%◌, ◌==◌, ◌&&◌, nat_le, if◌then◌else◌, List, [], ◌∷◌, length, map}
+use Rattle.std.specs.Prelude.{◌≡◌, true, ℕ, ◌<◌, ◌≤◌, ◌^◌, suc, ◌-◌, ◌*◌, ◌/◌, ◌%◌, ◌==◌, ◌&&◌, nat_le, if◌then◌else◌, List, [], ◌∷◌, length, map}
 use Rattle.std.specs.List.{range_with_len}
 use Rattle.pdh_shape.specs.declared.place.Level.{Level}
 use Rattle.pdh_clock.specs.declared.bias.Bias.{Bias}
@@ -7,18 +7,12 @@ use Rattle.pdh_clock.specs.declared.bias.Bias.TheVariants.{Nominal, Fast, Slow, 
 use Rattle.pdh_clock.specs.declared.bias.Offset.{Offset}
 use Rattle.pdh_clock.specs.declared.bias.Offset.TheVariants.{Exact, Ahead, Behind}
 use Rattle.pdh_levels.specs.Levels.{IsElastic, level_stores}
+use Rattle.pdh_clock.specs.RateWords.{fast, slow}
 use Rattle.pdh_clock.specs.Begun.{taken, top_len}
 use Rattle.pdh_line.specs.Progress.{begun_by}
 use Rattle.pdh_shape.specs.OwnNumbers.{most_frames}
 
--- the rate of a stream that is so many parts per million fast or slow, as a multiple of a millionth of its nominal rate
-abbrev pub fast : ℕ → ℕ
-fast ppm = 1000000 + ppm
-
-abbrev pub slow : ℕ → ℕ
-slow ppm = 1000000 - ppm
-
--- the same by the stream's offset
+-- the rate of a stream by its offset, as a multiple of a millionth of its nominal rate
 abbrev pub scale_of : Offset → ℕ → ℕ
 scale_of Exact ppm = 1000000
 scale_of Ahead ppm = fast ppm
@@ -76,7 +70,7 @@ most_made = 8 * most_frames
 -- carries at least and at most. Without stores each frame carries exactly the bits that arrive in its time.
 pub record IsRated (level : Level) : Type 0 where
   pub some_rate : 0 < level.rate * level.trib_per
-  pub few : level.rate * level.trib_per < 2 ^ 64
+  pub few : level.rate * level.trib_per < 2 ^ 55
   pub half : 2 * (level.trib_rate * level.per) ≤ level.rate * level.trib_per
   pub offset : level.ppm ≤ 1000
   pub trib_offset : level.trib_ppm ≤ 1000

@@ -1,8 +1,10 @@
 -- What a parser of a line keeps of what it reads.
 use Rattle.std.specs.Prelude.{◌≡◌, ℕ, ◌+◌, List, [], length, take, Option, Some, None}
-use Rattle.pdh_clock.specs.declared.row.Counts.{Counts}
 use Rattle.pdh_clock.specs.declared.row.FoundRow.{FoundRow}
-use Rattle.pdh_clock.specs.Row.{Row}
+use Rattle.pdh_clock.specs.declared.row.Numbers.{Numbers}
+use Rattle.pdh_clock.specs.declared.row.Version.{Version}
+use Rattle.pdh_clock.specs.declared.row.Version.TheVariants.{First, Second}
+use Rattle.pdh_clock.specs.Row.{Form}
 use Rattle.pdh_levels.specs.Levels.{most_tributaries}
 use Rattle.pdh_line.specs.Paths.{steps_of}
 use Rattle.pdh_clock.specs.Text.{words_of}
@@ -23,16 +25,26 @@ abbrev pub left_len : Option (List ℕ) → ℕ
 left_len None = 0
 left_len (Some line) = 1 + length line
 
--- how many counts there are, and the first ones, as many as a node has tributaries at most
-pub record AreCounts (found : Counts) (counts : List ℕ) : Type 0 where
-  pub number : found.number ≡ length counts
-  pub first : take found.number found.first ≡ take most_tributaries counts
+-- how many numbers there are, and the first ones, as many as a node has tributaries at most
+pub record AreNumbers (found : Numbers) (numbers : List ℕ) : Type 0 where
+  pub number : found.number ≡ length numbers
+  pub first : take found.number found.first ≡ take most_tributaries numbers
 
-pub record IsRow (found : FoundRow) (row : Row) : Type 0 where
-  pub path : steps_of found.path ≡ row.path
-  pub repeat : found.repeat ≡ row.repeat
-  pub counts : AreCounts found.counts row.counts
+pub record IsForm (found : FoundRow) (form : Form) : Type 0 where
+  pub path : steps_of found.path ≡ form.path
+  pub repeat : found.repeat ≡ form.repeat
+  pub says : found.says ≡ form.says
+  pub numbers : AreNumbers found.numbers form.numbers
 
--- a row that was found, where it has no more counts than a node has tributaries at most
-abbrev pub row_found : FoundRow → Row
-row_found found = record { path = steps_of found.path; repeat = found.repeat; counts = take found.counts.number found.counts.first }
+-- the first numbers, where there are no more than a node has tributaries at most
+abbrev pub numbers_found : Numbers → List ℕ
+numbers_found found = take found.number found.first
+
+-- what a row that was found says, where it has no more numbers
+abbrev pub form_found : FoundRow → Form
+form_found found = record { path = steps_of found.path; repeat = found.repeat; says = found.says; numbers = numbers_found found.numbers }
+
+-- how many lines say the version of a text
+abbrev pub lines_before : Version → ℕ
+lines_before First = 0
+lines_before Second = 1

@@ -28,12 +28,12 @@ is_number (digit ∷ digits) = list_all is_ascii_digit (digit ∷ digits) && nat
 abbrev pub number_of : List ℕ → Option ℕ
 number_of word = if is_number word then Some (digits_value word) else None
 
--- the numbers that words write, where each word is one
-abbrev pub numbers_of : List (List ℕ) → Option (List ℕ)
-numbers_of [] = Some []
-numbers_of (word ∷ words) = do
-  number ← number_of word
-  numbers ← numbers_of words
+-- the numbers that words write, where each word writes one in that way
+abbrev pub each_of : (List ℕ → Option ℕ) → List (List ℕ) → Option (List ℕ)
+each_of read [] = Some []
+each_of read (word ∷ words) = do
+  number ← read word
+  numbers ← each_of read words
   Some (number ∷ numbers)
 
 -- a step of a path: a slash, 47, and a digit 1 to 9, 49 to 57

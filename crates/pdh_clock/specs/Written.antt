@@ -4,35 +4,34 @@ use Rattle.std.specs.List.{flat_map}
 use Rattle.std.specs.Str.{bytes_eq}
 use Rattle.pdh_shape.specs.declared.place.Level.{Level}
 use Rattle.pdh_line.specs.Paths.{path_text}
-use Rattle.pdh_clock.specs.Row.{Row}
+use Rattle.pdh_clock.specs.Row.{Form, Row, counts_form}
 use Rattle.pdh_levels.specs.Levels.{level_at, nodes_in}
 use Rattle.pdh_clock.specs.Contents.{Contents, frames_of, frame_count}
 use Rattle.pdh_clock.specs.Judged.{schedule_of}
 use Rattle.pdh_shape.specs.OwnNumbers.{most_bytes}
 
 -- one more frame before rows that begin, or don't, with equal frames
-abbrev pub with_frame : List ℕ → List ℕ → List Row → List Row
-with_frame path frame [] = record { path = path; repeat = 1; counts = frame } ∷ []
+abbrev pub with_frame : List ℕ → List ℕ → List Form → List Form
+with_frame path frame [] = counts_form path 1 frame ∷ []
 with_frame path frame (row ∷ rows) =
-    if bytes_eq frame row.counts then record { path = path; repeat = suc row.repeat; counts = frame } ∷ rows
-    else record { path = path; repeat = 1; counts = frame } ∷ row ∷ rows
+    if bytes_eq frame row.numbers then counts_form path (suc row.repeat) frame ∷ rows else counts_form path 1 frame ∷ row ∷ rows
 
 -- the rows of frames of the node at a path, one for each longest run of equal frames
-abbrev pub longest_rows : List ℕ → List (List ℕ) → List Row
+abbrev pub longest_rows : List ℕ → List (List ℕ) → List Form
 longest_rows path [] = []
 longest_rows path (frame ∷ frames) = with_frame path frame (longest_rows path frames)
 
 -- the rows of all nodes in order, where the node at each path has these frames
-abbrev pub rows_written : List Level → (List ℕ → List (List ℕ)) → List Row
+abbrev pub rows_written : List Level → (List ℕ → List (List ℕ)) → List Form
 rows_written levels frames = flat_map (λ path. longest_rows path (frames path)) (nodes_in levels)
 
 -- numbers in decimal, each behind a space, 32
 abbrev pub number_words : List ℕ → List ℕ
 number_words numbers = flat_map (λ number. 32 ∷ decimal number) numbers
 
--- the line of a row, with its line feed, 10
-abbrev pub row_line : Row → List ℕ
-row_line row = path_text row.path ++ number_words (row.repeat ∷ row.counts) ++ 10 ∷ []
+-- the line of a row of counts, with its line feed, 10
+abbrev pub row_line : Form → List ℕ
+row_line row = path_text row.path ++ number_words (row.repeat ∷ row.numbers) ++ 10 ∷ []
 
 -- the text of a schedule in which the node at each path has these frames
 unfoldable pub text_with : List Level → (List ℕ → List (List ℕ)) → List ℕ

@@ -28,14 +28,14 @@ pub enum Offset {
 
 impl Offset {
     /// The rate of a stream, as a multiple of a millionth of its nominal rate.
-    pub fn scale(self, ppm: u32) -> u128
+    pub fn scale(self, ppm: u32) -> u32
         requires { ppm ≤ 1000 }
         ensures { result ≡ scale_of self ppm }
     {
         match self {
             Offset::Exact => 1_000_000,
-            Offset::Ahead => 1_000_000 + u128::from(ppm),
-            Offset::Behind => 1_000_000 - u128::from(ppm),
+            Offset::Ahead => 1_000_000 + ppm,
+            Offset::Behind => 1_000_000 - ppm,
         }
     }
 

@@ -1,16 +1,18 @@
 //! The judgement of a line of a schedule.
 
-ghost use Rattle.std.specs.Prelude.{◌≡◌, ◌+◌, ◌*◌, ◌≤◌, ◌<◌, ◌^◌, ℕ, List, ◌∷◌, length, nat_lt, find, IfNone, IfOk, OnOk, All};
-ghost use Rattle.pdh_clock.specs.Judged.{Gives, is_passed_over as passed_over, stores_judged, row_judged};
-ghost use Rattle.pdh_clock.specs.Parsed.{IsRow, row_found};
-ghost use Rattle.pdh_clock.specs.Row.{Row};
+ghost use Rattle.std.specs.Prelude.{◌≡◌, ◌+◌, ◌*◌, ◌≤◌, ◌<◌, ◌^◌, ℕ, List, ◌∷◌, length, nat_lt, find, IfOk, OnOk, All};
+ghost use Rattle.pdh_clock.specs.Judged.{Gives, first_over, is_passed_over as passed_over, stores_judged, row_judged};
+ghost use Rattle.pdh_clock.specs.Parsed.{IsForm, form_found, numbers_found};
+ghost use Rattle.pdh_clock.specs.Row.{Form, ratio_of, row_of};
+ghost use Rattle.pdh_clock.specs.Stored.{row_in};
 ghost use Rattle.std.specs.Option.{option_copied, option_and_then};
-ghost use Rattle.pdh_levels.specs.Levels.{IsLevel, level_at, level_stores, longest_frame, most_tributaries};
+ghost use Rattle.pdh_levels.specs.Levels.{IsLevel, level_at, level_stores, most_tributaries};
 ghost use Rattle.pdh_line.specs.Paths.{steps_of};
 
 use crate::fault::ScheduleFault;
-use crate::row::{FoundRow, row};
+use crate::row::{FoundRow, Version, row};
 use pdh_levels::store_count;
+use pdh_rows::Says;
 use pdh_shape::{Level, Path};
 
 /// Whether a line says nothing: an empty one, or one that begins with `#`.
@@ -21,11 +23,21 @@ pub fn is_passed_over(line: &[u8]) -> bool
 }
 
 /// The first count that is above the bits of a frame.
-fn first_over(counts: &[u32], most: u32) -> Option<u32>
-    ensures first { result ≡ find (nat_lt most) counts.now }
-    ensures none { IfNone result (All (λ count. count ≤ most) counts.now) }
+fn count_over(counts: &[u32], most: u32) -> Option<u32>
+    ensures { result ≡ find (nat_lt most) counts.now }
 {
     counts.iter().copied().find(|count| most < *count)
+}
+
+/// The first count of a row that is above the bits of a frame. A row of rates has none.
+fn row_over(row: &FoundRow, most: u32) -> Option<u32>
+    requires { row.now.numbers.number ≤ most_tributaries }
+    ensures { result ≡ first_over most row.now.says (numbers_found row.now.numbers) }
+{
+    match row.says {
+        Says::Counts => count_over(row.numbers.as_slice(), most),
+        Says::Rates { .. } => None,
+    }
 }
 
 /// The levels below a tributary of the first of the levels, by its number from 1, where it has that one.
@@ -51,17 +63,17 @@ fn level_of(levels: &[Level], node: &Path) -> Option<Level>
     at.first().copied()
 }
 
-/// Whether a row of a node of that level has one count for each store, and none above the bits of a frame.
-fn judge_counts(level: &Level, number: u32, row: &FoundRow) -> Result<(), ScheduleFault>
+/// Whether a row of a node of that level has one number for each store, and no count above the bits of a frame.
+fn judge_numbers(level: &Level, number: u32, row: &FoundRow) -> Result<(), ScheduleFault>
     requires { IsLevel level.now }
-    ensures judged { (said : Row) → IsRow row.now said → Gives (λ _. row_found row.now) result (stores_judged number level.now said) }
-    ensures stores { OnOk result (row.now.counts.number ≡ level_stores level.now) }
-    ensures most { OnOk result (All (λ count. count ≤ level.now.len) (row_found row.now).counts) }
+    ensures judged { (said : Form) → IsForm row.now said
+        → Gives (λ _. row_of (ratio_of level.now) (form_found row.now)) result (stores_judged number level.now said) }
+    ensures stores { OnOk result (row.now.numbers.number ≡ level_stores level.now) }
 {
-    if row.counts.number != store_count(level) {
+    if row.numbers.number != store_count(level) {
         return Err(ScheduleFault::BadRow { line: number });
     }
-    match first_over(row.counts.as_slice(), level.len) {
+    match row_over(row, level.len) {
         Some(count) => Err(ScheduleFault::CountOver {
             line: number,
             count: u64::from(count),
@@ -72,20 +84,24 @@ fn judge_counts(level: &Level, number: u32, row: &FoundRow) -> Result<(), Schedu
 }
 
 /// The row of the line of that number, or the line's fault.
-pub fn judge(levels: &[Level], number: u32, line: &[u8]) -> Result<FoundRow, ScheduleFault>
+pub fn judge(
+    levels: &[Level],
+    version: Version,
+    number: u32,
+    line: &[u8],
+) -> Result<FoundRow, ScheduleFault>
     requires { All IsLevel levels.now }
-    ensures judged { Gives row_found result (row_judged levels.now number line.now) }
-    ensures few { IfOk result (λ row. row.counts.number ≤ most_tributaries) }
-    ensures most { IfOk result (λ row. All (λ count. count ≤ longest_frame) (row_found row).counts) }
+    ensures judged { Gives (λ found. row_in levels.now (form_found found)) result (row_judged levels.now version number line.now) }
+    ensures few { IfOk result (λ row. row.numbers.number ≤ most_tributaries) }
     ensures repeat { IfOk result (λ row. row.repeat < 10 ^ 9) }
-    ensures lens { IfOk result (λ row. 3 + 2 * length (row_found row).counts ≤ length line.now) }
+    ensures lens { IfOk result (λ row. 3 + 2 * length (numbers_found row.numbers) ≤ length line.now) }
 {
-    let Some(row) = row(line) else {
+    let Some(row) = row(version, line) else {
         return Err(ScheduleFault::BadRow { line: number });
     };
     let Some(level) = level_of(levels, &row.path) else {
         return Err(ScheduleFault::UnknownNode { line: number });
     };
-    judge_counts(&level, number, &row)?;
+    judge_numbers(&level, number, &row)?;
     Ok(row)
 }

@@ -1,18 +1,20 @@
-//! The rows of schedules that are made from rates and clock offsets.
+//! The rows of schedules that are made from rates and clock offsets: one for each node.
 
-ghost use Rattle.std.specs.Prelude.{◌≡◌, ℕ, ◌<◌, ◌≤◌, ◌+◌, ◌-◌, All, IsSome, length, map, slice_index, IfOk, OnOk};
-ghost use Rattle.pdh_rows.specs.Stored.{IsTable, rows_of, node_row};
+ghost use Rattle.std.specs.Prelude.{◌≡◌, ℕ, ◌<◌, ◌≤◌, ◌+◌, ◌-◌, All, IsSome, length, slice_index, IfOk, OnOk};
+ghost use Rattle.pdh_rows.specs.Stored.{IsTable, rows_of};
 ghost use Rattle.pdh_levels.specs.Levels.{AreLevels, IsLevel, level_at, level_stores};
 ghost use Rattle.pdh_line.specs.Paths.{steps_of};
-ghost use Rattle.pdh_clock.specs.Made.{IsRated, tributary_offset, made_arrived, made_count, made_frames, most_made};
-ghost use Rattle.pdh_clock.specs.Making.{AreMade, line_at};
+ghost use Rattle.pdh_clock.specs.Row.{ratio_of as nominal};
+ghost use Rattle.pdh_clock.specs.Made.{IsRated, scale_of, tributary_offset, most_made};
+ghost use Rattle.pdh_clock.specs.Making.{AreMade, line_at, made_rows};
 ghost use Rattle.pdh_clock.specs.Stored.{IsTree};
 ghost use Rattle.pdh_shape.specs.OwnNumbers.{most_frames};
 
 use crate::bias::{Bias, Offset};
+use crate::rates::ratio_of;
 use crate::tree::Tree;
 use pdh_levels::{MOST_TRIBUTARIES, store_count};
-use pdh_rows::Table;
+use pdh_rows::{Says, Table};
 use pdh_shape::{Level, Path};
 use std::alloc::{AllocError, Global};
 
@@ -52,39 +54,22 @@ impl Clocks {
     }
 }
 
-// How many bits of a tributary have arrived after n frames, by the offsets of the line and of the tributary.
-fn arrived(level: &Level, line: Offset, trib: Offset, n: u64) -> u128
+// The rate of each tributary, in millionths of its nominal rate; what stands behind the last tributary is 0.
+fn rates(level: &Level, clocks: Clocks) -> [u32; MOST_TRIBUTARIES]
     requires level { IsLevel level.now }
     requires rated { IsRated level.now }
-    requires few { n ≤ most_made }
-    ensures { result ≡ made_arrived level.now line trib n }
+    ensures { (trib : ℕ) → trib < level.now.tribs
+        → slice_index result trib ≡ scale_of (tributary_offset level.now clocks.bias clocks.height clocks.line (trib + 1)) level.now.trib_ppm }
 {
-    let bits = u128::from(n) * u128::from(level.len);
-    let arriving = level.trib_rate * level.per * trib.scale(level.trib_ppm);
-    let whole = level.rate * level.trib_per * line.scale(level.ppm);
-    bits * arriving / whole
-}
-
-// How many bits of each tributary arrive in a frame; what stands behind the last tributary is 0.
-fn counts(level: &Level, clocks: Clocks, frame: u64) -> [u32; MOST_TRIBUTARIES]
-    requires level { IsLevel level.now }
-    requires rated { IsRated level.now }
-    requires few { frame < most_made }
-    ensures counts { (trib : ℕ) → trib < level.now.tribs
-        → slice_index result trib ≡ made_count level.now clocks.line (tributary_offset level.now clocks.bias clocks.height clocks.line (trib + 1)) frame }
-    ensures most { (trib : ℕ) → trib < level.now.tribs → slice_index result trib ≤ level.now.len }
-{
-    let mut counts = [0; MOST_TRIBUTARIES];
+    let mut rates = [0; MOST_TRIBUTARIES];
     for trib in 0..level.tribs {
         let offset = clocks.tributary(level, trib + 1);
-        let before = arrived(level, clocks.line, offset, frame);
-        let after = arrived(level, clocks.line, offset, frame + 1);
-        counts[usize::from(trib)] = (after - before) as u32;
+        rates[usize::from(trib)] = offset.scale(level.trib_ppm);
     }
-    counts
+    rates
 }
 
-// The rows of a node, one for each frame.
+// The row of a node, where it has frames.
 fn made_table(
     alloc: Global,
     level: &Level,
@@ -94,16 +79,19 @@ fn made_table(
     requires level { IsLevel level.now }
     requires rated { IsRated level.now }
     requires few { frames ≤ most_made }
-    ensures rows { IfOk result (λ table. rows_of table ≡ map (node_row 1) (made_frames level.now clocks.bias clocks.height clocks.line frames)) }
+    ensures rows { IfOk result (λ table. rows_of table ≡ made_rows level.now clocks.bias clocks.height clocks.line frames) }
     ensures table { IfOk result (λ table. IsTable table) }
     ensures tribs { IfOk result (λ table. table.tribs ≡ level_stores level.now) }
+    ensures ratio { IfOk result (λ table. table.ratio ≡ nominal level.now) }
 {
     let stores = store_count(level);
-    let mut table = Table::new(alloc, stores)?;
-    for frame in 0..frames {
-        let counts = counts(level, clocks, frame);
-        table.add(1, &counts[..stores])?;
+    let mut table = Table::new(alloc, stores, ratio_of(level))?;
+    if frames == 0 {
+        return Ok(table);
     }
+    let line = clocks.line.scale(level.ppm);
+    let rates = rates(level, clocks);
+    table.add(frames as u32, Says::Rates { line }, &rates[..stores])?;
     Ok(table)
 }
 

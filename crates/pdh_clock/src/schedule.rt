@@ -5,8 +5,9 @@ use crate::bias::Bias;
 use crate::fault::ScheduleFault;
 use crate::made::made_tree;
 use crate::reading::read_rows;
-use crate::tree::Tree;
+use crate::tree::{Tree, counts_in};
 use crate::writing::write_rows;
+use pdh_levels::MOST_TRIBUTARIES;
 use pdh_rows::{Outside, within_tolerance};
 use pdh_shape::{Level, MOST_BYTES, Path};
 use std::alloc::{AllocError, Global};
@@ -35,7 +36,7 @@ impl Schedule {
     ghost use Rattle.pdh_shape.specs.declared.place.Level.{Level};
     ghost use Rattle.pdh_line.specs.Progress.{arrived};
     ghost use Rattle.pdh_line.specs.Tolerance.{IsWithin};
-    ghost use Rattle.pdh_levels.specs.Levels.{AreLevels, level_at, stores_at, len_at, low_at, numbers_of};
+    ghost use Rattle.pdh_levels.specs.Levels.{AreLevels, level_at, stores_at, len_at, low_at, numbers_of, most_tributaries};
     ghost use Rattle.pdh_line.specs.Paths.{path_of, steps_of};
     ghost use Rattle.pdh_line.specs.Nodes.{width};
     ghost use Rattle.pdh_clock.specs.Judged.{Gives, schedule_of};
@@ -50,7 +51,8 @@ impl Schedule {
     /// Reads a schedule's text. Faults are those of the first line that has one, and memory may run out besides.
     #[tactic(auto, unfolding(crate::specs::Judged::schedule_of))]
     pub fn read(alloc: Global, levels: &[Level], text: &[u8]) -> Result<Schedule, ScheduleFault>
-        requires { AreLevels levels.now }
+        requires levels { AreLevels levels.now }
+        requires rated { All IsRated levels.now }
         ensures rows { Gives (λ schedule. schedule.rows) result (schedule_of levels.now text.now) }
         ensures levels { IfOk result (λ schedule. schedule.levels ≡ levels.now) }
         ensures sound { IfOk result (λ schedule. All (IsRowOf levels.now) schedule.rows) }
@@ -82,17 +84,17 @@ impl Schedule {
         self.tree.table_of(node).count(frame, usize::from(trib))
     }
 
-    /// How many bits of each tributary that has a store arrive in a frame.
-    pub fn counts(&self, node: &Path, frame: u64) -> &[u32]
+    /// How many bits of each tributary that has a store arrive in a frame; what stands behind the last one is 0.
+    pub fn counts(&self, node: &Path, frame: u64) -> [u32; MOST_TRIBUTARIES]
         requires node { IsSome (level_at self.now.levels (steps_of node.now)) }
         requires scheduled { frame < frame_count self.now.rows (steps_of node.now) }
-        ensures len { length result.now ≡ stores_at self.now.levels (steps_of node.now) }
+        ensures few { stores_at self.now.levels (steps_of node.now) ≤ most_tributaries }
         ensures value { (trib : ℕ) → trib < stores_at self.now.levels (steps_of node.now)
-            → slice_index result.now trib ≡ counts self.now.rows (steps_of node.now) trib frame }
+            → slice_index result trib ≡ counts self.now.rows (steps_of node.now) trib frame }
         ensures most { (trib : ℕ) → trib < stores_at self.now.levels (steps_of node.now)
-            → slice_index result.now trib ≤ len_at self.now.levels (steps_of node.now) }
+            → slice_index result trib ≤ len_at self.now.levels (steps_of node.now) }
     {
-        self.tree.table_of(node).counts_in(frame)
+        counts_in(self.tree.table_of(node), frame)
     }
 
     /// How many bits of a tributary, counted from 0, arrive in the first frames.

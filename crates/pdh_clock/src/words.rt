@@ -20,7 +20,7 @@ fn position_of(bytes: &[u8], mark: u8) -> Option<usize>
 
 /// Splits bytes at the first one that equals `mark`, which stands in neither part.
 #[inline(always)]
-fn split_once(bytes: &[u8], mark: u8) -> (&[u8], Option<&[u8]>)
+pub fn split_once(bytes: &[u8], mark: u8) -> (&[u8], Option<&[u8]>)
     ensures front { result.0.now ≡ before_first (λ byte. byte == mark) bytes.now }
     ensures rest { let end = position (λ byte. byte == mark) bytes.now in
         option_copied result.1 ≡ option_map (λ end. drop (end + 1) bytes.now) end }

@@ -25,7 +25,7 @@ use Rattle.pdh_clock.proofs.Laws.{schedule_of_sound}
 use Rattle.pdh_chain.specs.Saying.{says_of}
 use Rattle.pdh_chain.specs.declared.chain.Chain.{Chain}
 use Rattle.pdh_chain.specs.Chains.{shapes_of, levels_of, leaves_of, frame_bytes_of}
-use Rattle.pdh_chain.proofs.ChainLaws.{are_frames, some_bits, whole_bytes}
+use Rattle.pdh_chain.proofs.ChainLaws.{all_rated, are_frames, some_bits, whole_bytes}
 use Rattle.pdh_answers.specs.Names.{schedule_name, leaf_name}
 use Rattle.pdh_answers.specs.Answer.{Answer, and_then, status_of}
 use Rattle.pdh_ops.specs.Schedules.{rows_of, rows_or_stop, rows_in, frames_in}
@@ -145,7 +145,7 @@ long_there chain files rows leaf done low = let test = done.long leaf low in let
 -- the rows of a text are of the chain's nodes
 pub rows_sound : (chain : Chain) (text : List ℕ) (rows : List Row) → rows_of chain text ≡ Ok rows → All (IsRowOf (levels_of chain)) rows
 unfolding rows_of
-rows_sound chain text rows h = schedule_of_sound (levels_of chain) text rows (judged (schedule_of (levels_of chain) text) h)
+rows_sound chain text rows h = schedule_of_sound (levels_of chain) text rows (all_rated chain) (judged (schedule_of (levels_of chain) text) h)
   where
     judged : (r : Result (List Row) ScheduleFault) → rows_or_stop r ≡ Ok rows → r ≡ Ok rows
     judged (Ok found) e = cc

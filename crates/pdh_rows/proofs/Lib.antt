@@ -1,3 +1,4 @@
+pub mod FlowLaws
 pub mod Joining
 pub mod Storing
 pub mod Tabled
@@ -7,3 +8,4 @@ pub mod OutsideLaws
 pub mod Rising
 pub mod FirstBreaks
 pub mod Parts
+pub mod Counted

@@ -5,7 +5,8 @@ use Rattle.pdh_shape.specs.OwnNumbers.{allowance}
 use Rattle.pdh_rows.specs.declared.table.TribRow.{TribRow}
 use Rattle.pdh_rows.specs.declared.tolerance.Bound.{Bound}
 use Rattle.pdh_rows.specs.declared.tolerance.Bound.TheVariants.{Most, Least}
-use Rattle.pdh_rows.specs.declared.tolerance.Part.{Part}
+use Rattle.pdh_rows.specs.declared.flow.Flow.{Flow}
+use Rattle.pdh_rows.specs.Flows.{flowed, FlowFits}
 use Rattle.pdh_rows.specs.declared.tolerance.Span.{Span}
 
 -- What brings a run of so many frames, in which so many bits arrive, nearer to the bound: the bits that arrive, or those
@@ -60,28 +61,20 @@ pub record IsFirstStart (gains losses : ℕ → ℕ) (to from : ℕ) : Type 0 wh
   pub passes : Passes gains losses from to
   pub least : (m : ℕ) → m < from → Keeps gains losses m to
 
--- a row begins behind so many frames; a tributary has the same count in each of its frames, and so many bits before it
+-- over so many frames, in which the bits of a flow arrive: what brings the run nearer to the bound, and what takes it away
+abbrev pub flow_gains : Bound → ℕ → Flow → ℕ → ℕ
+flow_gains bound low flow n = gains_of bound low n (flowed flow n)
+
+abbrev pub flow_losses : Bound → ℕ → Flow → ℕ → ℕ
+flow_losses bound low flow n = losses_of bound low n (flowed flow n)
+
+-- a row begins behind so many frames; the bits of a tributary arrive by its flow, and so many before it
 pub record IsTribRow (counts : ℕ → ℕ) (start next : ℕ) (row : TribRow) : Type 0 where
   pub first : row.first ≡ start
   pub ends : next ≡ start + row.frames
-  pub bits : (n : ℕ) → n ≤ row.frames → arrived counts (start + n) ≡ row.before + n * row.count
-
--- the same of both sums of a bound
-pub record IsPart (gains losses : ℕ → ℕ) (start next : ℕ) (part : Part) : Type 0 where
-  pub first : part.first ≡ start
-  pub ends : next ≡ start + part.frames
-  pub gained : (n : ℕ) → n ≤ part.frames → gains (start + n) ≡ part.before.gains + n * part.each.gains
-  pub lost : (n : ℕ) → n ≤ part.frames → losses (start + n) ≡ part.before.losses + n * part.each.losses
-
--- n is the least number of steps, of at most so many, after which one sum that grows evenly is above another
-pub record IsCrossing (lower lower_step upper upper_step most n : ℕ) : Type 0 where
-  pub inside : n ≤ most
-  pub above : lower + n * lower_step < upper + n * upper_step
-  pub least : (k : ℕ) → k < n → upper + k * upper_step ≤ lower + k * lower_step
-
--- there's no such number
-abbrev pub NeverCrosses : ℕ → ℕ → ℕ → ℕ → ℕ → Type 0
-NeverCrosses lower lower_step upper upper_step most = (k : ℕ) → k ≤ most → upper + k * upper_step ≤ lower + k * lower_step
+  pub arrivals : (n : ℕ) → n ≤ row.frames → arrived counts (start + n) ≡ row.before + flowed row.flow n
+  pub bits : row.bits ≡ flowed row.flow row.frames
+  pub fits : FlowFits row.frames row.flow
 
 -- one run ends before another, or where it ends and begins no later
 abbrev pub is_earlier : Span → Span → Bool

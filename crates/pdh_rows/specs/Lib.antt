@@ -1,5 +1,5 @@
+pub mod Flows
 pub mod Rows
 pub mod Stored
 pub mod Outside
 pub mod Bounds
-pub mod Runs

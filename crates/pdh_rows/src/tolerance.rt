@@ -3,13 +3,14 @@
 ghost use Rattle.std.specs.Prelude.{◌≡◌, ◌≤◌, ◌<◌, ◌+◌, ◌-◌, ◌*◌, ◌^◌, ℕ, [], length, slice_index, MatchOption};
 ghost use Rattle.pdh_line.specs.Progress.{arrived};
 ghost use Rattle.pdh_shape.specs.OwnNumbers.{allowance};
-ghost use Rattle.pdh_rows.specs.Bounds.{gains_of, losses_of, gains, losses, Passes, AllKeep, IsFirstEnd, IsFirstStart, IsFirstBreak, IsPart, IsCrossing, NeverCrosses, earlier as earlier_of};
+ghost use Rattle.pdh_rows.specs.Bounds.{gains_of, losses_of, gains, losses, Passes, AllKeep, IsFirstEnd, IsFirstStart, IsFirstBreak, flow_gains, flow_losses, earlier as earlier_of};
+ghost use Rattle.pdh_rows.specs.Flows.{flowed, FlowFits, IsCross, NeverCross};
 ghost use Rattle.pdh_rows.specs.Rows.{node_frame_count, node_counts};
 ghost use Rattle.pdh_rows.specs.Outside.{first_outside, run_in};
 ghost use Rattle.pdh_rows.specs.Stored.{IsTable, rows_of};
 
 use crate::outside::Outside;
-use crate::table::Table;
+use crate::table::{Table, TribRow};
 
 // The allowance, as a summand of the sums of a table.
 const ALLOWANCE: u128 = pdh_shape::ALLOWANCE as u128;
@@ -29,15 +30,6 @@ struct Balance {
     losses: u128,
 }
 
-// A row, for a tributary and a bound: its first frame, how many it has, and the sums before it and in each of its frames.
-#[derive(Clone, Copy)]
-struct Part {
-    first: u64,
-    frames: u64,
-    before: Balance,
-    each: Balance,
-}
-
 // A run of frames, from one up to but without the other.
 #[derive(Clone, Copy)]
 struct Span {
@@ -49,6 +41,8 @@ struct Span {
 fn balance_of(bound: Bound, low: u32, frames: u64, bits: u64) -> Balance
     ensures gains { result.gains ≡ gains_of bound low frames bits }
     ensures losses { result.losses ≡ losses_of bound low frames bits }
+    ensures few_gains { result.gains ≤ 2 ^ 97 }
+    ensures few_losses { result.losses ≤ 2 ^ 97 }
 {
     let carried = u128::from(low) * u128::from(frames);
     match bound {
@@ -63,57 +57,76 @@ fn balance_of(bound: Bound, low: u32, frames: u64, bits: u64) -> Balance
     }
 }
 
-// The row of that number.
-fn part_of(table: &Table, trib: usize, low: u32, bound: Bound, row: usize) -> Part
-    requires table { IsTable table.now }
-    requires in_range { trib < table.now.tribs }
-    requires row { row < length table.now.repeats.items }
-    ensures part { IsPart (gains bound low (node_counts (rows_of table.now) trib)) (losses bound low (node_counts (rows_of table.now) trib)) (slice_index table.now.firsts.items row) (slice_index table.now.firsts.items (row + 1)) result }
-    ensures fits { result.first + result.frames < 2 ^ 64 }
-    ensures few { result.frames < 2 ^ 32 }
-    ensures gains { result.before.gains < 2 ^ 96 }
-    ensures losses { result.before.losses ≤ 2 ^ 96 }
-    ensures gain { result.each.gains < 2 ^ 32 }
-    ensures loss { result.each.losses ≤ 2 ^ 32 }
+// The least number of frames of a row after which its bits are above a line of so many bits a frame that begins a gap above.
+fn rises_past(gap: u128, line: u128, row: &TribRow) -> Option<u64>
+    requires fits { FlowFits row.now.frames row.now.flow }
+    requires bits { row.now.bits ≡ flowed row.now.flow row.now.frames }
+    requires gap { gap ≤ 2 ^ 99 }
+    requires line { line ≤ 2 ^ 32 }
+    ensures { MatchOption result (NeverCross gap (λ n. n * line) 0 (flowed row.now.flow) row.now.frames) (IsCross gap (λ n. n * line) 0 (flowed row.now.flow) row.now.frames) }
 {
-    let row = table.trib_row(row, trib);
-    Part {
-        first: row.first,
-        frames: u64::from(row.frames),
-        before: balance_of(bound, low, row.first, row.before),
-        each: balance_of(bound, low, 1, u64::from(row.count)),
-    }
-}
-
-// The least number of steps, of at most so many, after which the upper sum is above the lower one.
-fn crossing(lower: u128, lower_step: u128, upper: u128, upper_step: u128, most: u64) -> Option<u64>
-    ensures { MatchOption result (NeverCrosses lower lower_step upper upper_step most) (IsCrossing lower lower_step upper upper_step most) }
-{
-    if lower < upper {
-        return Some(0);
-    }
-    if upper_step <= lower_step {
+    if u128::from(row.bits) <= gap + u128::from(row.frames) * line {
         return None;
     }
-    let kept = (lower - upper) / (upper_step - lower_step);
-    if kept < u128::from(most) {
-        Some(kept as u64 + 1)
-    } else {
-        None
+    let flow = row.flow;
+    let kept = (gap * flow.frames + (flow.frames - 1)) / (flow.bits - line * flow.frames);
+    Some(kept as u64 + 1)
+}
+
+// The least number of frames of a row after which its bits are below a line of so many bits a frame that begins a gap below.
+fn falls_past(gap: u128, line: u128, row: &TribRow) -> Option<u64>
+    requires fits { FlowFits row.now.frames row.now.flow }
+    requires bits { row.now.bits ≡ flowed row.now.flow row.now.frames }
+    requires gap { gap ≤ 2 ^ 99 }
+    requires line { line ≤ 2 ^ 32 }
+    ensures { MatchOption result (NeverCross gap (flowed row.now.flow) 0 (λ n. n * line) row.now.frames) (IsCross gap (flowed row.now.flow) 0 (λ n. n * line) row.now.frames) }
+{
+    if u128::from(row.frames) * line <= gap + u128::from(row.bits) {
+        return None;
+    }
+    let flow = row.flow;
+    let kept = gap * flow.frames / (line * flow.frames - flow.bits);
+    Some(kept as u64 + 1)
+}
+
+// The least number of frames of a row after which it gained more than it lost, by more than a gap.
+fn gains_past(bound: Bound, low: u32, gap: u128, row: &TribRow) -> Option<u64>
+    requires fits { FlowFits row.now.frames row.now.flow }
+    requires bits { row.now.bits ≡ flowed row.now.flow row.now.frames }
+    requires gap { gap ≤ 2 ^ 99 }
+    ensures { MatchOption result
+        (NeverCross gap (flow_losses bound low row.now.flow) 0 (flow_gains bound low row.now.flow) row.now.frames)
+        (IsCross gap (flow_losses bound low row.now.flow) 0 (flow_gains bound low row.now.flow) row.now.frames) }
+{
+    match bound {
+        Bound::Most => rises_past(gap, u128::from(low) + 1, row),
+        Bound::Least => falls_past(gap, u128::from(low), row),
     }
 }
 
-// A bound's rise is the most that a run which ends here gains more than it loses. This is the rise after so many frames
-// more.
-fn rise_after(rise: u128, each: Balance, frames: u64) -> u128
-    requires rise { rise ≤ allowance }
-    requires few { frames < 2 ^ 32 }
-    requires gain { each.gains < 2 ^ 32 }
-    requires loss { each.losses ≤ 2 ^ 32 }
-    ensures { result ≡ rise + frames * each.gains - frames * each.losses }
+// The least number of frames of a row after which it lost more than it gained, by more than a gap.
+fn losses_past(bound: Bound, low: u32, gap: u128, row: &TribRow) -> Option<u64>
+    requires fits { FlowFits row.now.frames row.now.flow }
+    requires bits { row.now.bits ≡ flowed row.now.flow row.now.frames }
+    requires gap { gap ≤ 2 ^ 99 }
+    ensures { MatchOption result
+        (NeverCross gap (flow_gains bound low row.now.flow) 0 (flow_losses bound low row.now.flow) row.now.frames)
+        (IsCross gap (flow_gains bound low row.now.flow) 0 (flow_losses bound low row.now.flow) row.now.frames) }
 {
-    let frames = u128::from(frames);
-    (rise + frames * each.gains).saturating_sub(frames * each.losses)
+    match bound {
+        Bound::Most => falls_past(gap, u128::from(low) + 1, row),
+        Bound::Least => rises_past(gap, u128::from(low), row),
+    }
+}
+
+// A bound's rise is the most that a run which ends here gains more than it loses. This is the rise after a row.
+fn rise_after(bound: Bound, low: u32, rise: u128, row: &TribRow) -> u128
+    requires rise { rise ≤ allowance }
+    requires bits { row.now.bits ≡ flowed row.now.flow row.now.frames }
+    ensures { result ≡ rise + flow_gains bound low row.now.flow row.now.frames - flow_losses bound low row.now.flow row.now.frames }
+{
+    let balance = balance_of(bound, low, u64::from(row.frames), row.bits);
+    (rise + balance.gains).saturating_sub(balance.losses)
 }
 
 // The least end of a run that passes the bound.
@@ -125,13 +138,12 @@ fn first_end(table: &Table, trib: usize, low: u32, bound: Bound) -> Option<u64>
         (IsFirstEnd (gains bound low (node_counts (rows_of table.now) trib)) (losses bound low (node_counts (rows_of table.now) trib)) (node_frame_count (rows_of table.now))) }
 {
     let mut rise = 0;
-    for row in 0..table.repeats.len() {
-        let part = part_of(table, trib, low, bound, row);
-        let each = part.each;
-        if let Some(frames) = crossing(ALLOWANCE, each.losses, rise, each.gains, part.frames) {
-            return Some(part.first + frames);
+    for number in 0..table.repeats.len() {
+        let row = table.trib_row(number, trib);
+        if let Some(frames) = gains_past(bound, low, ALLOWANCE - rise, &row) {
+            return Some(row.first + frames);
         }
-        rise = rise_after(rise, each, part.frames);
+        rise = rise_after(bound, low, rise, &row);
     }
     None
 }
@@ -145,18 +157,16 @@ fn first_start(table: &Table, trib: usize, low: u32, bound: Bound, to: u64) -> O
         (IsFirstStart (gains bound low (node_counts (rows_of table.now) trib)) (losses bound low (node_counts (rows_of table.now) trib)) to) }
 {
     let end = balance_of(bound, low, to, table.total(to, trib));
-    for row in 0..table.repeats.len() {
-        let part = part_of(table, trib, low, bound, row);
-        let lower = part.before.gains + end.losses + ALLOWANCE;
-        let upper = part.before.losses + end.gains;
-        if let Some(frames) = crossing(
-            lower,
-            part.each.gains,
-            upper,
-            part.each.losses,
-            part.frames,
-        ) {
-            return Some(part.first + frames);
+    for number in 0..table.repeats.len() {
+        let row = table.trib_row(number, trib);
+        let start = balance_of(bound, low, row.first, row.before);
+        let lower = start.gains + end.losses + ALLOWANCE;
+        let upper = start.losses + end.gains;
+        if lower < upper {
+            return Some(row.first);
+        }
+        if let Some(frames) = losses_past(bound, low, lower - upper, &row) {
+            return Some(row.first + frames);
         }
     }
     None

@@ -137,8 +137,33 @@ fn finds_counts_and_totals(rt: HostRuntime) -> Result<(), Fail> {
 }
 
 #[test]
+fn finds_counts_at_the_largest_offsets(rt: HostRuntime) -> Result<(), Fail> {
+    let text = b"version 2\nrate / 131072 -1000 1000 0 -1000 999\n/ 1 0 0 0 0\n";
+    let schedule = Schedule::read(rt.alloc(), &[E2_LEVEL], text)?;
+    assert_eq!(rt; schedule.frames(&TOP), 131_073);
+    // So many frames, and the bits of each tributary in them.
+    let rows: [(u64, [u64; 4]); 5] = [
+        (1, [205, 205, 205, 205]),
+        (3, [617, 617, 616, 617]),
+        (131_071, [26_998_964, 26_971_992, 26_945_020, 26_998_937]),
+        (131_072, [26_999_170, 26_972_197, 26_945_225, 26_999_143]),
+        (131_073, [26_999_170, 26_972_197, 26_945_225, 26_999_143]),
+    ];
+    for (frames, totals) in rows {
+        assert!(rt; frames <= schedule.frames(&TOP));
+        for trib in 0..4 {
+            let total = schedule.total(&TOP, frames, trib);
+            assert_eq!(rt; total, totals[usize::from(trib)], "at {frames}, {trib}");
+        }
+    }
+    assert_eq!(rt; schedule.count(&TOP, 131_071, 0), 206);
+    assert_eq!(rt; schedule.count(&TOP, 131_071, 1), 205);
+    Ok(())
+}
+
+#[test]
 fn writes_longest_rows(rt: HostRuntime) -> Result<(), Fail> {
-    let rows: [(&str, &str); 7] = [
+    let rows: [(&str, &str); 9] = [
         ("", ""),
         ("# none\n\n", ""),
         ("/ 1 0 10 205 848", "/ 1 0 10 205 848\n"),
@@ -159,6 +184,15 @@ fn writes_longest_rows(rt: HostRuntime) -> Result<(), Fail> {
         (
             "/ 999999999 1 2 3 4\n/ 999999999 1 2 3 4\n",
             "/ 1999999998 1 2 3 4\n",
+        ),
+        // Rows at offsets, frame by frame, which join the rows before and behind them.
+        (
+            "version 2\nrate / 3 0 0 0 0 0\n/ 2 205 205 205 205\n",
+            "/ 1 205 205 205 205\n/ 1 206 206 206 206\n/ 3 205 205 205 205\n",
+        ),
+        (
+            "version 2\n/ 1 205 205 205 205\nrate / 2 0 0 0 0 0\n",
+            "/ 2 205 205 205 205\n/ 1 206 206 206 206\n",
         ),
     ];
     for (text, expected) in rows {

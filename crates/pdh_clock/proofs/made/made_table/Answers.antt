@@ -1,41 +1,39 @@
-use Rattle.std.proofs.Common.{◌∙◌, ◌+◌, ◌*◌, ◌<◌, ◌≤◌, ◌^◌, ◌∷◌, [], ◌++◌, ap, sym, subst, arith, take, length, slice_index}
-use Rattle.pdh_rows.specs.Stored.{rows_of, row_frames, row_bits, node_row}
-use Rattle.pdh_levels.specs.Levels.{level_stores}
-use Rattle.pdh_levels.proofs.LevelLaws.{stores_few}
-use Rattle.pdh_clock.proofs.MadeRows.{made_frame, made_rows, made_rows-zero, made_rows-more, made_frames-fit, made_bits-fit, counts-taken}
+use Rattle.std.proofs.Common.{◌∙◌, ◌+◌, ◌<◌, ◌^◌, ◌∷◌, [], ◌++◌, ap, sym, subst, arith, take, slice_index}
+use Rattle.pdh_rows.specs.declared.flow.Says.TheVariants.{Rates}
+use Rattle.pdh_rows.specs.Flows.{flowed, flow_in}
+use Rattle.pdh_rows.specs.Stored.{row_frames, row_bits, said_row}
+use Rattle.pdh_clock.proofs.MadeRows.{SaysMade, made_rows-none, said-few, said-fits, said-made, says_made}
 use Rattle.pdh_clock.proofs.made.made_table.Goals as goal
 
-pub loop-frame-init : goal.loop-frame-init
-loop-frame-init c = record {
-  stored = c.in_ok-table.ensures.table;
-  tribs = c.in_ok-table.ensures.tribs ∙ c.store_count-stores.ensures;
-  rows = c.in_ok-table.ensures.rows ∙ sym (made_rows-zero c.args.level.now c.args.clocks.bias c.args.clocks.height c.args.clocks.line);
-}
+pub returns-then-frames-eq0-clause-rows : goal.returns-then-frames-eq0-clause-rows
+returns-then-frames-eq0-clause-rows c =
+    c.in_ok-table.ensures.rows ∙ sym (made_rows-none c.args.level.now c.args.clocks.bias c.args.clocks.height c.args.clocks.line c.args.frames c.if-frames-eq0.true)
+
+-- what the row says
+says : (c : goal.After-rates-1)
+    → SaysMade c.args.level.now c.args.clocks.bias c.args.clocks.height c.args.clocks.line c.in_ok-table.table.ratio c.scale-line.result (take c.store_count-stores.result c.rates-rates.result)
+says c = says_made c.args.level.now c.args.clocks.bias c.args.clocks.height c.args.clocks.line c.in_ok-table.table.ratio c.scale-line.result c.store_count-stores.result c.rates-rates.result
+    c.requires.level (c.in_ok-table.ensures.ratio ∙ c.ratio_of.ensures) c.scale-line.ensures c.store_count-stores.ensures (omega (arith, c.rates-rates.type_inv)) c.rates-rates.ensures
+
+pub add-requires-clause-flows : goal.add-requires-clause-flows
+add-requires-clause-flows c = λ trib m.
+    said-fits c.args.level.now c.args.clocks.bias c.args.clocks.height c.args.clocks.line _ _ _ c.args.frames trib (says c) c.requires.level c.requires.rated c.requires.few
+    (omega (arith, m, c.in_ok-table.ensures.tribs, c.store_count-stores.ensures))
 
 pub add-requires-clause-frames_fit : goal.add-requires-clause-frames_fit
-add-requires-clause-frames_fit c =
-    subst (λ rows. row_frames rows + 1 < 2 ^ 64) (sym c.loop-frame.invariant.rows)
-    (made_frames-fit c.args.level.now c.args.clocks.bias c.args.clocks.height c.args.clocks.line c.loop-frame.frame c.requires.level c.requires.rated (omega (arith, c.requires.few)))
+add-requires-clause-frames_fit c = subst (λ rows. row_frames rows + c.args.frames < 2 ^ 64) (sym c.in_ok-table.ensures.rows) (let few = c.requires.few in omega arith)
 
 pub add-requires-clause-bits_fit : goal.add-requires-clause-bits_fit
-add-requires-clause-bits_fit c = λ trib l.
-    let level = c.args.level.now in
-    let long : level_stores level ≤ length c.counts-counts.result = omega (arith, c.counts-counts.type_inv, c.requires.level.most, stores_few level) in
-    let added = counts-taken level c.args.clocks.bias c.args.clocks.height c.args.clocks.line c.loop-frame.frame c.store_count-stores.result c.counts-counts.result c.store_count-stores.ensures long (λ trib m. c.counts-counts.ensures.counts trib (omega (arith, m, stores_few level))) in
-    subst (λ rows. row_bits rows trib + 1 * slice_index (take c.store_count-stores.result c.counts-counts.result) trib < 2 ^ 64) (sym c.loop-frame.invariant.rows)
-    (subst (λ counts. row_bits (made_rows level c.args.clocks.bias c.args.clocks.height c.args.clocks.line c.loop-frame.frame) trib + 1 * slice_index counts trib < 2 ^ 64) (sym added)
-    (made_bits-fit level c.args.clocks.bias c.args.clocks.height c.args.clocks.line c.loop-frame.frame trib c.requires.level c.requires.rated (omega (arith, c.requires.few))))
+add-requires-clause-bits_fit c = λ trib m.
+    let few = said-few c.args.level.now c.args.clocks.bias c.args.clocks.height c.args.clocks.line _ _ _ c.args.frames trib (says c) c.requires.level c.requires.rated c.requires.few
+    (omega (arith, m, c.in_ok-table.ensures.tribs, c.store_count-stores.ensures)) in
+    subst (λ rows. row_bits rows trib + flowed (flow_in c.in_ok-table.table.ratio (Rates c.scale-line.result) (slice_index (take c.store_count-stores.result c.rates-rates.result) trib)) c.args.frames < 2 ^ 64)
+    (sym c.in_ok-table.ensures.rows) (omega (arith, few))
 
-pub loop-frame-preserved : goal.loop-frame-preserved
-loop-frame-preserved c =
-    let level = c.args.level.now in
-    let long : level_stores level ≤ length c.counts-counts.result = omega (arith, c.counts-counts.type_inv, c.requires.level.most, stores_few level) in
-    let added = counts-taken level c.args.clocks.bias c.args.clocks.height c.args.clocks.line c.loop-frame.frame c.store_count-stores.result c.counts-counts.result c.store_count-stores.ensures long (λ trib m. c.counts-counts.ensures.counts trib (omega (arith, m, stores_few level))) in
-    record {
-      stored = c.in_ok-add.ensures.table;
-      tribs = c.in_ok-add.ensures.tribs ∙ c.loop-frame.invariant.tribs;
-      rows = c.in_ok-add.ensures.rows
-          ∙ ap (λ counts. rows_of c.loop-frame.table ++ node_row 1 counts ∷ []) added
-          ∙ ap (λ rows. rows ++ node_row 1 (made_frame level c.args.clocks.bias c.args.clocks.height c.args.clocks.line c.loop-frame.frame) ∷ []) c.loop-frame.invariant.rows
-          ∙ sym (made_rows-more level c.args.clocks.bias c.args.clocks.height c.args.clocks.line c.loop-frame.frame);
-    }
+pub returns-clause-rows : goal.returns-clause-rows
+returns-clause-rows c =
+    let says = says_made c.args.level.now c.args.clocks.bias c.args.clocks.height c.args.clocks.line c.in_ok-table.table.ratio c.scale-line.result c.store_count-stores.result c.rates-rates.result
+    c.requires.level (c.in_ok-table.ensures.ratio ∙ c.ratio_of.ensures) c.scale-line.ensures c.store_count-stores.ensures (omega (arith, c.rates-rates.type_inv)) c.rates-rates.ensures in
+    c.in_ok-add.ensures.rows
+    ∙ ap (λ rows. rows ++ said_row c.in_ok-table.table.ratio c.args.frames (Rates c.scale-line.result) (take c.store_count-stores.result c.rates-rates.result) ∷ []) c.in_ok-table.ensures.rows
+    ∙ said-made c.args.level.now c.args.clocks.bias c.args.clocks.height c.args.clocks.line _ _ _ c.args.frames says c.if-frames-eq0.false

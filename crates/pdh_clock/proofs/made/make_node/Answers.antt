@@ -6,13 +6,13 @@ use Rattle.pdh_line.specs.Paths.{steps_of}
 use Rattle.pdh_levels.specs.Levels.{nodes_in, level_at, place_of}
 use Rattle.pdh_clock.specs.Begun.{NoneShort}
 use Rattle.pdh_clock.specs.Made.{most_made}
-use Rattle.pdh_clock.specs.Making.{line_at}
+use Rattle.pdh_clock.specs.Making.{line_at, made_rows}
 use Rattle.pdh_clock.specs.Stored.{contents_of, node_path}
 use Rattle.pdh_levels.proofs.LevelLaws.{level_is}
+use Rattle.pdh_clock.proofs.Laws.{rated_is}
 use Rattle.pdh_clock.proofs.Trees.{Changes, IsTree_changed, path_of_node, place_of_node, known_node}
-use Rattle.pdh_clock.proofs.MadeRows.{made_rows}
 use Rattle.pdh_clock.proofs.MadeTrees.{begun_is_made, made-few, none_short_made}
-use Rattle.pdh_clock.proofs.MadeNodes.{IsMadeNode, rated_is, changes_made, made_more}
+use Rattle.pdh_clock.proofs.MadeNodes.{IsMadeNode, changes_made, made_more}
 use Rattle.pdh_clock.proofs.made.make_node.Goals as goal
 
 pub level_of-level-requires : goal.level_of-level-requires
@@ -49,13 +49,13 @@ made_table-requires-clause-few c =
     omega (arith, c.begun-frames.ensures, begun, few)
 
 -- the node with its rows
-abbrev node_after : goal.After-drop-index_mut-4 → NodeRows
+abbrev node_after : goal.After-drop-index_mut-5 → NodeRows
 node_after c = record { path = c.index_mut.result.now.path; table = c.in_ok-tree.field-0 }
 
-abbrev tree_after : goal.After-drop-index_mut-4 → Tree
+abbrev tree_after : goal.After-drop-index_mut-5 → Tree
 tree_after c = record { levels = c.args.tree.now.levels; nodes = with_item c.args.tree.now.nodes c.args.place (node_after c) }
 
-makes : (c : goal.After-drop-index_mut-4) → IsMadeNode c.args.tree.now c.args.bias c.args.top_frames c.args.place (steps_of c.index.result.now.path) (node_after c)
+makes : (c : goal.After-drop-index_mut-5) → IsMadeNode c.args.tree.now c.args.bias c.args.top_frames c.args.place (steps_of c.index.result.now.path) (node_after c)
     c.level_of-level.result c.clocks_of-clocks.result.height c.clocks_of-clocks.result.line c.begun-frames.result
 makes c =
     let tree = c.args.tree.now in
@@ -78,12 +78,13 @@ makes c =
       line_is = c.clocks_of-clocks.ensures.line ∙ ap (λ levels. line_at levels c.args.bias (steps_of c.index.result.now.path)) c.deref.ensures.value;
       frames_are = c.begun-frames.ensures;
       stored = c.in_ok-tree.ensures.table;
+      ratio = c.in_ok-tree.ensures.ratio;
       tribs = c.in_ok-tree.ensures.tribs;
       few = few;
       rows = c.in_ok-tree.ensures.rows ∙ ap (λ bias. made_rows c.level_of-level.result bias c.clocks_of-clocks.result.height c.clocks_of-clocks.result.line c.begun-frames.result) c.clocks_of-clocks.ensures.bias;
     }
 
-changes : (c : goal.After-drop-index_mut-4) → Changes c.args.tree.now (tree_after c) c.args.place (node_after c)
+changes : (c : goal.After-drop-index_mut-5) → Changes c.args.tree.now (tree_after c) c.args.place (node_after c)
 changes c = changes_made c.args.tree.now (tree_after c) c.args.bias c.args.top_frames c.args.place (steps_of c.index.result.now.path) (node_after c)
     c.level_of-level.result c.clocks_of-clocks.result.height c.clocks_of-clocks.result.line c.begun-frames.result c.requires.tree c.requires.rated (makes c) refl refl
 

@@ -5,7 +5,7 @@ use Rattle.pdh_rows.specs.Stored.{rows_of}
 use Rattle.pdh_rows.proofs.Rising.{NoStart}
 use Rattle.pdh_rows.proofs.tolerance.first_start.Given as goal
 
-abbrev pub invariant-loop-row : goal.invariant-loop-row
-invariant-loop-row l =
+abbrev pub invariant-loop-number : goal.invariant-loop-number
+invariant-loop-number l =
     let counts = node_counts (rows_of l.table) l.trib in
-    NoStart (gains l.bound l.low counts) (losses l.bound l.low counts) l.to (slice_index l.table.firsts.items l.row)
+    NoStart (gains l.bound l.low counts) (losses l.bound l.low counts) l.to (slice_index l.table.firsts.items l.number)

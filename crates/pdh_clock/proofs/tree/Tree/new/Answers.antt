@@ -1,13 +1,23 @@
 use Rattle.std.proofs.Common.{◌≡◌, ◌∙◌, map, All, ap, sym, subst, arith}
+use Rattle.std.specs.Option.{option_map_or}
 use Rattle.std.proofs.lemmas.List.{take_all}
 use Rattle.std.proofs.lemmas.List.Elements.{All-push}
 use Rattle.pdh_clock.specs.declared.tree.NodeRows.{NodeRows}
 use Rattle.pdh_levels.specs.Levels.{AreLevels, nodes_in}
 use Rattle.pdh_line.specs.Paths.{steps_of}
 use Rattle.pdh_clock.specs.Stored.{node_path}
-use Rattle.pdh_levels.proofs.LevelLaws.{stores_count}
+use Rattle.pdh_levels.proofs.LevelLaws.{level_is, stores_count}
+use Rattle.pdh_rows.specs.Flows.{each}
+use Rattle.pdh_clock.specs.Row.{ratio_of}
+use Rattle.pdh_clock.proofs.Laws.{rated_is}
 use Rattle.pdh_clock.proofs.Trees.{IsEmptyNode, IsTree_empty, no_rows, paths_more}
 use Rattle.pdh_clock.proofs.tree.Tree.new.Goals as goal
+
+pub ratio_of-requires-clause-level : goal.ratio_of-requires-clause-level
+ratio_of-requires-clause-level c = level_is c.args.levels.now (steps_of c.node_at-path.result) c.level_of-level.result c.requires.levels.each c.level_of-level.ensures
+
+pub ratio_of-requires-clause-rated : goal.ratio_of-requires-clause-rated
+ratio_of-requires-clause-rated c = rated_is c.args.levels.now (steps_of c.node_at-path.result) c.level_of-level.result c.requires.rated c.level_of-level.ensures
 
 pub loop-place-preserved : goal.loop-place-preserved
 loop-place-preserved c =
@@ -15,6 +25,7 @@ loop-place-preserved c =
     let node : NodeRows = record { path = c.node_at-path.result; table = c.in_ok-table.table } in
     let empty : IsEmptyNode c.args.levels.now node = record {
       stored = c.in_ok-table.ensures.table;
+      ratio = c.in_ok-table.ensures.ratio ∙ c.ratio_of.ensures ∙ ap (λ o. option_map_or ratio_of o (each 0)) (sym c.level_of-level.ensures);
       tribs = c.in_ok-table.ensures.tribs ∙ tribs;
       none = c.in_ok-table.ensures.rows;
     } in
@@ -33,7 +44,7 @@ all_paths c = c.loop-place.invariant.paths
 pub returns-clause-tree : goal.returns-clause-tree
 returns-clause-tree c =
     let same : c.in_ok-to_vec.field-0.items ≡ c.args.levels.now = c.in_ok-to_vec.ensures.items_if_clones_equal (λ x y h. h) in
-    IsTree_empty _ (subst AreLevels (sym same) c.requires) (all_paths c ∙ ap nodes_in (sym same))
+    IsTree_empty _ (subst AreLevels (sym same) c.requires.levels) (all_paths c ∙ ap nodes_in (sym same))
     (subst (λ levels. All (IsEmptyNode levels) c.loop-place.nodes.items) (sym same) c.loop-place.invariant.each)
 
 pub returns-clause-rows : goal.returns-clause-rows

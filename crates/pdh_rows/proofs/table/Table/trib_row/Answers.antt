@@ -1,19 +1,27 @@
-use Rattle.std.proofs.Common.{◌≡◌, ◌∙◌, ◌+◌, ap, arith, length, slice_index}
+use Rattle.std.proofs.Common.{◌≡◌, ◌∙◌, ◌+◌, ◌-◌, ◌*◌, ap, arith, slice_index}
 use Rattle.std.proofs.lemmas.List.{get_or_default}
-use Rattle.pdh_rows.proofs.Tabled.{place_below}
+use Rattle.std.proofs.Math.Nat.{add-mul}
+use Rattle.pdh_rows.proofs.Tabled.{next_before}
 use Rattle.pdh_rows.proofs.Parts.{trib_row_is, next_stored}
 use Rattle.pdh_rows.proofs.table.Table.trib_row.Goals as goal
+
+pub overflow_sub-result : goal.overflow_sub-result
+overflow_sub-result c =
+    let t = c.args.self.now in
+    let end : c.args.row * t.tribs + c.args.trib + t.tribs ≡ (c.args.row + 1) * t.tribs + c.args.trib = omega (arith, add-mul c.args.row 1 t.tribs) in
+    let next = next_before t c.args.row c.args.trib c.requires.table c.requires.row c.requires.in_range in
+    rw (c.as_slice-sums.ensures.value, end) (omega (arith, next))
 
 pub returns-clause-row : goal.returns-clause-row
 returns-clause-row c =
     let t = c.args.self.now in
-    let place = place_below c.args.row (length t.repeats.items) t.tribs c.args.trib c.requires.row c.requires.in_range in
-    let place' = place_below c.args.row (length t.repeats.items + 1) t.tribs c.args.trib (let r = c.requires.row in omega arith) c.requires.in_range in
     trib_row_is t c.args.row c.args.trib _ c.requires.table c.requires.row c.requires.in_range
     (ap (λ firsts. slice_index firsts c.args.row) c.as_slice-firsts.ensures.value)
     (c.index.ensures ∙ get_or_default t.repeats.items _ c.index.result.now 0 c.requires.row)
-    (c.index-2.ensures ∙ get_or_default t.before.items _ c.index-2.result.now 0 (omega (arith, place', c.requires.table.before_len)))
-    (c.index-3.ensures ∙ get_or_default t.counts.items _ c.index-3.result.now 0 (omega (arith, place, c.requires.table.counts_len)))
+    (ap (λ sums. slice_index sums (c.args.row * t.tribs + c.args.trib)) c.as_slice-sums.ensures.value)
+    (ap (λ sums. slice_index sums (c.args.row * t.tribs + c.args.trib + t.tribs) - slice_index sums (c.args.row * t.tribs + c.args.trib)) c.as_slice-sums.ensures.value
+    ∙ ap (λ n. slice_index t.before.items n - slice_index t.before.items (c.args.row * t.tribs + c.args.trib)) (let end : c.args.row * t.tribs + c.args.trib + t.tribs ≡ (c.args.row + 1) * t.tribs + c.args.trib = omega (arith, add-mul c.args.row 1 t.tribs) in end))
+    c.flow.ensures
 
 pub returns-clause-fits : goal.returns-clause-fits
 returns-clause-fits c =

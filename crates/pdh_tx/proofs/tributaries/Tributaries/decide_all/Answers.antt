@@ -42,9 +42,8 @@ loop-trib-preserved g c =
     let counts : ℕ → ℕ = λ j. (plan_of c.args.clock.now).counts c.args.path j c.args.frame in
     let stores : stores_at c.args.clock.now.levels (steps_of c.args.path) ≡ g.S.Shape.TRIBS =
     ap (λ o. option_map_or level_stores o 0) c.requires.node.at ∙ all_stores g.S.Shape.shape c.requires.node.level c.args.self.now.stores c.requires.node.numbers ∙ g.met.S.Shape.tribs_is in
-    let each : List ℕ = c.counts-arriving.result.now in
-    let inside : i < length each = omega (arith, stores, c.counts-arriving.ensures.len, c.loop-trib-test.true) in
-    let stored : i < stores_at c.args.clock.now.levels (steps_of c.args.path) = omega (arith, inside, c.counts-arriving.ensures.len) in
+    let each : List ℕ = c.counts-arriving.result in
+    let stored : i < stores_at c.args.clock.now.levels (steps_of c.args.path) = omega (arith, stores, c.loop-trib-test.true) in
     let value : slice_index each i ≡ counts i = c.counts-arriving.ensures.value i stored in
     record {
       child = map-set_same child_in ws i w' c.index_mut.result.now (c.decide.ensures.child ∙ ap child_in c.index_mut.ensures.value) ∙ inv.child;

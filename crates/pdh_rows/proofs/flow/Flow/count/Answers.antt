@@ -1,0 +1,12 @@
+use Rattle.std.proofs.Common.{◌≡◌, ◌≤◌, ◌+◌, ◌-◌, suc, ap, arith}
+use Rattle.pdh_rows.specs.Flows.{flowed}
+use Rattle.pdh_rows.proofs.FlowLaws.{flow-most}
+use Rattle.pdh_rows.proofs.flow.Flow.count.Goals as goal
+
+pub overflow_cast-result : goal.overflow_cast-result
+overflow_cast-result c =
+    let next : c.from-frame.result + 1 ≡ suc c.args.frame = omega (arith, c.from-frame.ensures) in
+    let most = flow-most c.args.self 4294967295 c.args.frame c.requires.some c.requires.most in
+    let small : c.arrived.result - c.arrived-2.result ≤ 4294967295 =
+    omega (arith, most, c.arrived.ensures, c.arrived-2.ensures, ap (flowed c.args.self) next, ap (flowed c.args.self) c.from-frame.ensures) in
+    grind arith
