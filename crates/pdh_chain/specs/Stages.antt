@@ -8,7 +8,7 @@ use Rattle.pdh_shape.specs.declared.place.Level.{Level}
 use Rattle.pdh_nesting.specs.Chains.{width, top_len}
 use Rattle.pdh_recovery.specs.Losing.{KeepsRight}
 use Rattle.pdh_levels.specs.Levels.{shortest_frame, longest_frame, fewest_tributaries, most_tributaries}
-use Rattle.pdh_clock.specs.RateWords.{fast, slow}
+use Rattle.pdh_row_text.specs.RateWords.{fast, slow}
 
 -- The rate of a line and that of each of its tributaries, each in bits a second as a number and what it is divided by, and by
 -- how many parts per million they may be off.

@@ -19,9 +19,10 @@ use Rattle.pdh_clock.specs.declared.tree.Tree.{Tree}
 use Rattle.pdh_clock.specs.Row.{Row}
 use Rattle.pdh_levels.specs.Levels.{longest_frame, IsLevel, level_at, level_stores, len_at, nodes_in, stores_at}
 use Rattle.pdh_clock.specs.Contents.{IsRowOf, rows_at, by_nodes, same_path}
-use Rattle.pdh_clock.specs.Text.{lines_of}
-use Rattle.pdh_clock.specs.declared.row.Version.{Version}
-use Rattle.pdh_clock.specs.Judged.{◌>>=◌, is_passed_over, row_judged, rows_judged, versions_judged, lines_judged, Fails}
+use Rattle.pdh_row_text.specs.Text.{lines_of}
+use Rattle.pdh_row_text.specs.declared.row.Version.{Version}
+use Rattle.pdh_row_text.specs.Text.{is_passed_over}
+use Rattle.pdh_clock.specs.Judged.{◌>>=◌, row_judged, rows_judged, versions_judged, lines_judged, Fails}
 use Rattle.pdh_clock.specs.Stored.{IsTree, IsSmall, IsSmallRow, at_path, node_path, row_bytes, rows_in, most_node_frames}
 use Rattle.pdh_clock.proofs.Trees.{IsNodeAt, rows_at-by_nodes}
 use Rattle.pdh_levels.proofs.LevelLaws.{has_level, known, len_is, level_is, stores_count, level_stores_is, has_stores}

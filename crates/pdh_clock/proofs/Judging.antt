@@ -4,12 +4,13 @@ use Rattle.std.specs.Option.{ok_or}
 use Rattle.pdh_shape.specs.declared.place.Level.{Level}
 use Rattle.pdh_clock.specs.declared.fault.ScheduleFault.{ScheduleFault}
 use Rattle.pdh_clock.specs.declared.fault.ScheduleFault.TheVariants.{BadRow, UnknownNode}
-use Rattle.pdh_clock.specs.declared.row.FoundRow.{FoundRow}
-use Rattle.pdh_clock.specs.declared.row.Version.{Version}
-use Rattle.pdh_clock.specs.Row.{Form, Row, form_of}
+use Rattle.pdh_row_text.specs.declared.row.FoundRow.{FoundRow}
+use Rattle.pdh_row_text.specs.declared.row.Version.{Version}
+use Rattle.pdh_row_text.specs.Form.{Form, form_of}
+use Rattle.pdh_clock.specs.Row.{Row}
 use Rattle.pdh_levels.specs.Levels.{level_at}
 use Rattle.pdh_line.specs.Paths.{steps_of}
-use Rattle.pdh_clock.specs.Parsed.{Finds, IsForm}
+use Rattle.pdh_row_text.specs.Parsed.{Finds, IsForm}
 use Rattle.pdh_clock.specs.Judged.{◌>>=◌, Gives, stores_judged, row_judged}
 
 -- the row that is there where one was found

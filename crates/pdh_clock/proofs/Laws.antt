@@ -22,15 +22,17 @@ use Rattle.pdh_levels.specs.Levels.{IsLevel, nodes_in, level_at, level_stores, l
 use Rattle.pdh_levels.proofs.LevelLaws.{level_in, level_is, stores_count, len_is}
 use Rattle.pdh_clock.specs.declared.fault.ScheduleFault.{ScheduleFault}
 use Rattle.pdh_clock.specs.declared.fault.ScheduleFault.TheVariants.{BadRow, UnknownNode, CountOver}
-use Rattle.pdh_clock.specs.declared.row.Version.{Version}
-use Rattle.pdh_clock.specs.declared.row.Version.TheVariants.{First, Second}
-use Rattle.pdh_clock.specs.Text.{lines_of, number_of, each_of, path_of, words_of}
-use Rattle.pdh_clock.specs.RateWords.{rate_of}
-use Rattle.pdh_clock.specs.Row.{Form, Row, counts_form, rates_form, counts_row, rates_row, form_of_words, form_of, ratio_of, row_of}
-use Rattle.pdh_clock.specs.Judged.{◌>>=◌, first_over, counts_judged, is_passed_over, row_judged, rows_judged, versions_judged, schedule_of}
+use Rattle.pdh_row_text.specs.declared.row.Version.{Version}
+use Rattle.pdh_row_text.specs.declared.row.Version.TheVariants.{First, Second}
+use Rattle.pdh_row_text.specs.Text.{lines_of, number_of, each_of, path_of, words_of}
+use Rattle.pdh_row_text.specs.RateWords.{rate_of}
+use Rattle.pdh_row_text.specs.Form.{Form, counts_form, rates_form, counts_row, rates_row, form_of_words, form_of}
+use Rattle.pdh_clock.specs.Row.{Row, ratio_of, row_of}
+use Rattle.pdh_row_text.specs.Text.{is_passed_over}
+use Rattle.pdh_clock.specs.Judged.{◌>>=◌, first_over, counts_judged, row_judged, rows_judged, versions_judged, schedule_of}
 use Rattle.pdh_clock.specs.Contents.{IsRowOf, rows_at, by_nodes, frames_of_row, frames_of, counts, same_path}
 use Rattle.pdh_clock.specs.Made.{IsRated}
-use Rattle.pdh_clock.proofs.RateLaws.{IsRate, rate_is, rates_are}
+use Rattle.pdh_row_text.proofs.RateLaws.{IsRate, rate_is, rates_are}
 use Rattle.pdh_clock.proofs.RatedFlows.{rated-fits, rated-counts}
 
 -- ---- steps that may fail

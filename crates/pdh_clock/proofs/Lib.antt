@@ -1,6 +1,3 @@
-pub mod Splits
-pub mod Searches
-pub mod Counting
 pub mod Laws
 pub mod Trees
 pub mod Growing
@@ -21,4 +18,3 @@ pub mod WorkedVersions
 pub mod RatesLaws
 pub mod Entered
 pub mod RatedFlows
-pub mod RateLaws

@@ -6,7 +6,7 @@ use Rattle.std.proofs.lemmas.Bool.{cases_lt}
 use Rattle.pdh_shape.specs.declared.place.Level.{Level}
 use Rattle.pdh_clock.specs.declared.bias.Offset.{Offset}
 use Rattle.pdh_clock.specs.declared.bias.Offset.TheVariants.{Exact, Ahead, Behind}
-use Rattle.pdh_clock.specs.RateWords.{fast, slow}
+use Rattle.pdh_row_text.specs.RateWords.{fast, slow}
 use Rattle.pdh_clock.specs.Made.{IsRated, scale_of, made_arrived}
 
 pub scale-between : (offset : Offset) (ppm : ℕ) → (slow ppm ≤ scale_of offset ppm) × (scale_of offset ppm ≤ fast ppm)

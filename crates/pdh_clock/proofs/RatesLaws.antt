@@ -8,7 +8,7 @@ use Rattle.pdh_levels.specs.Levels.{IsElastic}
 use Rattle.pdh_shape.specs.OwnNumbers.{allowance}
 use Rattle.pdh_line.specs.Tolerance.{arrived_over, IsWithin}
 use Rattle.pdh_rows.specs.declared.outside.Outside.{Outside}
-use Rattle.pdh_clock.specs.RateWords.{fast, slow}
+use Rattle.pdh_row_text.specs.RateWords.{fast, slow}
 use Rattle.pdh_clock.specs.Made.{IsRated}
 use Rattle.pdh_clock.specs.Rates.{IsWithinRates}
 use Rattle.pdh_rows.specs.Outside.{first_outside, run_in}

@@ -16,7 +16,7 @@ use Rattle.std.proofs.lemmas.List.Sums.{fold_push, AllPass-from_list_all}
 use Rattle.std.proofs.lemmas.Slice.Eq.{bytes_eq-Decides}
 use Rattle.pdh_shape.specs.declared.place.Level.{Level}
 use Rattle.pdh_clock.specs.declared.fault.ScheduleFault.TheVariants.{TooLong, BadRow, UnknownNode, CountOver}
-use Rattle.pdh_clock.specs.Text.{lines_of, words_of, digits_value, is_number, number_of, each_of, path_of}
+use Rattle.pdh_row_text.specs.Text.{lines_of, words_of, digits_value, is_number, number_of, each_of, path_of}
 use Rattle.pdh_rows.specs.declared.flow.Flow.{Flow}
 use Rattle.pdh_rows.specs.declared.flow.Says.{Says}
 use Rattle.pdh_rows.specs.declared.flow.Says.TheVariants.{Counts}
@@ -24,11 +24,13 @@ use Rattle.pdh_rows.specs.Flows.{flow_count, each}
 use Rattle.pdh_rows.specs.Rows.{frames_in}
 use Rattle.pdh_rows.proofs.Counted.{said_row-each}
 use Rattle.pdh_rows.proofs.Joining.{frames_in-each}
-use Rattle.pdh_clock.specs.declared.row.Version.TheVariants.{First, Second}
-use Rattle.pdh_clock.specs.Row.{Form, Row, counts_form, counts_row, form_of, ratio_of, row_of}
+use Rattle.pdh_row_text.specs.declared.row.Version.TheVariants.{First, Second}
+use Rattle.pdh_row_text.specs.Form.{Form, counts_form, counts_row, form_of}
+use Rattle.pdh_clock.specs.Row.{Row, ratio_of, row_of}
 use Rattle.pdh_levels.specs.Levels.{most_tributaries, IsLevel, AreLevels, nodes_in, level_at, level_stores, stores_at, len_at, place_of}
 use Rattle.pdh_clock.specs.Contents.{IsRowOf, rows_at, by_nodes, frames_of_row, frames_of, same_path}
-use Rattle.pdh_clock.specs.Judged.{◌>>=◌, first_over, is_passed_over, counts_judged, stores_judged, row_judged, rows_judged, versions_judged, lines_judged, schedule_of}
+use Rattle.pdh_row_text.specs.Text.{is_passed_over}
+use Rattle.pdh_clock.specs.Judged.{◌>>=◌, first_over, counts_judged, stores_judged, row_judged, rows_judged, versions_judged, lines_judged, schedule_of}
 use Rattle.pdh_shape.specs.OwnNumbers.{most_bytes}
 use Rattle.pdh_clock.specs.Stored.{ratio_at, row_in}
 use Rattle.pdh_clock.specs.Written.{text_with, with_frame, longest_rows, rows_written, number_words, row_line, text_of, ReadsBack}

@@ -5,7 +5,7 @@ use Rattle.pdh_levels.proofs.Worked.{e2, e3, e4, ds3_locked, ds2_locked}
 use Rattle.pdh_clock.specs.declared.fault.ScheduleFault.{ScheduleFault}
 use Rattle.pdh_clock.specs.declared.fault.ScheduleFault.TheVariants.{BadRow, UnknownNode, CountOver}
 use Rattle.pdh_line.specs.Progress.{arrived}
-use Rattle.pdh_clock.specs.Text.{lines_of, words_of, number_of, path_of}
+use Rattle.pdh_row_text.specs.Text.{lines_of, words_of, number_of, path_of}
 use Rattle.pdh_rows.specs.Flows.{each}
 use Rattle.pdh_clock.specs.Row.{Row}
 use Rattle.pdh_line.specs.Nodes.{entered_at}

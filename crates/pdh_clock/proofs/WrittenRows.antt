@@ -18,7 +18,7 @@ use Rattle.pdh_rows.proofs.Joining.{joined, no_row, length-joined, get_or-joined
 use Rattle.pdh_rows.proofs.Storing.{get_or-stored_rows}
 use Rattle.pdh_rows.proofs.Tabled.{length-rows_of, node_frames-rows_of, next_first, row_at}
 use Rattle.pdh_clock.specs.declared.writing.Run.{Run}
-use Rattle.pdh_clock.specs.Row.{Form, counts_form}
+use Rattle.pdh_row_text.specs.Form.{Form, counts_form}
 use Rattle.pdh_clock.specs.Runs.{run_counts, run_text, text_before, frames_from}
 use Rattle.pdh_clock.specs.Written.{with_frame, longest_rows, row_line}
 

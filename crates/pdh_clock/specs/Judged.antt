@@ -5,12 +5,13 @@ use Rattle.std.specs.Option.{ok_or, option_map_or}
 use Rattle.pdh_shape.specs.declared.place.Level.{Level}
 use Rattle.pdh_clock.specs.declared.fault.ScheduleFault.{ScheduleFault}
 use Rattle.pdh_clock.specs.declared.fault.ScheduleFault.TheVariants.{TooLong, BadRow, UnknownNode, CountOver, Memory}
-use Rattle.pdh_clock.specs.Text.{lines_of}
+use Rattle.pdh_row_text.specs.Text.{lines_of, is_passed_over}
 use Rattle.pdh_rows.specs.declared.flow.Says.{Says}
 use Rattle.pdh_rows.specs.declared.flow.Says.TheVariants.{Counts, Rates}
-use Rattle.pdh_clock.specs.declared.row.Version.{Version}
-use Rattle.pdh_clock.specs.declared.row.Version.TheVariants.{First, Second}
-use Rattle.pdh_clock.specs.Row.{Form, Row, form_of, ratio_of, row_of}
+use Rattle.pdh_row_text.specs.declared.row.Version.{Version}
+use Rattle.pdh_row_text.specs.declared.row.Version.TheVariants.{First, Second}
+use Rattle.pdh_row_text.specs.Form.{Form, form_of}
+use Rattle.pdh_clock.specs.Row.{Row, ratio_of, row_of}
 use Rattle.pdh_levels.specs.Levels.{level_at, level_stores}
 use Rattle.pdh_clock.specs.Contents.{by_nodes}
 use Rattle.pdh_shape.specs.OwnNumbers.{most_bytes}
@@ -40,11 +41,6 @@ row_judged levels version number line = do
   form ← ok_or (form_of version line) (BadRow number)
   level ← ok_or (level_at levels form.path) (UnknownNode number)
   stores_judged number level form
-
--- an empty line and one that begins with `#`, 35
-abbrev pub is_passed_over : List ℕ → Bool
-is_passed_over [] = true
-is_passed_over (byte ∷ _) = byte == 35
 
 -- the rows of lines, of which the first has that number, or the first fault
 abbrev pub rows_judged : List Level → Version → ℕ → List (List ℕ) → Result (List Row) ScheduleFault

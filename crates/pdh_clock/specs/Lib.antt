@@ -1,10 +1,7 @@
-pub mod Text
 pub mod Row
-pub mod RateWords
 pub mod Judged
 pub mod Contents
 pub mod Begun
-pub mod Parsed
 pub mod Stored
 pub mod Made
 pub mod Making

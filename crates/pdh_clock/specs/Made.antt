@@ -7,7 +7,7 @@ use Rattle.pdh_clock.specs.declared.bias.Bias.TheVariants.{Nominal, Fast, Slow, 
 use Rattle.pdh_clock.specs.declared.bias.Offset.{Offset}
 use Rattle.pdh_clock.specs.declared.bias.Offset.TheVariants.{Exact, Ahead, Behind}
 use Rattle.pdh_levels.specs.Levels.{IsElastic, level_stores}
-use Rattle.pdh_clock.specs.RateWords.{fast, slow}
+use Rattle.pdh_row_text.specs.RateWords.{fast, slow}
 use Rattle.pdh_clock.specs.Begun.{taken, top_len}
 use Rattle.pdh_line.specs.Progress.{begun_by}
 use Rattle.pdh_shape.specs.OwnNumbers.{most_frames}

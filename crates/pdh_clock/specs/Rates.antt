@@ -3,7 +3,7 @@ use Rattle.std.specs.Prelude.{ℕ, ◌+◌, ◌*◌, ◌≤◌}
 use Rattle.pdh_shape.specs.declared.place.Level.{Level}
 use Rattle.pdh_shape.specs.OwnNumbers.{allowance}
 use Rattle.pdh_line.specs.Tolerance.{arrived_over}
-use Rattle.pdh_clock.specs.RateWords.{fast, slow}
+use Rattle.pdh_row_text.specs.RateWords.{fast, slow}
 
 -- Over so many frames a tributary keeps to the rates of its level: in the time of each run of frames arrive no fewer bits
 -- than its slowest clock gives to the fastest line, and no more than its fastest clock gives to the slowest line, up to

@@ -6,7 +6,7 @@ use Rattle.pdh_rows.specs.Stored.{rows_of}
 use Rattle.pdh_rows.specs.declared.table.Table.{Table}
 use Rattle.pdh_clock.specs.declared.tree.NodeRows.{NodeRows}
 use Rattle.pdh_clock.specs.declared.writing.Run.{Run}
-use Rattle.pdh_clock.specs.Row.{counts_form}
+use Rattle.pdh_row_text.specs.Form.{counts_form}
 use Rattle.pdh_clock.specs.Stored.{node_path}
 use Rattle.pdh_clock.specs.Written.{longest_rows, row_line}
 

@@ -11,7 +11,8 @@ use Rattle.pdh_shape.specs.OwnNumbers.{most_bytes}
 use Rattle.pdh_shape.specs.declared.place.Level.{Level}
 use Rattle.pdh_clock.specs.declared.tree.NodeRows.{NodeRows}
 use Rattle.pdh_clock.specs.declared.tree.Tree.{Tree}
-use Rattle.pdh_clock.specs.Row.{Form, Row, ratio_of, row_of}
+use Rattle.pdh_row_text.specs.Form.{Form}
+use Rattle.pdh_clock.specs.Row.{Row, ratio_of, row_of}
 use Rattle.pdh_levels.specs.Levels.{AreLevels, level_at, longest_frame, stores_at, nodes_in}
 use Rattle.pdh_line.specs.Paths.{steps_of}
 use Rattle.pdh_clock.specs.Contents.{Contents, IsRowOf}

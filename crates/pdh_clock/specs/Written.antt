@@ -4,7 +4,8 @@ use Rattle.std.specs.List.{flat_map}
 use Rattle.std.specs.Str.{bytes_eq}
 use Rattle.pdh_shape.specs.declared.place.Level.{Level}
 use Rattle.pdh_line.specs.Paths.{path_text}
-use Rattle.pdh_clock.specs.Row.{Form, Row, counts_form}
+use Rattle.pdh_row_text.specs.Form.{Form, counts_form}
+use Rattle.pdh_clock.specs.Row.{Row}
 use Rattle.pdh_levels.specs.Levels.{level_at, nodes_in}
 use Rattle.pdh_clock.specs.Contents.{Contents, frames_of, frame_count}
 use Rattle.pdh_clock.specs.Judged.{schedule_of}

@@ -1,26 +1,20 @@
 //! The judgement of a line of a schedule.
 
 ghost use Rattle.std.specs.Prelude.{◌≡◌, ◌+◌, ◌*◌, ◌≤◌, ◌<◌, ◌^◌, ℕ, List, ◌∷◌, length, nat_lt, find, IfOk, OnOk, All};
-ghost use Rattle.pdh_clock.specs.Judged.{Gives, first_over, is_passed_over as passed_over, stores_judged, row_judged};
-ghost use Rattle.pdh_clock.specs.Parsed.{IsForm, form_found, numbers_found};
-ghost use Rattle.pdh_clock.specs.Row.{Form, ratio_of, row_of};
+ghost use Rattle.pdh_clock.specs.Judged.{Gives, first_over, stores_judged, row_judged};
+ghost use Rattle.pdh_row_text.specs.Parsed.{IsForm, form_found, numbers_found};
+ghost use Rattle.pdh_row_text.specs.Form.{Form};
+ghost use Rattle.pdh_clock.specs.Row.{ratio_of, row_of};
 ghost use Rattle.pdh_clock.specs.Stored.{row_in};
 ghost use Rattle.std.specs.Option.{option_copied, option_and_then};
 ghost use Rattle.pdh_levels.specs.Levels.{IsLevel, level_at, level_stores, most_tributaries};
 ghost use Rattle.pdh_line.specs.Paths.{steps_of};
 
 use crate::fault::ScheduleFault;
-use crate::row::{FoundRow, Version, row};
 use pdh_levels::store_count;
+use pdh_row_text::{FoundRow, Version, read_row};
 use pdh_rows::Says;
 use pdh_shape::{Level, Path};
-
-/// Whether a line says nothing: an empty one, or one that begins with `#`.
-pub fn is_passed_over(line: &[u8]) -> bool
-    ensures { result ≡ passed_over line.now }
-{
-    matches!(line, [] | [b'#', ..])
-}
 
 /// The first count that is above the bits of a frame.
 fn count_over(counts: &[u32], most: u32) -> Option<u32>
@@ -96,7 +90,7 @@ pub fn judge(
     ensures repeat { IfOk result (λ row. row.repeat < 10 ^ 9) }
     ensures lens { IfOk result (λ row. 3 + 2 * length (numbers_found row.numbers) ≤ length line.now) }
 {
-    let Some(row) = row(version, line) else {
+    let Some(row) = read_row(version, line) else {
         return Err(ScheduleFault::BadRow { line: number });
     };
     let Some(level) = level_of(levels, &row.path) else {

@@ -11,7 +11,7 @@ ghost use Rattle.pdh_clock.specs.Stored.{IsTree};
 ghost use Rattle.pdh_shape.specs.OwnNumbers.{most_frames};
 
 use crate::bias::{Bias, Offset};
-use crate::rates::ratio_of;
+use crate::ratio::ratio_of;
 use crate::tree::Tree;
 use pdh_levels::{MOST_TRIBUTARIES, store_count};
 use pdh_rows::{Says, Table};

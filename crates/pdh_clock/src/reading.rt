@@ -4,31 +4,18 @@ ghost use Rattle.std.specs.Prelude.{◌≡◌, ◌≤◌, ◌+◌, suc, List, Al
 ghost use Rattle.pdh_shape.specs.OwnNumbers.{most_bytes};
 ghost use Rattle.pdh_shape.specs.declared.place.Level.{Level};
 ghost use Rattle.pdh_levels.specs.Levels.{AreLevels};
-ghost use Rattle.pdh_clock.specs.Text.{lines_of};
+ghost use Rattle.pdh_row_text.specs.Text.{lines_of};
 ghost use Rattle.pdh_clock.specs.Judged.{Gives, lines_judged, rows_judged, versions_judged};
 ghost use Rattle.pdh_clock.specs.Made.{IsRated};
-ghost use Rattle.pdh_clock.specs.Parsed.{lines_before};
+ghost use Rattle.pdh_row_text.specs.Parsed.{lines_before};
 ghost use Rattle.pdh_clock.specs.Stored.{IsTree, rows_in};
 
 use crate::fault::ScheduleFault;
-use crate::judge::{is_passed_over, judge};
-use crate::row::Version;
+use crate::judge::judge;
 use crate::tree::Tree;
-use crate::words::first_line;
+use pdh_row_text::{Version, first_line, is_passed_over};
 use pdh_shape::Level;
 use std::alloc::Global;
-
-impl Version {
-    /// How many lines of a text say its version.
-    fn lines(self) -> u32
-        ensures { result ≡ lines_before self }
-    {
-        match self {
-            Version::First => 0,
-            Version::Second => 1,
-        }
-    }
-}
 
 /// The version of a text, and the lines that may be rows.
 fn version_of(text: &[u8]) -> (Version, &[u8])

@@ -12,7 +12,7 @@ ghost use Rattle.pdh_clock.specs.Stored.{IsTree, IsSmallRow, node_path, said_in,
 ghost use Rattle.pdh_rows.specs.Flows.{FlowFits};
 ghost use Rattle.pdh_shape.specs.OwnNumbers.{most_bytes};
 
-use crate::rates::ratio_of;
+use crate::ratio::ratio_of;
 use pdh_levels::{MOST_TRIBUTARIES, level_of, node_at, node_count, node_place, store_count};
 use pdh_rows::{Says, Table};
 use pdh_shape::{Level, Path};

@@ -6,7 +6,7 @@ ghost use Rattle.pdh_rows.specs.Rows.{node_frames};
 ghost use Rattle.pdh_rows.specs.Stored.{IsTable, rows_of};
 ghost use Rattle.pdh_levels.specs.Levels.{level_at, most_tributaries};
 ghost use Rattle.pdh_line.specs.Paths.{steps_of, path_text};
-ghost use Rattle.pdh_clock.specs.Row.{counts_form};
+ghost use Rattle.pdh_row_text.specs.Form.{counts_form};
 ghost use Rattle.pdh_clock.specs.Stored.{IsTree, contents_of, node_path};
 ghost use Rattle.pdh_clock.specs.Written.{number_words, row_line, longest_rows, text_of};
 ghost use Rattle.pdh_clock.specs.Runs.{run_counts, run_text, text_before, text_from};

@@ -10,7 +10,7 @@ use Rattle.pdh_script.specs.declared.fault.ScriptFault.{ScriptFault}
 use Rattle.pdh_script.specs.declared.fault.ScriptFault.TheVariants.{TooLong}
 use Rattle.pdh_script.specs.Scripts.{Change, Row, FitFrom, FitIn, end_of, bits_changed, altered, disturbed, disturbed_from}
 use Rattle.pdh_script.specs.Scripts.Change.{Flip, Ones, Zeros, Drop, Add}
-use Rattle.pdh_clock.specs.Text.{lines_of}
+use Rattle.pdh_row_text.specs.Text.{lines_of}
 use Rattle.pdh_script.specs.ScriptText.{most_script_bytes, script_of, rows_judged}
 use Rattle.pdh_script.proofs.Growing.{judged_fits}
 use Rattle.pdh_answers.specs.Names.{line_name, script_name}

@@ -3,8 +3,8 @@ use Rattle.std.proofs.Common.{◌≡◌, ℕ, suc, ◌+◌, ◌*◌, ◌<◌, �
 use Rattle.std.specs.Option.{ok_or}
 use Rattle.std.proofs.lemmas.Bool.{ltb-false}
 use Rattle.std.proofs.lemmas.List.{length-drop, nil_from_length, take-take, take-append-le, drop-append-le}
-use Rattle.pdh_clock.specs.Judged.{is_passed_over}
-use Rattle.pdh_clock.specs.Text.{lines_of}
+use Rattle.pdh_row_text.specs.Text.{is_passed_over}
+use Rattle.pdh_row_text.specs.Text.{lines_of}
 use Rattle.pdh_script.specs.RowText.{row_of}
 use Rattle.pdh_script.specs.ScriptText.{◌>>=◌, placed, row_judged, rows_judged}
 use Rattle.pdh_script.specs.Scripts.{Row, Add, FitFrom, end_of, row}

@@ -1,9 +1,9 @@
 -- A line that has more words than a row.
 use Rattle.std.proofs.Common.{◌≡◌, ℕ, true, List, ◌∷◌, Option, Some, None, is_some, ap, ◌∙◌, Bor}
 use Rattle.std.specs.Option.{option_copied}
-use Rattle.pdh_clock.specs.Parsed.{words_left}
-use Rattle.pdh_clock.specs.Text.{words_of}
-use Rattle.pdh_clock.proofs.Splits.{words_of_first}
+use Rattle.pdh_row_text.specs.Parsed.{words_left}
+use Rattle.pdh_row_text.specs.Text.{words_of}
+use Rattle.pdh_row_text.proofs.Splits.{words_of_first}
 use Rattle.pdh_script.specs.RowText.{row_of, row_of_words}
 
 no_row : (a b c : List ℕ) (o : Option (Bor (List ℕ))) → true ≡ is_some o → row_of_words (a ∷ b ∷ c ∷ words_left (option_copied o)) ≡ None

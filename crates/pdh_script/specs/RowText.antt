@@ -3,7 +3,7 @@ use Rattle.std.specs.Prelude.{ℕ, ◌==◌, nat_lt, ◌||◌, if◌then◌else�
 use Rattle.std.specs.Result.{result_ok}
 use Rattle.std.specs.Str.{bytes_eq}
 use Rattle.hex.specs.Hex.{decode_of}
-use Rattle.pdh_clock.specs.Text.{◌>>=◌, words_of, number_of}
+use Rattle.pdh_row_text.specs.Text.{◌>>=◌, words_of, number_of}
 use Rattle.pdh_script.specs.Scripts.{Change, Flip, Ones, Zeros, Drop, Add, Row}
 
 -- a number of bits, which isn't 0

@@ -1,8 +1,8 @@
 -- The rows of a script's text, or its first fault.
 use Rattle.std.specs.Prelude.{◌≡◌, ℕ, suc, nat_lt, if◌then◌else◌, List, [], ◌∷◌, length, Result, Ok, Err}
 use Rattle.std.specs.Option.{ok_or}
-use Rattle.pdh_clock.specs.Judged.{is_passed_over}
-use Rattle.pdh_clock.specs.Text.{lines_of}
+use Rattle.pdh_row_text.specs.Text.{is_passed_over}
+use Rattle.pdh_row_text.specs.Text.{lines_of}
 use Rattle.pdh_script.specs.declared.fault.ScriptFault.{ScriptFault}
 use Rattle.pdh_script.specs.declared.fault.ScriptFault.TheVariants.{TooLong, BadRow, PastEnd, Memory}
 use Rattle.pdh_script.specs.RowText.{row_of}

@@ -1,14 +1,14 @@
 //! The reading of a script's rows.
 
 ghost use Rattle.std.specs.Prelude.{◌≡◌, ◌≤◌, ◌+◌, ◌*◌, [], ◌∷◌, ◌++◌, length, take, IfOk, OnOk};
-ghost use Rattle.pdh_clock.specs.Text.{lines_of};
+ghost use Rattle.pdh_row_text.specs.Text.{lines_of};
 ghost use Rattle.pdh_script.specs.ScriptText.{Gives, row_judged, rows_judged, most_script_bytes};
 ghost use Rattle.pdh_script.specs.Stored.{AreSteps, count_added, most_row_bytes, row_found, rows_in};
 
 use crate::fault::ScriptFault;
 use crate::row::{FoundRow, row};
 use crate::step::Step;
-use pdh_clock::{first_line, is_passed_over};
+use pdh_row_text::{first_line, is_passed_over};
 use std::alloc::{AllocError, Global};
 
 /// The rows of a script, and the bytes that they add.

@@ -6,7 +6,7 @@ ghost use Rattle.pdh_script.specs.RowText.{count_of, hex_of, change_of, row_of};
 ghost use Rattle.pdh_script.specs.Stored.{change_by, change_found, count_added, most_row_bytes, row_found};
 
 use crate::step::{Edit, Effect, Step};
-use pdh_clock::{first_word, number};
+use pdh_row_text::{first_word, number};
 
 /// The most bytes that a row adds.
 const MOST_ROW_BYTES: usize = 64;

@@ -5,7 +5,8 @@ ghost use Rattle.std.specs.String.{string_bytes};
 ghost use Rattle.pdh_words.specs.Commands.{chain_of, bias_of, framing_of, reading_of, conversion_of, showing_of, checking_of, sending_of, making_of, drilling_of, of_two as by_two, of_three as by_three, of_four as by_four, of_five as by_five, command_of, usage_text, HasSmallNumbers};
 
 use pdh_chain::{Chain, all_chains};
-use pdh_clock::{Bias, number};
+use pdh_clock::Bias;
+use pdh_row_text::number;
 
 /// Which file a line is read from.
 #[derive(Clone, Copy, Debug, PartialEq, Eq)]

@@ -4,7 +4,7 @@ use Rattle.std.proofs.lemmas.List.{length-take}
 use Rattle.std.specs.Option.{option_map_or}
 use Rattle.pdh_line.specs.Paths.{steps_of}
 use Rattle.pdh_levels.proofs.LevelLaws.{level_is, stores_few}
-use Rattle.pdh_clock.specs.Parsed.{form_found}
+use Rattle.pdh_row_text.specs.Parsed.{form_found}
 use Rattle.pdh_clock.specs.Row.{ratio_of, row_of}
 use Rattle.pdh_clock.specs.Stored.{row_in}
 use Rattle.pdh_clock.proofs.Judging.{form_fails, node_fails, judged_by_numbers}

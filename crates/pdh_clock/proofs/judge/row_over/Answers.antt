@@ -1,6 +1,6 @@
 use Rattle.std.proofs.Common.{◌∙◌, nat_lt, find, ap, sym}
 use Rattle.pdh_clock.specs.Judged.{first_over}
-use Rattle.pdh_clock.specs.Parsed.{numbers_found}
+use Rattle.pdh_row_text.specs.Parsed.{numbers_found}
 use Rattle.pdh_clock.proofs.judge.row_over.Goals as goal
 
 pub returns-in-Counts : goal.returns-in-Counts

@@ -5,9 +5,10 @@ use Rattle.std.proofs.lemmas.List.{nil_from_length, length-map}
 use Rattle.pdh_rows.specs.Flows.{flow_in, FlowFits}
 use Rattle.pdh_shape.specs.declared.place.Level.{Level}
 use Rattle.pdh_line.specs.Paths.{steps_of}
-use Rattle.pdh_clock.specs.Text.{lines_of}
+use Rattle.pdh_row_text.specs.Text.{lines_of}
 use Rattle.pdh_clock.specs.Contents.{IsRowOf, rows_at, by_nodes}
-use Rattle.pdh_clock.specs.Judged.{is_passed_over, row_judged, rows_judged}
+use Rattle.pdh_row_text.specs.Text.{is_passed_over}
+use Rattle.pdh_clock.specs.Judged.{row_judged, rows_judged}
 use Rattle.pdh_clock.specs.Row.{Row}
 use Rattle.pdh_clock.specs.Stored.{said_in, ratio_at, IsSmallRow, row_bytes, rows_in}
 use Rattle.pdh_shape.specs.OwnNumbers.{most_bytes}

@@ -4,8 +4,8 @@ use Rattle.std.specs.Str.{bytes_eq}
 use Rattle.std.proofs.lemmas.Bool.{eqb-true}
 use Rattle.std.proofs.lemmas.List.{nil_from_length}
 use Rattle.pdh_shape.specs.declared.place.Level.{Level}
-use Rattle.pdh_clock.specs.declared.row.Version.TheVariants.{First, Second}
-use Rattle.pdh_clock.specs.Text.{lines_of}
+use Rattle.pdh_row_text.specs.declared.row.Version.TheVariants.{First, Second}
+use Rattle.pdh_row_text.specs.Text.{lines_of}
 use Rattle.pdh_clock.specs.Judged.{rows_judged, versions_judged}
 use Rattle.pdh_clock.proofs.reading.version_of.Goals as goal
 

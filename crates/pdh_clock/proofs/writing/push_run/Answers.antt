@@ -1,7 +1,7 @@
 use Rattle.std.proofs.Common.{◌∙◌, ◌++◌, ap, sym}
 use Rattle.std.proofs.lemmas.Result.{on_ok_weaker}
 use Rattle.pdh_line.specs.Paths.{steps_of}
-use Rattle.pdh_clock.specs.Row.{counts_form}
+use Rattle.pdh_row_text.specs.Form.{counts_form}
 use Rattle.pdh_clock.specs.Written.{row_line}
 use Rattle.pdh_clock.proofs.WrittenRows.{run_none, run_some}
 use Rattle.pdh_clock.proofs.writing.push_run.Goals as goal

@@ -1,5 +1,5 @@
 use Rattle.std.proofs.Common.{◌≡◌, false}
-use Rattle.pdh_clock.specs.Judged.{is_passed_over}
+use Rattle.pdh_row_text.specs.Text.{is_passed_over}
 use Rattle.pdh_script.proofs.Growing.{reads_row}
 use Rattle.pdh_script.proofs.reading.read_rows.Goals as goal
 

@@ -1,4 +1,4 @@
-use Rattle.pdh_clock.specs.Text.{lines_of}
+use Rattle.pdh_row_text.specs.Text.{lines_of}
 use Rattle.pdh_script.specs.Stored.{rows_in}
 use Rattle.pdh_script.proofs.Growing.{judged_fits}
 use Rattle.pdh_script.proofs.script.Script.read.Goals as goal

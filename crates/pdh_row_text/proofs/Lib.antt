@@ -1,0 +1,4 @@
+pub mod Splits
+pub mod Searches
+pub mod Counting
+pub mod RateLaws

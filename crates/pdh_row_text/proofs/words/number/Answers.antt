@@ -1,0 +1,14 @@
+use Rattle.std.proofs.Common.{arith, lit<, ◌≤◌, ◌^◌}
+use Rattle.std.proofs.Math.Nat.{pow-le-pow_right}
+use Rattle.pdh_row_text.proofs.words.number.Goals as goal
+
+pub overflow_mul-value : goal.overflow_mul-value
+overflow_mul-value c =
+    let short : 10 ^ c.loop-digit.digit-index
+    ≤ 10 ^ 8 = pow-le-pow_right (lit< tt) {i = c.loop-digit.digit-index} {j = 8} (omega arith) in omega arith
+
+pub overflow_add-value : goal.overflow_add-value
+overflow_add-value c =
+    let short : 10 ^ c.loop-digit.digit-index
+    ≤ 10 ^ 8 = pow-le-pow_right (lit< tt) {i = c.loop-digit.digit-index} {j = 8} (omega arith) in omega
+    (arith, c.if-not-is_ascii_digit.ensures.bound)

@@ -1,0 +1,4 @@
+pub mod Text
+pub mod Form
+pub mod RateWords
+pub mod Parsed
