@@ -5,17 +5,26 @@ use Rattle.std.proofs.Math.ListN.{get_or-append}
 use Rattle.std.proofs.Math.Nat.{suc-mul, add-mul, mul-le-mul_right}
 use Rattle.std.proofs.lemmas.Bool.{cases_lt}
 use Rattle.std.proofs.lemmas.List.{append-nil, length-append, map-append, get_or-append-add}
+use Rattle.pdh_edge.specs.Counts.{one_more}
 use Rattle.pdh_edge.specs.Files.{Rose}
 use Rattle.pdh_edge.specs.Ports.{Inputs, Outputs, Puts, PutsPart, nothing}
+use Rattle.pdh_edge.proofs.Progress.{both_counts}
+use Rattle.pdh_edge.proofs.Runs.{rose_of}
 use Rattle.pdh_shape.specs.declared.role.Service.{Service}
 use Rattle.pdh_line.specs.Sending.{front}
 use Rattle.pdh_line.proofs.Ranges.{range_append}
 use Rattle.pdh_tx.specs.declared.tx.Tx as tx
 use Rattle.pdh_tx.specs.declared.tx.TxStop.{TxStop}
-use Rattle.pdh_tx.specs.Meaning.{Plan, Supply, Meaning, Fits, Agrees, Makes, Stops, faults_met}
+use Rattle.pdh_tx.specs.declared.tx.TxStop.TheVariants.{Failed, LogFailed}
+use Rattle.pdh_clock.specs.Contents.{Contents}
+use Rattle.pdh_tx.specs.Meaning.{Plan, Supply, plan_of, Meaning, Fits, Agrees, Makes, Stops, faults_met}
 use Rattle.pdh_tx.specs.Held.{IsPart, Halts}
-use Rattle.pdh_tx.specs.Making.{Gives, IsClear, MakesAll}
-use Rattle.pdh_chain.specs.Muxing.{as_line, Stood, HasFrames, SayInFrames, IsFree, StopsAt, MakesBits, StopsMaking, Sends, StopsSending, FailsToSend, FailsToTake}
+use Rattle.pdh_tx.specs.Making.{Gives, IsClear, IsFree, MakesAll}
+use Rattle.pdh_chain.specs.Muxing.{as_line, Stood, HasFrames, SayInFrames, StopsAt, MakesBits, StopsMaking, Sends, StopsSending, FailsToSend, FailsToTake, IsSendStop}
+use Rattle.pdh_chain.specs.Calls.{StopsFrame}
+use Rattle.pdh_chain.specs.Faults.{counted_at_send_stop}
+use Rattle.pdh_chain.specs.declared.sending.SendStop.{SendStop}
+use Rattle.pdh_chain.specs.declared.sending.SendStop.TheVariants.{Sender, TakeFailed, WriteFailed}
 use Rattle.pdh_chain.proofs.Lists.{takes_none, takes_then, puts_none, puts_then, puts_part}
 
 -- ---- what is taken
@@ -133,14 +142,15 @@ makes_more m m' says now placed placed' old mid new plan a b c bits more bit x y
 
 -- ---- a stop of the sender
 
-stops_at : (m : Meaning) (plan : Plan) (a : ℕ) (stop : TxStop) (x y : Inputs) (faults now : ℕ) (s : Stops m plan a stop x y faults now) → StopsAt m plan a a s.given stop x y faults now
-stops_at m plan a stop x y faults now s = record {
+stops_at : (m : Meaning) (plan : Plan) (a : ℕ) (stop : TxStop) (x y : Inputs) (faults now : ℕ) (s : Stops m plan a stop x y faults now) → (stop ≡ LogFailed → ⊥) → StopsAt m plan a a s.given stop x y faults now
+stops_at m plan a stop x y faults now s no_log = record {
   takes = s.takes;
   others = s.others;
   no_fewer = λ k leaf. omega arith;
   no_more = s.no_more;
   free = λ size fits i l h. absurd (omega arith);
   used_up = s.used_up;
+  no_log = no_log;
   met = s.met;
 }
 
@@ -153,6 +163,7 @@ stops_at_then m plan a b made g h stop x y z faults later now p free le s = reco
   no_more = λ k leaf. omega (arith, p.exact k leaf, s.no_more k leaf, length-append (g k) (h k));
   free = free_then m plan a b made g x y p free s.free;
   used_up = s.used_up;
+  no_log = s.no_log;
   met = record {
     counted = s.met.counted ∙ ap (faults_met stop) le;
     is_first = λ e size fits. s.met.is_first e size (fits_then m plan a b g x y size p fits);
@@ -160,13 +171,13 @@ stops_at_then m plan a b made g h stop x y z faults later now p free le s = reco
 }
 
 pub stops_making : (m m' : Meaning) (says : ℕ → Service) (placed : ℕ → Type 0) (old mid : Supply → ℕ → Type 0) (plan : Plan) (a b to : ℕ) (bits : List Bool) (stop : TxStop) (x y z : Inputs) (faults later now : ℕ) → MakesBits m says placed old mid plan a b bits x y
-    → m' ≡ m → later ≡ faults → b < to → Stops m' plan b stop y z later now → StopsMaking m plan a to stop x z faults now
-stops_making m m' says placed old mid plan a b to bits stop x y z faults later now p same le lt stops = (let s : Stops m plan b stop y z later now = subst (λ m. Stops m plan b stop y z later now) same stops in record {
+    → m' ≡ m → later ≡ faults → b < to → (stop ≡ LogFailed → ⊥) → Stops m' plan b stop y z later now → StopsMaking m plan a to stop x z faults now
+stops_making m m' says placed old mid plan a b to bits stop x y z faults later now p same le lt no_log stops = (let s : Stops m plan b stop y z later now = subst (λ m. Stops m plan b stop y z later now) same stops in record {
   made = b;
   begun = omega (arith, p.count);
   within = lt;
   given = λ k. p.given k ++ s.given k;
-  at = stops_at_then m plan a b b p.given s.given stop x y z faults later now p.gives p.free le (stops_at m plan b stop y z later now s);
+  at = stops_at_then m plan a b b p.given s.given stop x y z faults later now p.gives p.free le (stops_at m plan b stop y z later now s no_log);
 })
 
 -- ---- whole frames
@@ -268,13 +279,25 @@ frame_end n len = omega (arith, add-mul n 1 len)
 
 -- ---- frames in whose way nothing stands
 
-module _ (m : Meaning) (says : ℕ → Service) (placed : ℕ → Type 0) (old mid : Supply → ℕ → Type 0) (plan : Plan) (len frames n : ℕ) (x y : Inputs) (o o' : Outputs) (free : IsFree m plan 0 (frames * len) x) (fewer : n < frames) (s : Sending m says placed old mid plan (n * len) x y o o') where
-  -- nothing stands in the way of the next frame
-  pub next_free : IsFree m plan (n * len) (n * len + len) y
-  next_free = free_rest m plan 0 (n * len) (n * len + len) (frames * len) s.makes.given x y s.makes.gives (omega arith) (omega (arith, mul-le-mul_right len fewer, suc-mul n len)) free
+-- what is free is so up to an earlier place
+pub free_first : (m : Meaning) (plan : Plan) (a b to : ℕ) (x : Inputs) → b ≤ to → IsFree m plan a to x → IsFree m plan a b x
+free_first m plan a b to x most free size fits y l h = free size fits y l (omega (arith, h, most))
 
-  pub next_clear : IsClear m plan (n * len) (n * len + len) y
-  next_clear = record { size = λ k. m.given plan (n * len) k + y.left k; fits = λ k leaf. refl; clear = next_free (λ k. m.given plan (n * len) k + y.left k) (λ k leaf. refl) }
+-- the lists hold some bits in all
+pub free_clear : (m : Meaning) (plan : Plan) (a b : ℕ) (x : Inputs) → IsFree m plan a b x → IsClear m plan a b x
+free_clear m plan a b x free = record { size = λ k. m.given plan a k + x.left k; fits = λ k leaf. refl; clear = free (λ k. m.given plan a k + x.left k) (λ k leaf. refl) }
+
+-- nothing is known to stand in the way of no bits
+pub free_none : (m : Meaning) (plan : Plan) (a b : ℕ) (x : Inputs) → b ≤ a → IsFree m plan a b x
+free_none m plan a b x none size fits y l h = absurd (omega (arith, none, l, h))
+
+-- behind a frame that was made, what was free is so still
+pub free_after : (m : Meaning) (says : ℕ → Service) (placed : ℕ → Type 0) (old new : Supply → ℕ → Type 0) (plan : Plan) (a b to clear len : ℕ) (bits : List Bool) (x y : Inputs) → MakesBits m says placed old new plan a b bits x y
+    → b ≡ a + len → to ≡ b + (clear - len) → IsFree m plan a (a + clear) x → IsFree m plan b to y
+free_after m says placed old new plan a b to clear len bits x y makes end last free = elim (cases_lt clear len) [
+  | inl less ↦ free_none m plan b to y (omega (arith, last, less))
+  | inr more ↦ free_rest m plan a b to (a + clear) makes.given x y makes.gives (omega (arith, end)) (omega (arith, end, last, more)) free
+]
 
 -- a frame that was made at once is a frame that was made
 pub makes_next : (m m' : Meaning) (says : ℕ → Service) (now : Service) (placed : ℕ → Type 0) (old new : Supply → ℕ → Type 0) (plan : Plan) (a len l : ℕ) (bits : List Bool) (x y : Inputs) → m' ≡ m → l ≡ len → SayInFrames m says now a (a + len)
@@ -338,3 +361,23 @@ sending_halts m m' says placed old mid plan len frames n stop x y z o o' o'' fau
   puts = λ supply st. subst (Puts (as_line (front (m.line supply) (n * len))) o) (sym left)
       (sending_puts m says placed old mid plan (n * len) x y o o' p supply (stood_first m says old plan 0 p.makes.given h.given supply st));
 })
+
+-- ---- why a frame isn't made
+
+module _ {T : Type 0} (sender : tx.Ghosts T) (t now : T) (schedule : Contents) (says : ℕ → Service) (old mid : Supply → ℕ → Type 0) (len frames n : ℕ) (x y z : Inputs) (o o' : Outputs) (same : sender.meaning now ≡ sender.meaning t)
+    (sending : Sending (sender.meaning t) says (sender.stands_at now (plan_of schedule)) old mid (plan_of schedule) (n * len) x y o o') where
+  -- frames are then not all sent
+  pub frame_ends : (stop : SendStop) (o'' : Outputs) (reads later reads_now writes writes_now : ℕ) → o'' ≡ o' → n < frames → later ≡ reads → StopsFrame sender now schedule len y z later reads_now stop
+      → IsSendStop (sender.meaning t) says old (plan_of schedule) len frames x z o o'' reads reads_now writes writes_now stop
+  frame_ends (Sender stop) o'' reads later reads_now writes writes_now left fewer le stops =
+      sending_stops (sender.meaning t) (sender.meaning now) says _ _ _ (plan_of schedule) len frames n stop x y z o o' o'' reads later reads_now same left fewer le sending (stops (n * len) sending.makes.place)
+  frame_ends TakeFailed o'' reads later reads_now writes writes_now left fewer le stops =
+      sending_halts (sender.meaning t) (sender.meaning now) says _ _ _ (plan_of schedule) len frames n Failed x y z o o' o'' reads later reads_now same left fewer (omega (arith, le)) sending (stops.0 (n * len) sending.makes.place) (rose_of _ _ stops.1)
+  frame_ends WriteFailed o'' reads later reads_now writes writes_now left fewer le stops = absurd stops
+
+  -- and a fault is counted where a call failed
+  pub frame_counts : (stop : SendStop) (reads later reads_now writes writes_now : ℕ) → later ≡ reads → writes_now ≡ writes → StopsFrame sender now schedule len y z later reads_now stop
+      → ◌≡◌ {A = ℕ × ℕ} (reads_now, writes_now) (counted_at_send_stop stop (reads, writes))
+  frame_counts (Sender stop) reads later reads_now writes writes_now le left stops = both_counts ((stops (n * len) sending.makes.place).at.met.counted ∙ ap (faults_met stop) le) left
+  frame_counts TakeFailed reads later reads_now writes writes_now le left stops = both_counts (stops.1 ∙ ap one_more le) left
+  frame_counts WriteFailed reads later reads_now writes writes_now le left stops = absurd stops

@@ -15,7 +15,6 @@ pub mod Stops
 pub mod SenderStops
 pub mod ShortLists
 pub mod Tolerated
-pub mod Clear
 pub mod Scheduled
 pub mod FarGrows
 pub mod Recovered

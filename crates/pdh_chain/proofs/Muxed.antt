@@ -20,26 +20,22 @@ use Rattle.pdh_line.specs.Events.Kind.{Overflow as OverflowKind, Underflow as Un
 use Rattle.pdh_line.proofs.Ranges.{map-range_same_on}
 use Rattle.pdh_line.proofs.SameLines.{frame-is}
 use Rattle.pdh_line.proofs.SendingLaws.{given-stores, given-locked}
-use Rattle.pdh_nesting.specs.Chains.{width, top_len, AreFrames, ReadEvenly}
+use Rattle.pdh_nesting.specs.Chains.{width, top_len, AreFrames}
 use Rattle.pdh_line.specs.Nodes.{child, Counts, given_at}
 use Rattle.pdh_nesting.specs.Sending.{given_below}
 use Rattle.pdh_nesting.specs.Events.{events_in, events_below, first_event}
 use Rattle.pdh_nesting.proofs.Nodes.{begun-suc, given-grows}
 use Rattle.pdh_nesting.proofs.EventParts.{events_below-none}
 use Rattle.pdh_tx.specs.declared.tx.TxStop.{TxStop}
-use Rattle.pdh_tx.specs.declared.tx.TxStop.TheVariants.{Overflow, Underflow, NoFrame, Failed, Ended}
+use Rattle.pdh_tx.specs.declared.tx.TxStop.TheVariants.{Overflow, Underflow, NoFrame, Failed, Ended, LogFailed}
 use Rattle.pdh_tx.specs.Meaning.{Plan, Supply, Meaning, IsNodeOf, HoldsAll, Fits, is_failed}
-use Rattle.pdh_clock.specs.Contents.{Contents, frame_count, counts as counts_of}
-use Rattle.pdh_chain.specs.declared.clear_sending.CallStop.{CallStop}
-use Rattle.pdh_chain.specs.declared.clear_sending.CallStop.TheVariants.{TakeFailed, PutFailed}
-use Rattle.pdh_chain.specs.Clear.{IsUnhindered}
-use Rattle.pdh_chain.proofs.Clear.{none_stands}
+use Rattle.pdh_tx.specs.Making.{IsFree}
 use Rattle.pdh_chain.specs.declared.stop.MuxStop.{MuxStop}
 use Rattle.pdh_line.specs.Paths.{top}
 use Rattle.pdh_chain.specs.declared.stop.MuxStop.TheVariants.{Memory as MuxMemory, Event as MuxEvent, NoFrame as MuxNoFrame, Ended as MuxEnded, ReadFailed as MuxReadFailed, WriteFailed as MuxWriteFailed}
 use Rattle.pdh_chain.specs.Trees.{sender_of, AreLevelsOf}
-use Rattle.pdh_chain.specs.Muxing.{as_line, Stood, HasFrames, IsFree, Sends, StopsSending, FailsToSend, FailsToTake, IsCallStop}
-use Rattle.pdh_chain.specs.Muxes.{plan_with, bits_of, frames_of_line, BeginWith, IsClear, PutsFrames, PutsFewer, PutsPrefix, Muxes, StopsFirst, StopsAtEvent, LacksFrames, LacksBelow, IsMuxStop, is_overflow, place_of, stop_at, mux_stop, call_stop}
+use Rattle.pdh_chain.specs.Muxing.{as_line, Stood, HasFrames, Sends, StopsSending, FailsToSend, FailsToTake}
+use Rattle.pdh_chain.specs.Muxes.{plan_with, bits_of, frames_of_line, BeginWith, IsClear, PutsFrames, PutsFewer, PutsPrefix, Muxes, StopsFirst, StopsAtEvent, LacksFrames, LacksBelow, IsMuxStop, is_overflow, place_of, stop_at, mux_stop}
 use Rattle.pdh_chain.proofs.Numbered.{IsAt}
 use Rattle.pdh_chain.proofs.TreeLeaves.{leaf_known, leaf_in, leaf_out}
 use Rattle.pdh_chain.proofs.Senders.{senders, leaf-is, line_is, given_is, nodes_in}
@@ -295,6 +291,7 @@ module _ (shapes : List FrameShape) (counts : Counts) (says : ℕ → Service) (
       → StopsSending m says old plan (top_len shapes) frames stop inputs inputs_now outputs outputs_now faults now
       → IsMuxStop shapes counts says scheduled frames inputs inputs_now outputs outputs_now faults now writes writes_now (mux_stop stop)
   stops_muxes old frames Failed inputs inputs_now outputs outputs_now faults now writes writes_now has fresh stops = (rose_of _ _ stops.at.met.counted, fewer_frames old frames Failed inputs inputs_now outputs outputs_now faults now fresh stops)
+  stops_muxes old frames LogFailed inputs inputs_now outputs outputs_now faults now writes writes_now has fresh stops = absurd (stops.at.no_log refl)
   stops_muxes old frames (Overflow place) inputs inputs_now outputs outputs_now faults now writes writes_now has fresh stops = elim (met old frames (Overflow place) inputs inputs_now outputs outputs_now faults now fresh stops refl) [
     | inl first ↦ at_event old frames (Overflow place) inputs inputs_now outputs outputs_now faults now fresh stops true place first refl refl (over_is first.event.kind place (place_of first.event) first.is)
     | inr none ↦ absurd none
@@ -389,26 +386,12 @@ module _ (shapes : List FrameShape) (counts : Counts) (says : ℕ → Service) (
       fails_muxes shapes counts says scheduled are at old frames inputs inputs_now outputs outputs_now writes writes_now fresh
       (subst (λ m. FailsToSend m says old plan (top_len shapes) frames inputs inputs_now outputs outputs_now writes writes_now) same (subst (λ len. FailsToSend m says old plan len frames inputs inputs_now outputs outputs_now writes writes_now) (sym whole) fails))
 
-module _ (shapes : List FrameShape) (counts : Counts) (says : ℕ → Service) (scheduled : List ℕ → ℕ) (are : AreFrames shapes) (at : IsAt shapes top []) (m : Meaning) (len : ℕ) (same : m ≡ chain_sender shapes) (whole : top_len shapes ≡ len) where
-  -- a call of the port that failed
-  pub call_failed : (old : Supply → ℕ → Type 0) (frames : ℕ) (stop : CallStop) (inputs inputs_now : Inputs) (outputs outputs_now : Outputs) (reads reads_now writes writes_now : ℕ) → ((supply : Supply) → old supply 0)
-      → IsCallStop m says old (plan_with scheduled counts) len frames inputs inputs_now outputs outputs_now reads reads_now writes writes_now stop
-      → IsMuxStop shapes counts says scheduled frames inputs inputs_now outputs outputs_now reads reads_now writes writes_now (call_stop stop)
-  call_failed old frames TakeFailed inputs inputs_now outputs outputs_now reads reads_now writes writes_now fresh fails =
+  pub take_failed : (old : Supply → ℕ → Type 0) (frames : ℕ) (inputs inputs_now : Inputs) (outputs outputs_now : Outputs) (reads reads_now : ℕ) → ((supply : Supply) → old supply 0)
+      → FailsToTake m says old (plan_with scheduled counts) len frames inputs inputs_now outputs outputs_now reads reads_now → Rose reads reads_now × PutsFewer shapes counts says scheduled frames inputs inputs_now outputs outputs_now
+  take_failed old frames inputs inputs_now outputs outputs_now reads reads_now fresh fails =
       let plan : Plan = plan_with scheduled counts in
       takes_muxes shapes counts says scheduled are at old frames inputs inputs_now outputs outputs_now reads reads_now fresh
       (subst (λ m. FailsToTake m says old plan (top_len shapes) frames inputs inputs_now outputs outputs_now reads reads_now) same (subst (λ len. FailsToTake m says old plan len frames inputs inputs_now outputs outputs_now reads reads_now) (sym whole) fails))
-  call_failed old frames PutFailed inputs inputs_now outputs outputs_now reads reads_now writes writes_now fresh fails =
-      failed shapes counts says scheduled are at m len same whole old frames inputs inputs_now outputs outputs_now writes writes_now fresh fails
-
--- nothing stands in the way of a line that the schedule and the lists' lengths leave unhindered
-pub unhindered : (shapes : List FrameShape) (schedule : Contents) (frames : ℕ) (inputs now : Inputs) (m : Meaning) (len : ℕ) → now ≡ inputs → AreFrames shapes → ReadEvenly shapes → length shapes ≤ 3 → m ≡ chain_sender shapes → top_len shapes ≡ len
-    → AreLevelsOf shapes schedule.levels → IsUnhindered schedule frames inputs.left → IsFree m (plan_with (frame_count schedule.rows) (counts_of schedule.rows)) 0 (frames * len) now
-unhindered shapes schedule frames inputs now m len left are even few same whole levels is =
-    let plan : Plan = plan_with (frame_count schedule.rows) (counts_of schedule.rows) in
-    let free : IsFree (chain_sender shapes) plan 0 (frames * top_len shapes) inputs =
-    λ size fits x l h. none_stands shapes schedule frames inputs.left size are even few levels is (λ k known. omega (arith, fits k (is_leaf shapes k known))) x h in
-    subst (IsFree m plan 0 (frames * len)) (sym left) (subst (λ m. IsFree m plan 0 (frames * len) inputs) (sym same) (subst (λ len. IsFree (chain_sender shapes) plan 0 (frames * len) inputs) whole free))
 
 -- ---- a start that failed
 

@@ -1,11 +1,12 @@
 -- Where a line comes back to what its chain sent, so do the lists of the leaves.
-use Rattle.std.proofs.Common.{◌≡◌, ℕ, ◌+◌, ◌-◌, ◌*◌, ◌<◌, Bool, cond, List, [], ◌∷◌, ◌++◌, length, take, sym, ap, ◌∙◌, subst, Option, Some, None, arith}
+use Rattle.std.proofs.Common.{◌≡◌, ℕ, ◌+◌, ◌-◌, ◌*◌, ◌<◌, Bool, cond, List, [], ◌∷◌, ◌++◌, length, take, refl, sym, ap, ◌∙◌, subst, Option, Some, None, arith}
 use Rattle.std.proofs.lemmas.Bool.{lt-ltb}
 use Rattle.std.proofs.Math.Seq.{take-append_seam}
 use Rattle.pdh_edge.specs.Ports.{Inputs, Outputs, before, after}
 use Rattle.pdh_shape.specs.Frame.{FrameShape, idle}
 use Rattle.pdh_shape.specs.declared.role.Service.{Service}
 use Rattle.pdh_line.specs.Receiving.{received}
+use Rattle.pdh_line.specs.Sending.Mode.{Plain}
 use Rattle.pdh_line.specs.Sending.{Source, line_bit}
 use Rattle.pdh_line.specs.Nodes.{child, Counts}
 use Rattle.pdh_nesting.specs.Chains.{width, AreFrames}
@@ -38,7 +39,7 @@ put_of shapes line outputs outputs_now leaf known put before told =
 
 abbrev pub source_of : FrameShape → List FrameShape → Counts → (ℕ → List Bool) → (ℕ → Service) → Source
 source_of s below counts lists says =
-    record { counts = counts []; inputs = λ j. chain_line below counts (content_of lists says).bits (λ n. idle) (child [] j) (0 + j * width below); says = says }
+    record { mode = Plain; counts = counts []; inputs = λ j. chain_line below counts (content_of lists says).bits (λ n. idle) (child [] j) (0 + j * width below); says = says }
 
 top_comes_back : (shapes : List FrameShape) (line : List Bool) → AreFrames shapes → KeepRight shapes → TopComesBack shapes line
 unfolding chain_line
@@ -48,7 +49,7 @@ top_comes_back (s ∷ below) line are keep =
     let source : Source = source_of s below counts lists says in (
       recovers s line (line_bit s source) e u m are.0 keep.0 same (sent_all_right s source (u + (length line - e))) quiet long,
       λ trib known.
-          let down = downwards s source line e u m trib are.0 are.1 keep.0 known same quiet long in
+          let down = downwards s source line e u m trib refl are.0 are.1 keep.0 known same quiet long in
           let first : 0 + trib * width below ≡ trib * width below = omega arith in
           (down.0, down.1, down.2, subst (λ n. Rejoins (received s trib line) (chain_line below counts (content_of lists says).bits (λ n. idle) (child [] trib) n) down.0 down.1) first down.3),
     )

@@ -1,8 +1,9 @@
 -- Schedules of a chain's levels, as the definitions of its line see them: the frames that nodes begin, what leaves enter, and
 -- counts that fit.
-use Rattle.std.proofs.Common.{◌≡◌, ℕ, zero, suc, ◌+◌, ◌-◌, ◌*◌, ◌/◌, ◌%◌, ◌<◌, ◌≤◌, ◌^◌, eqb, false, List, [], ◌∷◌, ◌++◌, All, length, get_or, ap, sym, ◌∙◌, subst, inl, inr, arith, append-nil, append_assoc, suc-mul}
+use Rattle.std.proofs.Common.{◌≡◌, ℕ, zero, suc, ◌+◌, ◌-◌, ◌*◌, ◌/◌, ◌%◌, ◌<◌, ◌≤◌, ◌^◌, eqb, false, List, [], ◌∷◌, ◌++◌, All, length, get_or, is_some, ap, sym, ◌∙◌, subst, inl, inr, arith, append-nil, append_assoc, suc-mul, None}
 use Rattle.std.specs.Option.{option_map_or}
 use Rattle.std.proofs.lemmas.Bool.{cases_Bool}
+use Rattle.std.proofs.lemmas.List.{get_or_default}
 use Rattle.std.proofs.lemmas.List.Sums.{count_by-le-length}
 use Rattle.std.proofs.lemmas.List.FromFn.{length-range_with_len}
 use Rattle.std.proofs.Math.Nat.{div-mul-le_self, mul-le-mul, mul-le-mul_left}
@@ -15,24 +16,50 @@ use Rattle.pdh_line.specs.Nodes.{nodes_of, child, Counts, begun_at, entered_at, 
 use Rattle.pdh_line.specs.Sending.{HasStores, shape_numbers, begun, given, entered}
 use Rattle.pdh_line.proofs.SendingLaws.{arrived-zero, arrived-suc, entered-stores, entered-locked}
 use Rattle.pdh_line.proofs.LeafNumbers.{leaf-tributary, leaf-below}
-use Rattle.pdh_levels.specs.Levels.{numbers_of as numbers_in, level_at, len_at}
+use Rattle.pdh_levels.specs.Levels.{numbers_of as numbers_in, nodes_in, level_at, len_at}
 use Rattle.pdh_levels.proofs.LevelLaws.{step_is}
 use Rattle.pdh_nesting.specs.Chains.{numbers_of, width, top_len, AreFrames}
 use Rattle.pdh_nesting.specs.Sending.{entered_below, AllScheduled, ArriveSingly}
 use Rattle.pdh_nesting.proofs.Nodes.{given-entered_by}
 use Rattle.pdh_nesting.proofs.Scheduled.{scheduled-top, scheduled-below}
 use Rattle.pdh_clock.specs.Row.{Row}
-use Rattle.pdh_clock.specs.Contents.{Contents, IsRowOf, counts}
-use Rattle.pdh_clock.specs.Begun.{bits_entered}
+use Rattle.pdh_clock.specs.Contents.{Contents, IsRowOf, counts, frame_count}
+use Rattle.pdh_clock.specs.Begun.{frames_begun, shortage, bits_entered}
+use Rattle.pdh_clock.proofs.Begins.{none_short}
 use Rattle.pdh_clock.proofs.Laws.{counts_most}
 use Rattle.pdh_chain.specs.Chains.{shapes_of, levels_of, leaves_of}
+use Rattle.pdh_chain.specs.Trees.{AreLevelsOf}
 use Rattle.pdh_chain.specs.Muxes.{LacksFrames, LacksBelow}
 use Rattle.pdh_chain.specs.declared.chain.Chain.{Chain}
 use Rattle.pdh_chain.proofs.ChainLaws.{are_frames, are_levels_of, few_shapes}
-use Rattle.pdh_chain.proofs.LevelNumbers.{EachLevelOf, each_level, same_entered}
+use Rattle.pdh_chain.proofs.LevelNumbers.{EachLevelOf, each_level, same_nodes, same_begun, same_entered}
 use Rattle.pdh_chain.proofs.SenderStops.{begun-grows, given-more}
 
 -- ---- frames
+
+-- each node of so many frames of the top has the frames that it begins, by the numbers of its chain
+abbrev EachScheduled : List FrameNumbers → List Row → ℕ → Type 0
+EachScheduled numbers rows n = All (λ steps. begun_at numbers (counts rows) [] (n * top_len_of numbers) steps ≤ frame_count rows steps) (nodes_of numbers)
+
+each_scheduled : (schedule : Contents) (n : ℕ) → shortage schedule n ≡ None → EachScheduled (numbers_in schedule.levels) schedule.rows n
+unfolding frames_begun
+each_scheduled schedule n none k d h =
+    subst (λ p. begun_at (numbers_in schedule.levels) (counts schedule.rows) [] (n * top_len_of (numbers_in schedule.levels)) p ≤ frame_count schedule.rows p)
+    (get_or_default (nodes_in schedule.levels) k [] d h)
+    (none_short schedule n (suc k) (ap is_some none) k (omega arith) h)
+
+-- a schedule in which no node is short has all frames that the line begins
+pub all_scheduled : (shapes : List FrameShape) (schedule : Contents) (n : ℕ) → AreLevelsOf shapes schedule.levels → shortage schedule n ≡ None
+    → AllScheduled shapes (counts schedule.rows) (frame_count schedule.rows) [] (n * top_len shapes)
+all_scheduled shapes schedule n are none k d h =
+    let rows : List Row = schedule.rows in
+    let steps : List ℕ = get_or (nodes_of (numbers_of shapes)) k d in
+    let there : List ℕ = get_or (nodes_in schedule.levels) k d in
+    let nodes : nodes_of (numbers_of shapes) ≡ nodes_in schedule.levels = same_nodes shapes schedule.levels are in
+    let same : steps ≡ there = ap (λ ns. get_or ns k d) nodes in
+    let inside : k < length (nodes_in schedule.levels) = subst (λ (ns : List (List ℕ)). k < length ns) nodes h in
+    subst (λ x. x ≤ frame_count rows steps) (sym (same_begun shapes schedule.levels are (counts rows) n steps))
+    (subst (λ p. begun_at (numbers_in schedule.levels) (counts rows) [] (n * top_len_of (numbers_in schedule.levels)) p ≤ frame_count rows p) (sym same) (each_scheduled schedule n none k d inside))
 
 -- where each node has the frames that it begins, none lacks one
 none_lacks : (shapes : List FrameShape) (counts : Counts) (scheduled : List ℕ → ℕ) (path : List ℕ) (x : ℕ) (node : List ℕ) → AllScheduled shapes counts scheduled path x → LacksFrames shapes counts scheduled path x node → ⊥

@@ -12,6 +12,7 @@ use Rattle.pdh_shape.specs.Tributary.{reads_from, reads_below, HasTributaries}
 use Rattle.pdh_shape.specs.OwnNumbers.{lead, store_size}
 use Rattle.pdh_line.specs.Sending.{arrives_at, came_before, read_before, begun, given, HasStores}
 use Rattle.pdh_line.proofs.SendingLaws.{given-stores, given-locked}
+use Rattle.pdh_line.specs.Sending.Mode.{Plain}
 use Rattle.pdh_line.specs.Events.{underflows, overflow_at, underflow_at}
 use Rattle.pdh_line.specs.Events.Kind.{Overflow as OverflowKind, Underflow as UnderflowKind}
 use Rattle.pdh_line.proofs.SameLines.{taken-grows}
@@ -23,7 +24,7 @@ use Rattle.pdh_line.specs.Paths.{steps_of, path_of}
 use Rattle.pdh_nesting.proofs.Nodes.{begun-suc, begun_more, lead_given, arrival_given, read_given, given-grows, reads_below-unknown}
 use Rattle.pdh_nesting.proofs.EventParts.{leads_of, arrival_of, arrivals_of, reads_of, events_in-is, read_of, events_in-locked}
 use Rattle.pdh_tx.specs.declared.tx.TxStop.{TxStop}
-use Rattle.pdh_tx.specs.declared.tx.TxStop.TheVariants.{Overflow, Underflow, NoFrame, Failed, Ended}
+use Rattle.pdh_tx.specs.declared.tx.TxStop.TheVariants.{Overflow, Underflow, NoFrame, Failed, Ended, LogFailed}
 use Rattle.pdh_tx.specs.Meaning.{Plan, Meaning}
 use Rattle.pdh_tx.specs.Held.{first_some, some_if}
 use Rattle.pdh_tx.specs.Node.{obstacle_of, place_at, lead_at, leads, beginning, arrival_at, arrivals, reads}
@@ -110,6 +111,7 @@ lift s below counts scheduled size steps first j y x (NoFrame node) are known h 
 lift s below counts scheduled size steps first j y x (Overflow place) are known h why = absurd why
 lift s below counts scheduled size steps first j y x (Underflow place) are known h why = absurd why
 lift s below counts scheduled size steps first j y x Failed are known h why = absurd why
+lift s below counts scheduled size steps first j y x LogFailed are known h why = absurd why
 
 -- ---- one node
 
@@ -172,7 +174,7 @@ module _ (s : FrameShape) (below : List FrameShape) (counts : Counts) (scheduled
 
     arrivals_tell : (n t : ℕ) → n ≡ x / s.len → t ≡ x % s.len → Tells other (first_some (arrivals s path plan ms size n t)) (arrivals_of s below counts steps n t)
     arrivals_tell n t frame slot =
-        tells-flat other (arrival_at s path plan ms size n t) (λ j. arrival_of s below counts steps n t j ++ overflow_at s steps j (counts steps j) n t) 0 s.tribs
+        tells-flat other (arrival_at s path plan ms size n t) (λ j. arrival_of s below counts steps n t j ++ overflow_at Plain s steps j (counts steps j) n t) 0 s.tribs
         (λ j l h. tells-arrival other (arrives_at s (counts steps j n) t) (leb (read_before s j (counts steps j) n t + store_size) (came_before s (counts steps j) n t)) (obstacle_of (slice_get ms j) plan size (came_before s (counts steps j) n t)) (events_in below counts (child steps j) (came_before s (counts steps j) n t)) (Overflow (place_at path j n t))
         (record { kind = OverflowKind; path = steps; trib = j; frame = n; slot = t })
         (λ arrives. child_tells j (came_before s (counts steps j) n t) (omega (arith, h)) (arrived j n t frame slot arrives)) (ap Overflow (place_is j n t)))
@@ -185,7 +187,7 @@ module _ (s : FrameShape) (below : List FrameShape) (counts : Counts) (scheduled
 
     reads_tell : (n t : ℕ) → Tells other (first_some (reads s path plan n t)) (reads_of s counts steps n t)
     reads_tell n t =
-        tells-map other (λ j. some_if (underflows s j (counts steps j) n t) (Underflow (place_at path j n t))) (λ j. underflow_at s steps j (counts steps j) n t) 0 s.tribs
+        tells-map other (λ j. some_if (underflows s j (counts steps j) n t) (Underflow (place_at path j n t))) (λ j. underflow_at Plain s steps j (counts steps j) n t) 0 s.tribs
         (λ j l h. tells-event other (underflows s j (counts steps j) n t) (Underflow (place_at path j n t)) (record { kind = UnderflowKind; path = steps; trib = j; frame = n; slot = t }) (ap Underflow (place_is j n t)))
 
     stores_tell : Tells other (first_some (beginning s path plan ms size (x / s.len) (x % s.len) ++ (arrivals s path plan ms size (x / s.len) (x % s.len) ++ reads s path plan (x / s.len) (x % s.len)))) (events_in (s ∷ below) counts steps x)

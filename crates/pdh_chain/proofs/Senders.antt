@@ -5,6 +5,7 @@ use Rattle.std.specs.List.{range_with_len}
 use Rattle.std.proofs.lemmas.Bool.{cases_Bool}
 use Rattle.std.proofs.lemmas.List.{append-nil}
 use Rattle.std.proofs.lemmas.List.Elements.{All-append}
+use Rattle.pdh_line.specs.Sending.Mode.{Plain}
 use Rattle.pdh_shape.specs.declared.place.Level.{Level}
 use Rattle.pdh_shape.specs.declared.place.Path.{Path}
 use Rattle.pdh_shape.specs.declared.role.Service.{Service}
@@ -18,10 +19,11 @@ use Rattle.pdh_line.specs.Paths.{steps_of}
 use Rattle.pdh_line.proofs.LeafNumbers.{leaf-tributary, leaf-below, leaf-number}
 use Rattle.pdh_levels.specs.Levels.{level_at}
 use Rattle.pdh_tx.specs.Meaning.{Plan, Supply, Meaning, NodeFrame, IsNodeOf}
+use Rattle.pdh_slips.specs.declared.slip.Slip.{Slip}
 use Rattle.pdh_tx.specs.declared.tx.TxStop.{TxStop}
 use Rattle.pdh_tx.specs.Leaf.{leaf_meaning}
-use Rattle.pdh_tx.specs.Node.{any_leaf, given_by, line_of, source_of, node_frame, meaning_with, node_obstacle, node_meaning}
-use Rattle.pdh_tx.specs.Locked.{locked_obstacle, locked_meaning, multiplexer_of}
+use Rattle.pdh_tx.specs.Node.{any_leaf, given_by, line_of, source_of, node_frame, meaning_with, node_obstacle, node_slips, node_meaning}
+use Rattle.pdh_tx.specs.Locked.{locked_obstacle, locked_slips, locked_meaning, multiplexer_of}
 use Rattle.pdh_tx.specs.NodeState.{ArePlaced}
 use Rattle.pdh_events.specs.Chain.{child_path}
 use Rattle.pdh_chain.specs.Trees.{sender_of, senders_below, AreLevelsOf}
@@ -55,15 +57,19 @@ node-stores s below path first stores =
 abbrev obstacle_in : FrameShape → Path → List Meaning → Plan → (ℕ → ℕ) → ℕ → Option TxStop
 obstacle_in s path ms = cond (eqb s.copies 0) (locked_obstacle s path ms) (node_obstacle s path ms)
 
+-- the slips in making it
+abbrev slips_in : FrameShape → Path → List Meaning → Plan → ℕ → List Slip
+slips_in s path ms = cond (eqb s.copies 0) (locked_slips s ms) (node_slips s path ms)
+
 -- and what it means otherwise
-multiplexer-is : (s : FrameShape) (path : Path) (ms : List Meaning) → multiplexer_of s path ms ≡ meaning_with s path ms (λ plan j x. given s j (plan.counts path j) x) (obstacle_in s path ms)
+multiplexer-is : (s : FrameShape) (path : Path) (ms : List Meaning) → multiplexer_of s path ms ≡ meaning_with s path ms (λ plan j x. given s j (plan.counts path j) x) (obstacle_in s path ms) (slips_in s path ms)
 multiplexer-is s path ms = elim (cases_Bool (eqb s.copies 0)) [
   | inl locked ↦ rw locked refl
   | inr stores ↦ rw stores refl
 ]
 
 pub node-means : (s : FrameShape) (below : List FrameShape) (path : Path) (first : ℕ)
-    → sender_of (s ∷ below) path first ≡ meaning_with s path (senders_below below path first s.tribs) (λ plan j x. given s j (plan.counts path j) x) (obstacle_in s path (senders_below below path first s.tribs))
+    → sender_of (s ∷ below) path first ≡ meaning_with s path (senders_below below path first s.tribs) (λ plan j x. given s j (plan.counts path j) x) (obstacle_in s path (senders_below below path first s.tribs)) (slips_in s path (senders_below below path first s.tribs))
 node-means s below path first = node-is s below path first ∙ multiplexer-is s path (senders_below below path first s.tribs)
 
 -- what chains of senders mean
@@ -104,7 +110,7 @@ module _ (scheduled : List ℕ → ℕ) (counts : Counts) (lists : ℕ → ℕ �
       let idles : Supply = record { plan = plan_with scheduled counts; lists = lists; says = λ n. idle } in
       ap (λ (m : Meaning). m.line supply x) (node-means s below path first)
       ∙ line_bit-same s (source_of path (senders_below below path first s.tribs) supply)
-      (record { counts = counts steps; inputs = λ j. chain_line below counts lists (λ n. idle) (child steps j) (first + j * w); says = says }) x are.0 are.1 (ap counts at.0) refl
+      (record { mode = Plain; counts = counts steps; inputs = λ j. chain_line below counts lists (λ n. idle) (child steps j) (first + j * w); says = says }) x are.0 are.1 refl refl (ap counts at.0) refl
       (λ j i known.
       let here : 0 + j ≡ j = omega arith in
       ap (λ o. line_of o idles i) (stands_at (tributary senders below path first) 0 s.tribs j known ∙ ap (λ i. Some (tributary senders below path first i)) here)

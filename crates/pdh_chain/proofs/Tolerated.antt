@@ -6,7 +6,7 @@ use Rattle.pdh_line.specs.Nodes.{Counts}
 use Rattle.pdh_nesting.specs.Events.{events_in}
 use Rattle.pdh_nesting.proofs.NoEvents.{no_events}
 use Rattle.pdh_tx.specs.declared.tx.TxStop.{TxStop}
-use Rattle.pdh_tx.specs.declared.tx.TxStop.TheVariants.{Overflow, Underflow, NoFrame, Failed, Ended}
+use Rattle.pdh_tx.specs.declared.tx.TxStop.TheVariants.{Overflow, Underflow, NoFrame, Failed, Ended, LogFailed}
 use Rattle.pdh_line.specs.Paths.{top}
 use Rattle.pdh_chain.specs.Muxes.{obstacle_at, IsNoEvent, IsTolerated}
 use Rattle.pdh_chain.proofs.Numbered.{IsAt}
@@ -30,6 +30,7 @@ module _ (shapes : List FrameShape) (counts : Counts) (scheduled : List ℕ → 
   without (Some (NoFrame node)) es none tells = tt
   without (Some Failed) es none tells = tt
   without (Some (Ended leaf)) es none tells = tt
+  without (Some LogFailed) es none tells = tt
 
 pub no_event : (shapes : List FrameShape) (counts : Counts) (bits : ℕ) → IsTolerated shapes counts bits → (scheduled : List ℕ → ℕ) (size : ℕ → ℕ) (x : ℕ) → x < bits → IsNoEvent (obstacle_at shapes counts scheduled size x)
 no_event shapes counts bits is scheduled size x less =

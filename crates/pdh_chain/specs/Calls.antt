@@ -3,30 +3,30 @@
 use Rattle.std.specs.Prelude.{◌≡◌, ℕ, ◌+◌, ◌*◌, ◌^◌, ◌<◌, ◌≤◌, Bool, false, List, length, Option, Result, OnOk, IsErrOf, IsTrue}
 use Rattle.pdh_edge.specs.declared.port.Feed as feed
 use Rattle.pdh_edge.specs.declared.port.Drain as drain
+use Rattle.pdh_edge.specs.Counts.{one_more}
 use Rattle.pdh_edge.specs.MemLists.{bits_held}
 use Rattle.pdh_edge.specs.Ports.{Inputs, Outputs}
 use Rattle.pdh_edge.specs.Progress.{Works, port_faults}
 use Rattle.pdh_shape.specs.declared.role.Service.{Service}
-use Rattle.pdh_shape.specs.declared.place.Level.{Level}
 use Rattle.pdh_shape.specs.Frame.{FrameShape}
 use Rattle.pdh_nesting.specs.Chains.{width}
-use Rattle.pdh_levels.specs.Levels.{AreLevels}
 use Rattle.pdh_clock.specs.Contents.{Contents, frame_count, counts}
 use Rattle.pdh_watch.specs.declared.event.Event.{Event}
 use Rattle.pdh_tx.specs.declared.tx.Tx as tx
 use Rattle.pdh_tx.specs.declared.tx.TxStop.{TxStop}
 use Rattle.pdh_tx.specs.Meaning.{plan_of, Meaning}
-use Rattle.pdh_tx.specs.Calls.{IsFed}
+use Rattle.pdh_tx.specs.Making.{IsFree}
+use Rattle.pdh_tx.specs.Calls.{IsFed, HaltsNext}
 use Rattle.pdh_rx.specs.Meaning.{Meaning as Receiving, HoldsAll}
 use Rattle.pdh_chain.specs.Trees.{AreLevelsOf}
 use Rattle.pdh_chain.specs.Saying.{says_of}
-use Rattle.pdh_chain.specs.Muxing.{HasFrames, SayInFrames, IsFree, MakesBits, StopsMaking, Sends, IsSendStop, IsCallStop}
+use Rattle.pdh_chain.specs.Muxing.{HasFrames, SayInFrames, MakesBits, StopsMaking, Sends, IsSendStop}
 use Rattle.pdh_chain.specs.Demuxing.{Receives, IsReceiveStop}
-use Rattle.pdh_chain.specs.Faults.{counted_at_call_stop, counted_at_demux_stop, counted_at_send_stop}
+use Rattle.pdh_chain.specs.Faults.{counted_at_demux_stop, counted_at_send_stop}
 use Rattle.pdh_chain.specs.Muxes.{Muxes, IsMuxStop}
 use Rattle.pdh_chain.specs.Demuxes.{Demuxes, IsDemuxStop, IsDemuxLeft}
 use Rattle.pdh_chain.specs.declared.sending.SendStop.{SendStop}
-use Rattle.pdh_chain.specs.declared.clear_sending.CallStop.{CallStop}
+use Rattle.pdh_chain.specs.declared.sending.SendStop.TheVariants.{Sender, TakeFailed, WriteFailed}
 use Rattle.pdh_chain.specs.declared.stop.MuxStop.{MuxStop}
 use Rattle.pdh_chain.specs.declared.stop.DemuxStop.{DemuxStop}
 use Rattle.pdh_chain.specs.declared.stop.DemuxStop.TheVariants.{ReadFailed}
@@ -45,10 +45,8 @@ pub record AreFew (shapes : List FrameShape) : Type 0 where
   pub depth : length shapes ≤ 3
   pub numbered : width shapes < 2 ^ 32
 
--- such a chain, whose nodes are of the kind of their frames, has these levels, and the schedule is one of it
-pub record IsChainOf (shapes : List FrameShape) (fits : Type 0) (levels : List Level) (schedule : Contents) : Type 0 where
-  pub sound : AreLevels levels
-  pub same : schedule.levels ≡ levels
+-- the schedule is one of such a chain, whose nodes are of the kind of their frames
+pub record IsChainOf (shapes : List FrameShape) (fits : Type 0) (schedule : Contents) : Type 0 where
   pub few : AreFew shapes
   pub kinds : fits
   pub levels_are : AreLevelsOf shapes schedule.levels
@@ -114,9 +112,27 @@ abbrev pub StopsInFrame : {T : Type 0} → tx.Ghosts T → T → Contents → �
 StopsInFrame sender t schedule len stop before after faults now =
     (x : ℕ) → sender.stands_at t (plan_of schedule) x → StopsMaking (sender.meaning t) (plan_of schedule) x (x + len) stop before after faults now
 
--- nothing stands in the way of its first bits, so many
-abbrev pub StartsFree : {T : Type 0} → tx.Ghosts T → T → Contents → ℕ → Inputs → Type 0
-StartsFree sender t schedule = IsFree (sender.meaning t) (plan_of schedule) 0
+-- it stands somewhere, and nothing stands in the way of its next bits, so many
+abbrev pub StandsFree : {T : Type 0} → tx.Ghosts T → T → Contents → ℕ → Inputs → Type 0
+StandsFree sender t schedule clear inputs = (x : ℕ) × sender.stands_at t (plan_of schedule) x × IsFree (sender.meaning t) (plan_of schedule) x (x + clear) inputs
+
+-- where nothing stands in the way of so many of its next bits, nothing stands in the way of so many
+abbrev pub KeepsFree : {T : Type 0} → tx.Ghosts T → T → Contents → ℕ → ℕ → Inputs → Type 0
+KeepsFree sender t schedule clear now inputs =
+    (x : ℕ) → sender.stands_at t (plan_of schedule) x → IsFree (sender.meaning t) (plan_of schedule) x (x + clear) inputs → IsFree (sender.meaning t) (plan_of schedule) x (x + now) inputs
+
+-- it made the bits of a frame, so many, as above, where nothing stands in the way of so many
+abbrev pub MakesFrameFree : {T : Type 0} → tx.Ghosts T → T → T → Contents → ℕ → ℕ → List Bool → Inputs → Inputs → Type 0
+MakesFrameFree sender old new schedule len clear bits before after =
+    (x : ℕ) (says : ℕ → Service) → sender.stands_at old (plan_of schedule) x → IsFree (sender.meaning old) (plan_of schedule) x (x + clear) before
+    → SayInFrames (sender.meaning old) says (sender.says old) x (x + len)
+    → MakesBits (sender.meaning old) says (sender.stands_at new (plan_of schedule)) (sender.stands_for old) (sender.stands_for new) (plan_of schedule) x (x + len) bits before after
+
+-- or this is why it didn't: it stopped on the way, or a call failed where nothing stood in the way
+abbrev pub StopsFrame : {T : Type 0} → tx.Ghosts T → T → Contents → ℕ → Inputs → Inputs → ℕ → ℕ → SendStop → Type 0
+StopsFrame sender t schedule len before after faults now (Sender stop) = StopsInFrame sender t schedule len stop before after faults now
+StopsFrame sender t schedule len before after faults now TakeFailed = HaltsNext sender.meaning sender.stands_at t schedule len before after × (now ≡ one_more faults)
+StopsFrame sender t schedule len before after faults now WriteFailed = ⊥
 
 -- its first bits, so many, were sent, with this code in its frames
 abbrev pub SendsBy : {T P : Type 0} → tx.Ghosts T → feed.Ghosts P → drain.Ghosts P → T → T → Contents → Option ℕ → ℕ → P → P → Type 0
@@ -124,27 +140,16 @@ SendsBy sender feeds drains t t_now schedule feac bits old new =
     Sends (sender.meaning t) (says_of feac) (sender.stands_at t_now (plan_of schedule)) (sender.stands_for t) (sender.stands_for t_now) (plan_of schedule) bits
     (feeds.inputs old) (feeds.inputs new) (drains.outputs old) (drains.outputs new)
 
--- or this is why they weren't, where frames of so many bits are made bit by bit
+-- or this is why they weren't, where frames have so many bits
 abbrev pub SendStopsBy : {T P : Type 0} → tx.Ghosts T → feed.Ghosts P → drain.Ghosts P → T → Contents → Option ℕ → ℕ → ℕ → P → P → SendStop → Type 0
 SendStopsBy sender feeds drains t schedule feac len frames old new =
     IsSendStop (sender.meaning t) (says_of feac) (sender.stands_for t) (plan_of schedule) len frames (feeds.inputs old) (feeds.inputs new) (drains.outputs old) (drains.outputs new)
     (feeds.feed_faults old) (feeds.feed_faults new) (drains.drain_faults old) (drains.drain_faults new)
 
--- and where they are made at once
-abbrev pub CallStopsBy : {T P : Type 0} → tx.Ghosts T → feed.Ghosts P → drain.Ghosts P → T → Contents → Option ℕ → ℕ → ℕ → P → P → CallStop → Type 0
-CallStopsBy sender feeds drains t schedule feac len frames old new =
-    IsCallStop (sender.meaning t) (says_of feac) (sender.stands_for t) (plan_of schedule) len frames (feeds.inputs old) (feeds.inputs new) (drains.outputs old) (drains.outputs new)
-    (feeds.feed_faults old) (feeds.feed_faults new) (drains.drain_faults old) (drains.drain_faults new)
-
--- so many frames were sent bit by bit, or this is why they weren't, with what the port keeps
+-- so many frames were sent, or this is why they weren't, with what the port keeps
 abbrev pub SendsFrames : {T P X : Type 0} → tx.Ghosts T → feed.Ghosts P → drain.Ghosts P → (P → P → Type 0) → T → T → Contents → Option ℕ → ℕ → ℕ → P → P → Result X SendStop → Type 0
 SendsFrames sender feeds drains keeps t t_now schedule feac len frames =
     Works keeps (port_faults feeds drains) counted_at_send_stop (SendsBy sender feeds drains t t_now schedule feac (frames * len)) (λ stop old new. SendStopsBy sender feeds drains t schedule feac len frames old new stop)
-
--- and made at once
-abbrev pub SendsClear : {T P X : Type 0} → tx.Ghosts T → feed.Ghosts P → drain.Ghosts P → (P → P → Type 0) → T → T → Contents → Option ℕ → ℕ → ℕ → P → P → Result X CallStop → Type 0
-SendsClear sender feeds drains keeps t t_now schedule feac len frames =
-    Works keeps (port_faults feeds drains) counted_at_call_stop (SendsBy sender feeds drains t t_now schedule feac (frames * len)) (λ stop old new. CallStopsBy sender feeds drains t schedule feac len frames old new stop)
 
 -- ---- receivers
 

@@ -4,23 +4,17 @@ use Rattle.std.specs.Prelude.{ℕ, Result, Ok, Err}
 use Rattle.pdh_edge.specs.Counts.{one_more}
 use Rattle.pdh_tx.specs.Meaning.{faults_met}
 use Rattle.pdh_chain.specs.declared.sending.SendStop.{SendStop}
-use Rattle.pdh_chain.specs.declared.sending.SendStop.TheVariants.{Sender, WriteFailed as SendFailed}
-use Rattle.pdh_chain.specs.declared.clear_sending.CallStop.{CallStop}
-use Rattle.pdh_chain.specs.declared.clear_sending.CallStop.TheVariants.{TakeFailed, PutFailed}
+use Rattle.pdh_chain.specs.declared.sending.SendStop.TheVariants.{Sender, TakeFailed, WriteFailed as SendFailed}
 use Rattle.pdh_chain.specs.declared.stop.MuxStop.{MuxStop}
 use Rattle.pdh_chain.specs.declared.stop.MuxStop.TheVariants.{ReadFailed as MuxReadFailed, WriteFailed as MuxWriteFailed}
 use Rattle.pdh_chain.specs.declared.stop.DemuxStop.{DemuxStop}
 use Rattle.pdh_chain.specs.declared.stop.DemuxStop.TheVariants.{ReadFailed, WriteFailed}
 
--- after frames were sent bit by bit, by how that stopped
+-- after frames were sent, by how that stopped
 abbrev pub counted_at_send_stop : SendStop → ℕ × ℕ → ℕ × ℕ
 counted_at_send_stop (Sender stop) faults = (faults_met stop faults.0, faults.1)
+counted_at_send_stop TakeFailed faults = (one_more faults.0, faults.1)
 counted_at_send_stop SendFailed faults = (faults.0, one_more faults.1)
-
--- after frames were sent at once
-abbrev pub counted_at_call_stop : CallStop → ℕ × ℕ → ℕ × ℕ
-counted_at_call_stop TakeFailed faults = (one_more faults.0, faults.1)
-counted_at_call_stop PutFailed faults = (faults.0, one_more faults.1)
 
 -- after `mux`, by how it stopped
 abbrev pub reads_at_mux_stop : MuxStop → ℕ → ℕ

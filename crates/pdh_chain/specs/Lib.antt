@@ -1,6 +1,5 @@
 pub mod Stages
 pub mod Chains
-pub mod Clear
 pub mod Saying
 pub mod Muxing
 pub mod Trees

@@ -9,6 +9,7 @@ use Rattle.pdh_shape.specs.Frame.{FrameShape}
 use Rattle.pdh_shape.specs.declared.place.Place.{Place}
 use Rattle.pdh_shape.specs.declared.place.Path.{Path}
 use Rattle.pdh_line.specs.Sending.{front, begun, given}
+use Rattle.pdh_line.specs.Sending.Mode.{Plain}
 use Rattle.pdh_line.specs.Events.{Event, Kind}
 use Rattle.pdh_line.specs.Events.Kind.{Overflow, Underflow}
 use Rattle.pdh_nesting.specs.Chains.{width, top_len, AreFrames, ReadEvenly}
@@ -18,11 +19,9 @@ use Rattle.pdh_line.specs.Paths.{steps_of, top, path_of}
 use Rattle.pdh_nesting.specs.Events.{events_in, first_event}
 use Rattle.pdh_tx.specs.Meaning.{Plan}
 use Rattle.pdh_tx.specs.declared.tx.TxStop.{TxStop}
-use Rattle.pdh_tx.specs.declared.tx.TxStop.TheVariants.{Overflow as TxOverflow, Underflow as TxUnderflow, NoFrame as TxNoFrame, Failed as TxFailed, Ended as TxEnded}
+use Rattle.pdh_tx.specs.declared.tx.TxStop.TheVariants.{Overflow as TxOverflow, Underflow as TxUnderflow, NoFrame as TxNoFrame, Failed as TxFailed, Ended as TxEnded, LogFailed as TxLogFailed}
 use Rattle.pdh_chain.specs.Muxing.{as_line}
 use Rattle.pdh_chain.specs.Trees.{sender_of}
-use Rattle.pdh_chain.specs.declared.clear_sending.CallStop.{CallStop}
-use Rattle.pdh_chain.specs.declared.clear_sending.CallStop.TheVariants.{TakeFailed, PutFailed}
 use Rattle.pdh_chain.specs.declared.stop.MuxStop.{MuxStop}
 use Rattle.pdh_chain.specs.declared.stop.MuxStop.TheVariants.{Memory, Event as MeetsEvent, NoFrame, Ended, ReadFailed, WriteFailed}
 
@@ -56,7 +55,7 @@ pub record GivesFrames (shapes : List FrameShape) (counts : Counts) (frames : �
 
 -- so many frames of each node, and so many bits of each of its tributaries that arrive in each of them
 abbrev pub plan_with : (List ℕ → ℕ) → Counts → Plan
-plan_with scheduled counts = record { frames = λ path. scheduled (steps_of path); counts = λ path. counts (steps_of path) }
+plan_with scheduled counts = record { mode = Plain; frames = λ path. scheduled (steps_of path); counts = λ path. counts (steps_of path) }
 
 -- what stands first in the way of bit x of a chain's line, where the leaves' lists hold so many bits in all
 abbrev pub obstacle_at : List FrameShape → Counts → (List ℕ → ℕ) → (ℕ → ℕ) → ℕ → Option TxStop
@@ -214,8 +213,5 @@ mux_stop (TxUnderflow place) = MeetsEvent false place
 mux_stop (TxNoFrame node) = NoFrame node
 mux_stop TxFailed = ReadFailed
 mux_stop (TxEnded leaf) = Ended leaf
-
--- how a call of the port that failed ends `mux`, where nothing stood in the way
-abbrev pub call_stop : CallStop → MuxStop
-call_stop TakeFailed = ReadFailed
-call_stop PutFailed = WriteFailed
+-- no sender of `mux` tells a log
+mux_stop TxLogFailed = ReadFailed

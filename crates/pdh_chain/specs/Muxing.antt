@@ -1,29 +1,22 @@
 -- Sending the whole frames of a multiplexer's line.
-use Rattle.std.specs.Prelude.{◌≡◌, ℕ, suc, ◌+◌, ◌*◌, ◌<◌, ◌≤◌, Bool, true, false, ◌==◌, if◌then◌else◌, List, [], length, Some, None}
+use Rattle.std.specs.Prelude.{◌≡◌, ℕ, suc, ◌+◌, ◌*◌, ◌<◌, ◌≤◌, Bool, true, false, ◌==◌, if◌then◌else◌, List, [], length, Some}
 use Rattle.pdh_edge.specs.Files.{Rose}
 use Rattle.pdh_edge.specs.Ports.{Inputs, Outputs, Takes, Puts, PutsPart}
 use Rattle.pdh_shape.specs.declared.role.Service.{Service}
 use Rattle.pdh_line.specs.Sending.{front}
 use Rattle.pdh_tx.specs.declared.tx.TxStop.{TxStop}
+use Rattle.pdh_tx.specs.declared.tx.TxStop.TheVariants.{LogFailed}
 use Rattle.pdh_tx.specs.Meaning.{Plan, Supply, Meaning, Fits, Met, IsUsedUp, Agrees}
 use Rattle.pdh_tx.specs.Held.{IsPart}
-use Rattle.pdh_tx.specs.Making.{Gives}
-use Rattle.pdh_chain.specs.declared.clear_sending.CallStop.{CallStop}
-use Rattle.pdh_chain.specs.declared.clear_sending.CallStop.TheVariants.{TakeFailed, PutFailed}
+use Rattle.pdh_tx.specs.Making.{Gives, IsFree}
 use Rattle.pdh_chain.specs.declared.sending.SendStop.{SendStop}
-use Rattle.pdh_chain.specs.declared.sending.SendStop.TheVariants.{Sender, WriteFailed}
+use Rattle.pdh_chain.specs.declared.sending.SendStop.TheVariants.{Sender, TakeFailed, WriteFailed}
 
 -- ---- what is put
 
 -- bits for output 0, which is the line, and none for the others
 abbrev pub as_line : List Bool → ℕ → List Bool
 as_line bits k = (if k == 0 then bits else [])
-
--- ---- what is taken
-
--- nothing stands in the way of the bits between two places
-abbrev pub IsFree : Meaning → Plan → ℕ → ℕ → Inputs → Type 0
-IsFree m plan from to inputs = (size : ℕ → ℕ) → Fits m plan from inputs size → (y : ℕ) → from ≤ y → y < to → m.obstacle plan size y ≡ None
 
 -- ---- what is supplied
 
@@ -63,6 +56,8 @@ pub record StopsAt (m : Meaning) (plan : Plan) (from made : ℕ) (given : ℕ �
   pub free : IsFree m plan from made before
   -- where a leaf ended, its list is used up
   pub used_up : IsUsedUp stop after
+  -- it tells no log
+  pub no_log : stop ≡ LogFailed → ⊥
   -- Failed only where the count of faults rose, else what stands in the way of the next bit
   pub met : Met (Fits m plan from before) (λ size. m.obstacle plan size made) stop faults now
 
@@ -161,12 +156,9 @@ pub record FailsToTake (m : Meaning) (says : ℕ → Service) (old : Supply → 
 
 -- ---- why sending stopped
 
--- why frames that were made bit by bit weren't all sent
+-- why frames weren't all sent: the sender stopped, a call for the bits of a frame in whose way nothing stands failed, or one that puts
+-- bits did
 abbrev pub IsSendStop : Meaning → (ℕ → Service) → (Supply → ℕ → Type 0) → Plan → ℕ → ℕ → Inputs → Inputs → Outputs → Outputs → ℕ → ℕ → ℕ → ℕ → SendStop → Type 0
 IsSendStop m says old plan len frames inputs inputs_now outputs outputs_now reads reads_now writes writes_now (Sender stop) = StopsSending m says old plan len frames stop inputs inputs_now outputs outputs_now reads reads_now
+IsSendStop m says old plan len frames inputs inputs_now outputs outputs_now reads reads_now writes writes_now TakeFailed = FailsToTake m says old plan len frames inputs inputs_now outputs outputs_now reads reads_now
 IsSendStop m says old plan len frames inputs inputs_now outputs outputs_now reads reads_now writes writes_now WriteFailed = FailsToSend m says old plan len frames inputs inputs_now outputs outputs_now writes writes_now
-
--- why frames in whose way nothing stands weren't all sent
-abbrev pub IsCallStop : Meaning → (ℕ → Service) → (Supply → ℕ → Type 0) → Plan → ℕ → ℕ → Inputs → Inputs → Outputs → Outputs → ℕ → ℕ → ℕ → ℕ → CallStop → Type 0
-IsCallStop m says old plan len frames inputs inputs_now outputs outputs_now reads reads_now writes writes_now TakeFailed = FailsToTake m says old plan len frames inputs inputs_now outputs outputs_now reads reads_now
-IsCallStop m says old plan len frames inputs inputs_now outputs outputs_now reads reads_now writes writes_now PutFailed = FailsToSend m says old plan len frames inputs inputs_now outputs outputs_now writes writes_now

@@ -66,20 +66,17 @@ pub fn mux<P: Port>(
     ensures ok { OnOk result (MuxesBy P.Feed P.Drain (shapes_of chain) clock.now feac frames port.old port.new) }
     ensures err { IfErr result (MuxStopsBy P.Feed P.Drain (shapes_of chain) clock.now feac frames port.old port.new) }
 {
-    let levels = chain.levels();
     match chain {
-        Chain::E12 => mux_with::<E2Sender, P>(alloc, levels, clock, frames, feac, port),
-        Chain::E23 => mux_with::<E3Sender, P>(alloc, levels, clock, frames, feac, port),
-        Chain::E34 => mux_with::<Node<E4, Leaf>, P>(alloc, levels, clock, frames, feac, port),
-        Chain::E13 => mux_with::<E13Sender, P>(alloc, levels, clock, frames, feac, port),
-        Chain::E24 => mux_with::<Node<E4, E3Sender>, P>(alloc, levels, clock, frames, feac, port),
-        Chain::E14 => mux_with::<Node<E4, E13Sender>, P>(alloc, levels, clock, frames, feac, port),
-        Chain::M12 => mux_with::<Ds2Sender, P>(alloc, levels, clock, frames, feac, port),
-        Chain::M23 => mux_with::<Node<Ds3, Leaf>, P>(alloc, levels, clock, frames, feac, port),
-        Chain::M13 => mux_with::<Node<Ds3, Ds2Sender>, P>(alloc, levels, clock, frames, feac, port),
-        Chain::C13 => mux_with::<Locked<Ds3C, Ds2Sender>, P>(
-            alloc, levels, clock, frames, feac, port,
-        ),
+        Chain::E12 => mux_with::<E2Sender, P>(alloc, clock, frames, feac, port),
+        Chain::E23 => mux_with::<E3Sender, P>(alloc, clock, frames, feac, port),
+        Chain::E34 => mux_with::<Node<E4, Leaf>, P>(alloc, clock, frames, feac, port),
+        Chain::E13 => mux_with::<E13Sender, P>(alloc, clock, frames, feac, port),
+        Chain::E24 => mux_with::<Node<E4, E3Sender>, P>(alloc, clock, frames, feac, port),
+        Chain::E14 => mux_with::<Node<E4, E13Sender>, P>(alloc, clock, frames, feac, port),
+        Chain::M12 => mux_with::<Ds2Sender, P>(alloc, clock, frames, feac, port),
+        Chain::M23 => mux_with::<Node<Ds3, Leaf>, P>(alloc, clock, frames, feac, port),
+        Chain::M13 => mux_with::<Node<Ds3, Ds2Sender>, P>(alloc, clock, frames, feac, port),
+        Chain::C13 => mux_with::<Locked<Ds3C, Ds2Sender>, P>(alloc, clock, frames, feac, port),
     }
 }
 

@@ -2,10 +2,9 @@
 //! From here on a chain has a name. The crate knows the lists of a port, and no file.
 #![tactic(auto)]
 
+mod ahead;
 mod by_chain;
 mod chain;
-mod clear_sending;
-mod clearing;
 mod laws;
 mod making;
 mod multiplexer;

@@ -1,27 +1,26 @@
-//! `mux` of a chain by the type of its top: its frames at once where nothing can stand in the way,
-//! and else bit by bit.
+//! `mux` of a chain by the type of its top.
 
 ghost use Rattle.std.specs.Prelude.{◌≡◌, ◌<◌, ◌≤◌, [], OnOk, IfErr, IfSome};
 ghost use Rattle.pdh_clock.specs.Contents.{frame_count};
 ghost use Rattle.pdh_nesting.specs.Chains.{width};
+ghost use Rattle.pdh_tx.specs.declared.tx.TxStop.TheVariants.{LogFailed};
 ghost use Rattle.pdh_chain.specs.Muxes.{IsLeftReady, mux_stop};
 ghost use Rattle.pdh_chain.specs.Faults.{mux_reads, mux_writes};
 ghost use Rattle.pdh_chain.specs.Calls.{IsPortFor, IsChainOf, MuxesBy, MuxStopsBy};
 
-use crate::clear_sending::send_clear_frames;
-use crate::clearing::is_unhindered;
 use crate::multiplexer::ChainTop;
 use crate::sending::{SendStop, send_frames};
 use crate::stop::MuxStop;
 use pdh_clock::Schedule;
 use pdh_edge::{Failed, Port};
 use pdh_packed::Packed;
-use pdh_shape::{Level, TOP};
+use pdh_shape::TOP;
 use pdh_tx::TxStop;
 use std::alloc::Global;
 
 // How a stop of the sender ends `mux`.
 fn stop_of(stop: TxStop) -> MuxStop
+    requires { stop ≡ LogFailed → ⊥ }
     ensures { result ≡ mux_stop stop }
 {
     match stop {
@@ -30,20 +29,19 @@ fn stop_of(stop: TxStop) -> MuxStop
         TxStop::NoFrame { node } => MuxStop::NoFrame { node },
         TxStop::Failed => MuxStop::ReadFailed,
         TxStop::Ended { leaf } => MuxStop::Ended { leaf },
+        TxStop::LogFailed => unreachable!(),
     }
 }
 
-/// Makes so many frames of the line of a chain with such a top, as `mux` does. `levels` are the chain's. Where nothing can
-/// stand in the way of the line, its frames are made at once; else bit by bit, up to what stands in the way.
+/// Makes so many frames of the line of a chain with such a top, as `mux` does.
 pub fn mux_with<T: ChainTop, P: Port>(
     alloc: Global,
-    levels: &[Level],
     clock: &Schedule,
     frames: u64,
     feac: Option<u8>,
     port: &mut P,
 ) -> Result<(), MuxStop>
-    requires chain { IsChainOf T.shapes T.fits levels.now clock.now }
+    requires chain { IsChainOf T.shapes T.fits clock.now }
     requires scheduled { frames ≤ frame_count clock.now.rows [] }
     requires code { IfSome feac (λ code. code < 64) }
     requires port { IsPortFor (P.fresh port.old) (width T.shapes) (P.inputs port.old).holds (P.outputs port.old).holds }
@@ -59,17 +57,13 @@ pub fn mux_with<T: ChainTop, P: Port>(
     let mut top = T::open(alloc, &tables, TOP, &mut next_leaf)?;
     let len = T::LEN;
     let mut frame = Packed::open(alloc, len as usize)?;
-    let unhindered = is_unhindered(levels, clock, frames, port);
     if let Err(Failed) = port.start() {
         return Err(MuxStop::WriteFailed);
-    }
-    if unhindered {
-        send_clear_frames(&mut top, clock, len, frames, feac, &mut frame, port)?;
-        return Ok(());
     }
     match send_frames(&mut top, clock, len, frames, feac, &mut frame, port) {
         Ok(()) => Ok(()),
         Err(SendStop::Sender(stop)) => Err(stop_of(stop)),
+        Err(SendStop::TakeFailed) => Err(MuxStop::ReadFailed),
         Err(SendStop::WriteFailed) => Err(MuxStop::WriteFailed),
     }
 }

@@ -1,14 +1,18 @@
-//! Sending a line that is made bit by bit: its whole frames, up to what stands in the way.
+//! Sending a line: its whole frames, up to what stands in the way. A frame that surely meets nothing is made at once, and any
+//! other bit by bit.
 
 ghost use Rattle.std.specs.Prelude.{◌≡◌, ◌≤◌, ◌<◌, false, OnOk, IfErr, IfSome};
+ghost use Rattle.pdh_tx.specs.Meaning.{plan_of};
 ghost use Rattle.pdh_tx.specs.Calls.{Draws, IsFed, IsKept, StandsBy};
-ghost use Rattle.pdh_chain.specs.Calls.{IsAtStart, IsLinked, RunsOn, MakesFrame, StopsInFrame, SendsFrames};
+ghost use Rattle.pdh_chain.specs.Calls.{IsAtStart, IsLinked, RunsOn, StandsFree, MakesFrame, MakesFrameFree, StopsInFrame, StopsFrame, SendsFrames};
 
+use crate::ahead::Ahead;
 use crate::multiplexer::Multiplexer;
 use crate::saying::{channel_of, next_service};
 use pdh_clock::Schedule;
 use pdh_edge::{Drain, Failed, Feed, Port};
 use pdh_packed::Packed;
+use pdh_slips::NoSlips;
 use pdh_tx::{Tx, TxStop};
 
 /// Why not all frames were sent.
@@ -16,12 +20,14 @@ use pdh_tx::{Tx, TxStop};
 pub enum SendStop {
     /// The line has no next bit.
     Sender(TxStop),
+    /// A call that takes bits failed in a frame in whose way nothing stands.
+    TakeFailed,
     /// A bit couldn't be put.
     WriteFailed,
 }
 
-// Makes the next bits of the line, so many, and keeps them in the buffer in place of what it held.
-fn make_frame<T: Tx, F: Feed>(
+// Makes the next bits of the line, so many, one by one, and keeps them in the buffer in place of what it held.
+fn make_bits<T: Tx, F: Feed>(
     sender: &mut T,
     clock: &Schedule,
     len: u32,
@@ -30,7 +36,7 @@ fn make_frame<T: Tx, F: Feed>(
 ) -> Result<(), TxStop>
     requires running { T.is_stopped sender.old ≡ false }
     requires fed { IsFed (T.meaning sender.old) clock.now (F.inputs feed.old) }
-    requires stands { StandsBy T.stands_at sender.old clock.now }
+    requires stands { StandsBy T.stands_at sender.old (plan_of clock.now) }
     requires room { len ≤ frame.old.capacity }
     ensures made { OnOk result (MakesFrame T.Tx sender.old sender.new clock.now len frame.new.bits
         (F.inputs feed.old) (F.inputs feed.new)) }
@@ -43,10 +49,46 @@ fn make_frame<T: Tx, F: Feed>(
 {
     frame.clear();
     for _made in 0..len {
-        let bit = sender.next(clock, feed)?;
+        let bit = sender.next(clock, feed, &mut NoSlips)?;
         frame.push(bit);
     }
     Ok(())
+}
+
+// Makes the next bits of the line, so many, and keeps them in the buffer in place of what it held: at once where no fewer, `clear`
+// of them, surely meet nothing.
+fn make_frame<T: Tx, F: Feed>(
+    sender: &mut T,
+    clock: &Schedule,
+    len: u32,
+    clear: usize,
+    frame: &mut Packed,
+    feed: &mut F,
+) -> Result<(), SendStop>
+    requires running { T.is_stopped sender.old ≡ false }
+    requires fed { IsFed (T.meaning sender.old) clock.now (F.inputs feed.old) }
+    requires free { StandsFree T.Tx sender.old clock.now clear (F.inputs feed.old) }
+    requires room { len ≤ frame.old.capacity }
+    ensures made { OnOk result (MakesFrameFree T.Tx sender.old sender.new clock.now len clear frame.new.bits
+        (F.inputs feed.old) (F.inputs feed.new)) }
+    ensures stops { IfErr result (StopsFrame T.Tx sender.old clock.now len
+        (F.inputs feed.old) (F.inputs feed.new) (F.feed_faults feed.old) (F.feed_faults feed.new)) }
+    ensures running { OnOk result (T.is_stopped sender.new ≡ false) }
+    ensures room { frame.new.capacity ≡ frame.old.capacity }
+    ensures fed { Draws F.Feed feed.old feed.new result }
+    ensures kept { IsKept T.meaning T.says sender.old sender.new }
+{
+    if clear < len as usize {
+        return match make_bits(sender, clock, len, frame, feed) {
+            Ok(()) => Ok(()),
+            Err(stop) => Err(SendStop::Sender(stop)),
+        };
+    }
+    frame.clear();
+    match sender.make_clear(clock, feed, len as usize, frame) {
+        Ok(()) => Ok(()),
+        Err(Failed) => Err(SendStop::TakeFailed),
+    }
 }
 
 /// Makes so many frames of a multiplexer's line from its first bit on, and puts their bits to output
@@ -70,14 +112,17 @@ pub fn send_frames<T: Multiplexer, P: Port>(
     ensures room { frame.new.capacity ≡ frame.old.capacity }
 {
     let mut channel = channel_of(feac);
-    for _whole in 0..frames {
+    let mut ahead = Ahead::unknown();
+    for whole in 0..frames {
         sender.set(next_service(&mut channel));
-        if let Err(stop) = make_frame(sender, clock, len, frame, port) {
-            return Err(SendStop::Sender(stop));
+        let known = ahead.look(sender, clock, len, frames - whole, port);
+        if let Err(stop) = make_frame(sender, clock, len, known.clear, frame, port) {
+            return Err(stop);
         }
         if let Err(Failed) = port.put_all(0, frame) {
             return Err(SendStop::WriteFailed);
         }
+        ahead = known.after(len);
     }
     Ok(())
 }

@@ -1,6 +1,5 @@
 //! Why `mux` and `demux` end early.
 
-use crate::clear_sending::CallStop;
 use pdh_edge::{Failed, FeedStop};
 use pdh_shape::{Path, Place};
 use std::alloc::AllocError;
@@ -41,20 +40,6 @@ impl From<AllocError> for MuxStop {
 
     fn from(_: AllocError) -> MuxStop {
         MuxStop::Memory
-    }
-}
-
-impl From<CallStop> for MuxStop {
-    ghost use Rattle.std.specs.Prelude.{◌≡◌};
-    ghost use Rattle.pdh_chain.specs.Muxes.{call_stop};
-
-    ghost from_gives = { λ why stop. stop ≡ call_stop why };
-
-    fn from(why: CallStop) -> MuxStop {
-        match why {
-            CallStop::TakeFailed => MuxStop::ReadFailed,
-            CallStop::PutFailed => MuxStop::WriteFailed,
-        }
     }
 }
 

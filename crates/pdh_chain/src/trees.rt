@@ -3,7 +3,7 @@
 
 ghost use Rattle.std.specs.Prelude.{◌≡◌, ◌+◌, ◌<◌, ◌≤◌, ◌^◌, ℕ, suc, List, [], ◌∷◌, All, length, map, IfOk, OnOk};
 ghost use Rattle.pdh_shape.specs.Frame.{FrameShape};
-ghost use Rattle.pdh_nesting.specs.Chains.{width, AreFrames, ReadEvenly};
+ghost use Rattle.pdh_nesting.specs.Chains.{width, AreFrames};
 ghost use Rattle.pdh_line.specs.Sending.{HasStores};
 ghost use Rattle.pdh_tx.specs.Meaning.{IsFresh};
 ghost use Rattle.pdh_events.specs.Chain.{child_path as path_of_child};
@@ -83,9 +83,6 @@ pub trait ChainTx: Tx {
 
     /// Each of these is a frame.
     ghost are_frames: { AreFrames shapes };
-
-    /// Each reads its tributaries evenly.
-    ghost read_evenly: { ReadEvenly shapes };
 }
 
 // Makes the tributaries of a node at a path that has such frames, with no bit made, or finds no memory. Their leaves are
@@ -146,8 +143,6 @@ impl ChainTx for Leaf {
 
     ghost are_frames = { tt };
 
-    ghost read_evenly = { tt };
-
     type Tables = ();
 
     fn tables(_alloc: Global) -> Result<(), AllocError> {
@@ -167,8 +162,6 @@ impl<S: Shape, C: ChainTx> ChainTx for Node<S, C> {
     ghost fits = { HasStores S.shape × C.fits };
 
     ghost are_frames = { (S.is_frame, S.has_tributaries, C.are_frames) };
-
-    ghost read_evenly = { (λ stores. S.reads_evenly, C.read_evenly) };
 
     type Tables = LevelLayouts<S, C::Tables>;
 
@@ -193,8 +186,6 @@ impl<S: Shape, C: ChainTx> ChainTx for Locked<S, C> {
     ghost fits = { HasNoStores S.shape × C.fits };
 
     ghost are_frames = { (S.is_frame, S.has_tributaries, C.are_frames) };
-
-    ghost read_evenly = { (λ stores. S.reads_evenly, C.read_evenly) };
 
     type Tables = LevelLayouts<S, C::Tables>;
 

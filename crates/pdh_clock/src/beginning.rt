@@ -32,7 +32,7 @@ const LEAD: u128 = pdh_shape::LEAD as u128;
 impl Tree {
     /// How many bits of a tributary, counted from 0, a node has taken when it made so many bits of its line; where it has no
     /// stores, those of its whole frames.
-    fn taken(&self, node: &Path, trib: u8, bits: u128) -> u128
+    pub fn taken(&self, node: &Path, trib: u8, bits: u128) -> u128
         requires tree { IsTree self.now }
         requires node { IsSome (level_at self.now.levels.items (steps_of node.now)) }
         requires in_range { (level : Level) → level_at self.now.levels.items (steps_of node.now) ≡ Some level → trib < level.tribs }

@@ -8,7 +8,7 @@ use crate::reading::read_rows;
 use crate::tree::{Tree, counts_in};
 use crate::writing::write_rows;
 use pdh_levels::MOST_TRIBUTARIES;
-use pdh_rows::{Outside, within_tolerance};
+use pdh_rows::{Outside, stays_inside, within_tolerance};
 use pdh_shape::{Level, MOST_BYTES, Path};
 use std::alloc::{AllocError, Global};
 use std::marker::Model;
@@ -31,17 +31,17 @@ impl Model for Schedule {
 }
 
 impl Schedule {
-    ghost use Rattle.std.specs.Prelude.{◌≡◌, ℕ, ◌<◌, ◌≤◌, ◌*◌, List, [], All, IsNone, IsSome, IfSome, IfOk, Ok, Some, option_map, length, slice_index};
+    ghost use Rattle.std.specs.Prelude.{◌≡◌, ℕ, ◌<◌, ◌≤◌, ◌-◌, ◌*◌, true, List, [], All, IsNone, IsSome, IfSome, IfOk, Ok, Some, option_map, length, slice_index};
     ghost use Rattle.pdh_shape.specs.Frame.{FrameShape};
     ghost use Rattle.pdh_shape.specs.declared.place.Level.{Level};
     ghost use Rattle.pdh_line.specs.Progress.{arrived};
-    ghost use Rattle.pdh_line.specs.Tolerance.{IsWithin};
+    ghost use Rattle.pdh_line.specs.Tolerance.{IsWithin, StaysInside};
     ghost use Rattle.pdh_levels.specs.Levels.{AreLevels, level_at, stores_at, len_at, low_at, numbers_of, most_tributaries};
     ghost use Rattle.pdh_line.specs.Paths.{path_of, steps_of};
     ghost use Rattle.pdh_line.specs.Nodes.{width};
     ghost use Rattle.pdh_clock.specs.Judged.{Gives, schedule_of};
     ghost use Rattle.pdh_clock.specs.Contents.{IsRowOf, frames_of, counts, frame_count};
-    ghost use Rattle.pdh_clock.specs.Begun.{bits_entered, frames_begun, shortage, shortage_of};
+    ghost use Rattle.pdh_clock.specs.Begun.{taken as bits_taken, bits_entered, frames_begun, shortage, shortage_of};
     ghost use Rattle.pdh_rows.specs.Outside.{first_outside, run_in};
     ghost use Rattle.pdh_clock.specs.Made.{IsRated, made};
     ghost use Rattle.pdh_clock.specs.Rates.{IsWithinRates};
@@ -118,6 +118,29 @@ impl Schedule {
     {
         let low = self.tree.level_of(node).low;
         within_tolerance(self.tree.table_of(node), usize::from(trib), low)
+    }
+
+    /// Whether the store of a tributary, counted from 0, which holds so many bits at the start of frame `first` of its node, surely
+    /// stays away from both its ends up to the start of frame `end`, so that it meets no event.
+    pub fn stays_inside(&self, node: &Path, trib: u8, fill: u64, first: u64, end: u64) -> bool
+        requires scheduled { end ≤ frame_count self.now.rows (steps_of node.now) }
+        requires in_range { trib < stores_at self.now.levels (steps_of node.now) }
+        ensures { result ≡ true → StaysInside (low_at self.now.levels (steps_of node.now)) (counts self.now.rows (steps_of node.now) trib) first fill (end - first) }
+    {
+        let low = self.tree.level_of(node).low;
+        let table = self.tree.table_of(node);
+        stays_inside(table, usize::from(trib), low, fill, first, end)
+    }
+
+    /// How many bits of a tributary, counted from 0, have come into its store where its node made so many bits of its line; none
+    /// before the first of them.
+    pub fn taken(&self, node: &Path, trib: u8, bits: u128) -> u128
+        requires in_range { trib < stores_at self.now.levels (steps_of node.now) }
+        requires scheduled { bits ≤ frame_count self.now.rows (steps_of node.now) * len_at self.now.levels (steps_of node.now) }
+        ensures { (level : Level) → level_at self.now.levels (steps_of node.now) ≡ Some level
+            → result ≡ bits_taken level trib (counts self.now.rows (steps_of node.now) trib) bits }
+    {
+        self.tree.taken(node, trib, bits)
     }
 
     /// The first node that has fewer frames than it begins while the top makes so many. A node comes before those

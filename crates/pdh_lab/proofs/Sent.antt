@@ -27,8 +27,7 @@ use Rattle.pdh_chain.specs.declared.chain.Chain.{Chain}
 use Rattle.pdh_chain.specs.Chains.{shapes_of, leaves_of}
 use Rattle.pdh_chain.specs.Muxes.{StopsForFrame, StopsAtEnd, StopsAtEvent, PutsPrefix, frames_of_line}
 use Rattle.pdh_chain.proofs.ChainLaws.{are_frames, are_levels_of}
-use Rattle.pdh_chain.proofs.Clear.{all_scheduled as all_scheduled_of}
-use Rattle.pdh_chain.proofs.Scheduled.{entered_small, entered_is, none_lacks_below}
+use Rattle.pdh_chain.proofs.Scheduled.{all_scheduled as all_scheduled_of, entered_small, entered_is, none_lacks_below}
 use Rattle.pdh_chain.proofs.ShortLists.{mux_short}
 use Rattle.pdh_lab.specs.Pattern.{pattern_bit}
 use Rattle.pdh_lab.specs.Drill.{entered_of, input_of, line_of}

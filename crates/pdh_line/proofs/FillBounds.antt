@@ -1,20 +1,17 @@
 -- The bounds on a store's fill within the tolerance, at each frame's start and at each step inside a frame.
-use Rattle.std.proofs.Common.{◌≡◌, ℕ, zero, suc, ◌+◌, ◌*◌, ◌/◌, ◌<◌, ◌≤◌, Bool, true, false, ◌&&◌, cond, leb, eqb, List, [], ◌∷◌, refl, sym, ap, ◌∙◌, subst, inl, inr, arith, zero-add}
-use Rattle.std.specs.Prelude.{count_by, sum_by}
+use Rattle.std.proofs.Common.{◌≡◌, ℕ, zero, suc, ◌+◌, ◌*◌, ◌<◌, ◌≤◌, true, false, leb, refl, sym, ap, ◌∙◌, subst, inl, inr, arith, zero-add}
+use Rattle.std.specs.Prelude.{sum_by}
 use Rattle.std.specs.List.{range_with_len}
 use Rattle.std.proofs.lemmas.Bool.{leb-true, leb-false, cases_Bool, cases_lt}
-use Rattle.std.proofs.lemmas.List.Sums.{sum_by-cons, sum_by-append}
-use Rattle.std.proofs.Math.Nat.{lt-div-mul-add, div-mul-le_self, mul-le-mul_right, mul-le-mul_left}
-use Rattle.pdh_shape.specs.declared.role.Role.{Role}
-use Rattle.pdh_shape.specs.declared.role.Role.TheVariants.{Align, Service, Control, Just, Info}
-use Rattle.pdh_shape.specs.Frame.{FrameShape, IsFrame, slots}
-use Rattle.pdh_shape.specs.Tributary.{reads_from, is_just, HasTributaries, reads_below, ReadsEvenly}
-use Rattle.pdh_shape.specs.laws.Ranges.{count-range_grows}
+use Rattle.std.proofs.lemmas.List.Sums.{sum_by-append}
+use Rattle.pdh_shape.specs.Frame.{FrameShape, IsFrame}
+use Rattle.pdh_shape.specs.Tributary.{HasTributaries, ReadsEvenly}
 use Rattle.pdh_line.specs.Progress.{arrived}
 use Rattle.pdh_shape.specs.OwnNumbers.{lead, threshold, allowance}
 use Rattle.pdh_line.specs.Sending.{carried, sent, sends_more, came_before, read_before, fill_before, fill_arrived}
 use Rattle.pdh_line.specs.Tolerance.{arrived_over, IsWithin, least_at_start, most_at_start, least_inside, most_inside}
 use Rattle.pdh_line.proofs.Ranges.{range_append}
+use Rattle.pdh_line.proofs.FrameBounds.{reads_below-more, reads-few, arrivals-few}
 use Rattle.pdh_line.proofs.SendingLaws.{HasStores, arrived-zero, arrived-suc, sent-zero, sent-suc, sends_more-is, came_before-start, came_before-next, came_before_grows, read_before-start, read_before-next}
 
 -- ---- arrivals over a run
@@ -90,55 +87,13 @@ fill_at_start-most s counts frames n stores within h =
 
 -- ---- inside a frame
 
-reads-just : (j : ℕ) (r : Role) → cond (reads_from j true r) 1 0 ≡ cond (reads_from j false r) 1 0 + cond (is_just j r) 1 0
-reads-just j (Just i) = go (eqb i j)
-  where
-    go : (b : Bool) → cond (b && true) 1 0 ≡ cond (b && false) 1 0 + cond b 1 0
-    go true = refl
-    go false = refl
-reads-just j (Info i) = go (eqb i j)
-  where
-    go : (b : Bool) → cond b 1 0 ≡ cond b 1 0 + 0
-    go true = refl
-    go false = refl
-reads-just j (Align signal) = refl
-reads-just j (Service number) = refl
-reads-just j (Control i copy) = refl
-
-count-just : (s : FrameShape) (j : ℕ) (xs : List ℕ)
-    → count_by (λ t. reads_from j true (s.role t)) xs ≡ count_by (λ t. reads_from j false (s.role t)) xs + count_by (λ t. is_just j (s.role t)) xs
-count-just s j [] = refl
-count-just s j (x ∷ xs) =
-    let rest = count-just s j xs in
-    let a = sum_by-cons (λ t. cond (reads_from j true (s.role t)) 1 0) x xs in
-    let b = sum_by-cons (λ t. cond (reads_from j false (s.role t)) 1 0) x xs in
-    let c = sum_by-cons (λ t. cond (is_just j (s.role t)) 1 0) x xs in
-    omega (arith, reads-just j (s.role x), a, b, c, rest)
-
--- the justifiable slot adds at most one bit
-reads_below-more : (s : FrameShape) (j t : ℕ) → HasTributaries s → j < s.tribs → t ≤ s.len → reads_below s j true t ≤ reads_below s j false t + 1
-reads_below-more s j t has known h =
-    let all : count_by (λ t. is_just j (s.role t)) (slots s) ≡ 1 = omega (arith, count-just s j (slots s), has.low j known, has.high j known) in
-    omega (arith, count-just s j (range_with_len 0 t), count-range_grows (λ t. is_just j (s.role t)) t s.len h)
-
 -- within the tolerance a store holds at least so many bits before each slot and at each frame's end
 pub fill-from : (s : FrameShape) (j : ℕ) (counts : ℕ → ℕ) (frames n t : ℕ) → IsFrame s → HasTributaries s → HasStores s → ReadsEvenly s → j < s.tribs
     → IsWithin s counts frames → n < frames → t ≤ s.len → read_before s j counts n t + least_inside ≤ came_before s counts n t
 fill-from s j counts frames n t frame has stores even known within scheduled h =
     let next : n + 1 ≡ suc n = omega arith in
     let rate : s.low ≤ counts n + allowance = omega (arith, within-least s counts frames n 1 (suc n) within next scheduled, arrived-suc counts n) in
-    let share : t * s.low ≤ t * (counts n + allowance) = mul-le-mul_left t rate in
-    let allowed : t * allowance ≤ s.len * allowance = mul-le-mul_right allowance h in
-    let floor : t * counts n < t * counts n / s.len * s.len + s.len = lt-div-mul-add frame.some_slots in
-    let scaled : reads_below s j false t * s.len < (t * counts n / s.len + (allowance + 3)) * s.len = omega (arith, even.ahead j t known h) in
-    let read : reads_below s j false t < t * counts n / s.len + (allowance + 3) = lt_of_mul _ _ s.len scaled in
-    elim (cases_Bool (sends_more s counts n)) [
-      | inl more ↦ rw more (omega (arith, reads_below-more s j t has known h, sent-arrived s counts n stores more))
-      | inr justified ↦ rw justified (omega (arith, fill_at_start-least s counts frames n stores within (omega arith)))
-    ]
-  where
-    lt_of_mul : (a b c : ℕ) → a * c < b * c → a < b
-    lt_of_mul a b c h = elim (cases_lt a b) [ inl lt ↦ lt | inr ge ↦ absurd (omega (arith, mul-le-mul_right c ge)) ]
+    omega (arith, reads-few s j (counts n) allowance t (sends_more s counts n) frame has even known rate h, fill_at_start-least s counts frames n stores within (omega arith))
 
 -- and at most so many with the bit that arrives in a slot, before the slot is read
 pub fill-upto : (s : FrameShape) (j : ℕ) (counts : ℕ → ℕ) (frames n t : ℕ) → IsFrame s → HasTributaries s → HasStores s → ReadsEvenly s → j < s.tribs
@@ -146,18 +101,11 @@ pub fill-upto : (s : FrameShape) (j : ℕ) (counts : ℕ → ℕ) (frames n t : 
 fill-upto s j counts frames n t frame has stores even known within scheduled h =
     let next : n + 1 ≡ suc n = omega arith in
     let rate : counts n ≤ suc s.low + allowance = omega (arith, within-most s counts frames n 1 (suc n) within next scheduled, arrived-suc counts n) in
-    let share : suc t * counts n ≤ suc t * (suc s.low + allowance) = mul-le-mul_left (suc t) rate in
-    let allowed : suc t * allowance ≤ s.len * allowance = mul-le-mul_right allowance (omega arith) in
-    let floor : suc t * counts n / s.len * s.len ≤ suc t * counts n = div-mul-le_self (suc t * counts n) s.len in
-    let scaled : suc t * counts n / s.len * s.len ≤ (reads_below s j true t + (allowance + 5)) * s.len = omega (arith, even.behind j t known h) in
-    let came : suc t * counts n / s.len ≤ reads_below s j true t + (allowance + 5) = le_of_mul _ _ s.len frame.some_slots scaled in
+    let came = arrivals-few s j (counts n) allowance t frame even known rate h in
     elim (cases_Bool (sends_more s counts n)) [
-      | inl more ↦ rw more (omega (arith, fill_at_start-most s counts frames n stores within (omega arith)))
-      | inr justified ↦ rw justified (omega (arith, reads_below-more s j t has known (omega arith), arrived-sent s counts n stores justified))
+      | inl more ↦ rw more (omega (arith, came, fill_at_start-most s counts frames n stores within (omega arith)))
+      | inr justified ↦ rw justified (omega (arith, came, reads_below-more s j t has known (omega arith), arrived-sent s counts n stores justified))
     ]
-  where
-    le_of_mul : (a b c : ℕ) → 0 < c → a * c ≤ b * c → a ≤ b
-    le_of_mul a b c p h = elim (cases_lt b a) [ inl lt ↦ absurd (omega (arith, mul-le-mul_right c lt)) | inr ge ↦ ge ]
 
 -- At each step inside a frame the fill is between the two: before a slot and at the frame's end,
 pub fill_before_slot : (s : FrameShape) (j : ℕ) (counts : ℕ → ℕ) (frames n t : ℕ) → IsFrame s → HasTributaries s → HasStores s → ReadsEvenly s → j < s.tribs

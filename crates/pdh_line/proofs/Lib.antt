@@ -11,5 +11,7 @@ pub mod SendingLaws
 pub mod SentFrames
 pub mod SameLines
 pub mod EventLaws
+pub mod FrameBounds
 pub mod FillBounds
 pub mod WithinTolerance
+pub mod Inside

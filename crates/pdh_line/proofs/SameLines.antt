@@ -4,6 +4,7 @@ use Rattle.std.proofs.lemmas.Bool.{cases_lt, cases_Bool}
 use Rattle.std.proofs.lemmas.Nat.{div-mul-add, div-add-mod', mod_below, le-div}
 use Rattle.std.proofs.Math.Nat.{mul-le-mul_right, div-mul-le_self}
 use Rattle.std.proofs.Math.Dec.{eqb-suc-zero}
+use Rattle.pdh_line.specs.Sending.Mode.{Plain}
 use Rattle.pdh_shape.specs.declared.role.Role.{Role}
 use Rattle.pdh_shape.specs.declared.role.Role.TheVariants.{Align, Service, Control, Just, Info}
 use Rattle.pdh_shape.specs.declared.role.Service.{Service as Say}
@@ -21,10 +22,10 @@ module _ (s : FrameShape) (counts : ℕ → ℕ → ℕ) (p q : ℕ → ℕ → 
     → p j (read_before s j (counts j) n t) ≡ q j (read_before s j (counts j) n t))
     (says : (n : ℕ) → n * s.len < x → f n ≡ g n) where
   abbrev one : Source
-  one = record { counts = counts; inputs = p; says = f }
+  one = record { mode = Plain; counts = counts; inputs = p; says = f }
 
   abbrev other : Source
-  other = record { counts = counts; inputs = q; says = g }
+  other = record { mode = Plain; counts = counts; inputs = q; says = g }
 
   input_bit-same : (n t j : ℕ) → j < s.tribs → t < s.len → n * s.len + t < x → reads_from j (sends_more s (counts j) n) (s.role t) ≡ true → input_bit s one n t j ≡ input_bit s other n t j
   input_bit-same n t j known inside made reads = ap (turned (s.inverted j)) (inputs n t j known inside made reads)
@@ -65,12 +66,14 @@ module _ (s : FrameShape) (counts : ℕ → ℕ → ℕ) (p q : ℕ → ℕ → 
       slot_bit-same (y / s.len) (y % s.len) (s.role (y % s.len)) (mod_below y s.len frame.some_slots) (omega arith) refl
 
 -- sources that agree on all bits of each tributary that the shape has decide the same line
-pub line_bit-same : (s : FrameShape) (a b : Source) (x : ℕ) → IsFrame s → HasTributaries s → a.counts ≡ b.counts → a.says ≡ b.says
+pub line_bit-same : (s : FrameShape) (a b : Source) (x : ℕ) → IsFrame s → HasTributaries s → a.mode ≡ Plain → b.mode ≡ Plain → a.counts ≡ b.counts → a.says ≡ b.says
     → ((j i : ℕ) → j < s.tribs → a.inputs j i ≡ b.inputs j i) → line_bit s a x ≡ line_bit s b x
-line_bit-same s a b x frame has counts says inputs =
-    ap (λ c. line_bit s (record { counts = c; inputs = a.inputs; says = a.says }) x) counts
+line_bit-same s a b x frame has plain plain' counts says inputs =
+    ap (λ mode. line_bit s (record { mode = mode; counts = a.counts; inputs = a.inputs; says = a.says }) x) plain
+    ∙ ap (λ c. line_bit s (record { mode = Plain; counts = c; inputs = a.inputs; says = a.says }) x) counts
     ∙ line_bit-same_upto s b.counts a.inputs b.inputs a.says b.says (suc x) frame has
     (λ n t j known inside made reads. inputs j (read_before s j (b.counts j) n t) known) (λ n made. ap (λ f. f n) says) x (omega arith)
+    ∙ sym (ap (λ mode. line_bit s (record { mode = mode; counts = b.counts; inputs = b.inputs; says = b.says }) x) plain')
 
 -- ---- a longer line
 

@@ -1,5 +1,5 @@
--- The frames of a sent line, and what a receiver gets from them.
-use Rattle.std.proofs.Common.{◌≡◌, ℕ, zero, suc, ◌+◌, ◌-◌, ◌*◌, ◌/◌, ◌<◌, ◌≤◌, Bool, true, false, ◌&&◌, ◌||◌, not, cond, ltb, eqb, List, [], ◌∷◌, ◌++◌, length, map, filter, take, drop, refl, sym, ap, ◌∙◌, inl, inr, arith, get_or}
+-- The frames of a sent line of either mode, and what a receiver gets from them.
+use Rattle.std.proofs.Common.{◌≡◌, ℕ, zero, suc, ◌+◌, ◌-◌, ◌*◌, ◌/◌, ◌<◌, ◌≤◌, Bool, true, false, ◌&&◌, ◌||◌, not, cond, ltb, eqb, List, [], ◌∷◌, ◌++◌, length, map, filter, take, drop, refl, sym, ap, ◌∙◌, subst, inl, inr, arith, get_or}
 use Rattle.std.specs.Prelude.{count_by, flat_map}
 use Rattle.std.specs.List.{range_with_len}
 use Rattle.std.proofs.lemmas.Grind.{flat_map-append}
@@ -14,10 +14,25 @@ use Rattle.pdh_shape.specs.Frame.{FrameShape, IsFrame, slots, breaks, is_right}
 use Rattle.pdh_shape.specs.Tributary.{reads_from, controls, control_ones, is_majority, carries_more, turned, bits_read, stripped, HasTributaries, reads_below}
 use Rattle.pdh_line.specs.Tracking.{frame_of, frames_in}
 use Rattle.pdh_line.specs.Receiving.{received}
-use Rattle.pdh_line.specs.Sending.{sent, carried, sends_more, Source, input_bit, payload_bit, slot_bit, line_bit, front, frames_found}
+use Rattle.pdh_line.specs.Edits.{edited}
+use Rattle.pdh_line.specs.Sending.{sent, sends_more, carried, front, frames_found, Carriage, carriage, Source, carriage_of, more_in, input_bit, payload_bit, slot_bit, line_bit}
+use Rattle.pdh_line.specs.Sending.Mode.{Plain}
 use Rattle.pdh_line.proofs.Ranges.{and_true, range_push, range_append, map-range_same_on, map-range_shift, list_all-range, count-range_same, count_none, numbered}
 use Rattle.pdh_line.proofs.RightLines.{every_right, frames_within, received-right, received-short}
 use Rattle.pdh_line.proofs.SendingLaws.{sent-zero, sent-suc, sends_more-locked, reads_below-all}
+
+-- how a tributary is carried, whatever decides which frames carry an additional bit and which edits there are
+pub record IsCarried (s : FrameShape) (j : ℕ) (c : Carriage) : Type 0 where
+  pub zero : c.sent 0 ≡ 0
+  pub next : (n : ℕ) → c.sent (suc n) ≡ c.sent n + carried s (c.more n)
+  pub locked : eqb s.copies 0 ≡ true → (n : ℕ) → c.more n ≡ false
+  -- a bit that is read is as later edits leave it
+  pub settled : (bits : ℕ → Bool) (m n t : ℕ) → n < m → t < s.len → reads_from j (c.more n) (s.role t) ≡ true
+      → edited (c.edits n (suc t)) bits (c.sent n + reads_below s j (c.more n) t) ≡ edited (c.edits m 0) bits (c.sent n + reads_below s j (c.more n) t)
+
+-- the bits of a tributary, with the edits of the first m frames
+abbrev pub settled_bits : FrameShape → Source → ℕ → ℕ → ℕ → Bool
+settled_bits s source j m = edited ((carriage_of s source j).edits m 0) (source.inputs j)
 
 -- frame n of a sent line
 abbrev pub sent_frame : FrameShape → Source → ℕ → List Bool
@@ -82,11 +97,11 @@ front-right s source x frame =
 -- ---- what a sent frame gives back
 
 -- a control slot holds 1 where the frame carries no additional bit
-control_bit : (s : FrameShape) (source : Source) (n t j : ℕ) (r : Role) → (controls j r && slot_bit s source n t r) ≡ (controls j r && not (sends_more s (source.counts j) n))
+control_bit : (s : FrameShape) (source : Source) (n t j : ℕ) (r : Role) → (controls j r && slot_bit s source n t r) ≡ (controls j r && not (more_in s source j n))
 control_bit s source n t j (Control i copy) = go (eqb i j) refl
   where
-    go : (b : Bool) → eqb i j ≡ b → (eqb i j && not (sends_more s (source.counts i) n)) ≡ (eqb i j && not (sends_more s (source.counts j) n))
-    go true e = ap (λ k. eqb i j && not (sends_more s (source.counts k) n)) (eqb-true i j e)
+    go : (b : Bool) → eqb i j ≡ b → (eqb i j && not (more_in s source i n)) ≡ (eqb i j && not (more_in s source j n))
+    go true e = ap (λ k. eqb i j && not (more_in s source k n)) (eqb-true i j e)
     go false e = rw e refl
 control_bit s source n t j (Align signal) = refl
 control_bit s source n t j (Service number) = refl
@@ -103,11 +118,11 @@ and_false_right false = refl
 
 -- all copies of a sent frame hold the same
 pub control_ones-sent : (s : FrameShape) (source : Source) (n j : ℕ) → HasTributaries s → j < s.tribs
-    → control_ones s j (sent_frame s source n) ≡ cond (sends_more s (source.counts j) n) 0 s.copies
+    → control_ones s j (sent_frame s source n) ≡ cond (more_in s source j n) 0 s.copies
 control_ones-sent s source n j has known =
-    let same : control_ones s j (sent_frame s source n) ≡ count_by (λ t. controls j (s.role t) && not (sends_more s (source.counts j) n)) (slots s) =
+    let same : control_ones s j (sent_frame s source n) ≡ count_by (λ t. controls j (s.role t) && not (more_in s source j n)) (slots s) =
     count-range_same _ _ 0 s.len (λ t l h. ap (λ b. controls j (s.role t) && b) (get-sent_frame s source n t (omega arith)) ∙ control_bit s source n t j (s.role t)) in
-    same ∙ go (sends_more s (source.counts j) n)
+    same ∙ go (more_in s source j n)
   where
     go : (more : Bool) → count_by (λ t. controls j (s.role t) && not more) (slots s) ≡ cond more 0 s.copies
     go true = count-range_same _ _ 0 s.len (λ t l h. and_false_right (controls j (s.role t))) ∙ count_none (slots s)
@@ -131,21 +146,21 @@ majority-told s false stores =
     positive zero h = cc
     positive (suc n) h = omega arith
 
-pub carries_more-sent : (s : FrameShape) (source : Source) (n j : ℕ) → HasTributaries s → j < s.tribs → carries_more s j (sent_frame s source n) ≡ sends_more s (source.counts j) n
-carries_more-sent s source n j has known =
+pub carries_more-sent : (s : FrameShape) (source : Source) (n j : ℕ) → HasTributaries s → j < s.tribs → IsCarried s j (carriage_of s source j) → carries_more s j (sent_frame s source n) ≡ more_in s source j n
+carries_more-sent s source n j has known is =
     ap (λ ones. not (is_majority ones s.copies)) (control_ones-sent s source n j has known)
     ∙ elim (cases_Bool (eqb s.copies 0)) [
       | inl locked ↦
-          let ones : ℕ = cond (sends_more s (source.counts j) n) 0 s.copies in
-          ap (λ b. not (ltb s.copies (2 * ones) || b)) locked ∙ ap not (or_true_right (ltb s.copies (2 * ones))) ∙ sym (sends_more-locked s (source.counts j) n locked)
-      | inr stores ↦ majority-told s (sends_more s (source.counts j) n) stores
+          let ones : ℕ = cond (more_in s source j n) 0 s.copies in
+          ap (λ b. not (ltb s.copies (2 * ones) || b)) locked ∙ ap not (or_true_right (ltb s.copies (2 * ones))) ∙ sym (is.locked locked n)
+      | inr stores ↦ majority-told s (more_in s source j n) stores
     ]
 
 -- a slot that carries a bit of j holds the next bit of j
-reads_bit : (s : FrameShape) (source : Source) (n t j : ℕ) (r : Role) → reads_from j (sends_more s (source.counts j) n) r ≡ true → slot_bit s source n t r ≡ input_bit s source n t j
+reads_bit : (s : FrameShape) (source : Source) (n t j : ℕ) (r : Role) → reads_from j (more_in s source j n) r ≡ true → slot_bit s source n t r ≡ input_bit s source n t j
 reads_bit s source n t j (Info i) h = ap (λ k. input_bit s source n t k) (eqb-true i j h)
 reads_bit s source n t j (Just i) h =
-    let parts = and_true (eqb i j) (sends_more s (source.counts j) n) h in
+    let parts = and_true (eqb i j) (more_in s source j n) h in
     let same : i ≡ j = eqb-true i j parts.0 in
     ap (λ k. payload_bit s source n t (Just k)) same ∙ ap (λ b. cond b (input_bit s source n t j) true) parts.1
 reads_bit s source n t j (Align signal) h = cc
@@ -169,35 +184,37 @@ turned_twice true false = refl
 turned_twice false bit = refl
 
 -- a sent frame gives back the next bits of the tributary
-pub stripped-sent : (s : FrameShape) (source : Source) (n j : ℕ) → HasTributaries s → j < s.tribs
-    → stripped s j (sent_frame s source n) ≡ map (λ k. source.inputs j (sent s (source.counts j) n + k)) (range_with_len 0 (carried s (sends_more s (source.counts j) n)))
+pub stripped-sent : (s : FrameShape) (source : Source) (m n j : ℕ) → HasTributaries s → j < s.tribs → IsCarried s j (carriage_of s source j) → n < m
+    → stripped s j (sent_frame s source n) ≡ map (λ k. settled_bits s source j m ((carriage_of s source j).sent n + k)) (range_with_len 0 (carried s (more_in s source j n)))
 unfolding stripped
-stripped-sent s source n j has known =
-    let more : Bool = sends_more s (source.counts j) n in
-    let f : ℕ → Bool = λ k. source.inputs j (sent s (source.counts j) n + k) in
-    ap (λ more. bits_read s j more (sent_frame s source n)) (carries_more-sent s source n j has known)
+stripped-sent s source m n j has known is below =
+    let more : Bool = more_in s source j n in
+    let f : ℕ → Bool = λ k. settled_bits s source j m ((carriage_of s source j).sent n + k) in
+    ap (λ more. bits_read s j more (sent_frame s source n)) (carries_more-sent s source n j has known is)
     ∙ map-filter_same _ (λ t. f (reads_below s j more t)) (λ t. reads_from j more (s.role t)) 0 s.len
-    (λ t h e. ap (turned (s.inverted j)) (get-sent_frame s source n t (omega arith) ∙ reads_bit s source n t j (s.role t) e) ∙ turned_twice (s.inverted j) (f (reads_below s j more t)))
+    (λ t h e. ap (turned (s.inverted j)) (get-sent_frame s source n t (omega arith) ∙ reads_bit s source n t j (s.role t) e
+    ∙ ap (turned (s.inverted j)) (is.settled (source.inputs j) m n t below (omega arith) e)) ∙ turned_twice (s.inverted j) (f (reads_below s j more t)))
     ∙ numbered f (λ t. reads_from j more (s.role t)) s.len
     ∙ ap (λ n. map f (range_with_len 0 n)) (reads_below-all s j more has known)
 
 -- the first frames of a sent line give back the tributary's bits in order
-pub stripped-front : (s : FrameShape) (source : Source) (j m : ℕ) → HasTributaries s → j < s.tribs
-    → flat_map (λ k. stripped s j (sent_frame s source k)) (range_with_len 0 m) ≡ front (source.inputs j) (sent s (source.counts j) m)
-stripped-front s source j zero has known = ap (front (source.inputs j)) (sym (sent-zero s (source.counts j)))
-stripped-front s source j (suc m) has known =
+pub stripped-front : (s : FrameShape) (source : Source) (j most m : ℕ) → HasTributaries s → j < s.tribs → IsCarried s j (carriage_of s source j) → m ≤ most
+    → flat_map (λ k. stripped s j (sent_frame s source k)) (range_with_len 0 m) ≡ front (settled_bits s source j most) ((carriage_of s source j).sent m)
+stripped-front s source j most zero has known is upto = ap (front (settled_bits s source j most)) (sym is.zero)
+stripped-front s source j most (suc m) has known is upto =
     let e : 0 + m ≡ m = omega arith in
-    let n : ℕ = sent s (source.counts j) m in
-    let c : ℕ = carried s (sends_more s (source.counts j) m) in
+    let line : ℕ → Bool = settled_bits s source j most in
+    let n : ℕ = (carriage_of s source j).sent m in
+    let c : ℕ = carried s (more_in s source j m) in
     let bits : ℕ → List Bool = λ k. stripped s j (sent_frame s source k) in
-    let before : flat_map bits (range_with_len 0 m) ≡ front (source.inputs j) n = stripped-front s source j m has known in
-    let last : flat_map bits ((0 + m) ∷ []) ≡ map (source.inputs j) (range_with_len (0 + n) c) =
-    append-nil (bits (0 + m)) ∙ ap bits e ∙ stripped-sent s source m j has known
-    ∙ sym (map-range_shift (source.inputs j) n 0 c) ∙ ap (λ k. map (source.inputs j) (range_with_len k c)) (omega arith) in
+    let before : flat_map bits (range_with_len 0 m) ≡ front line n = stripped-front s source j most m has known is (omega arith) in
+    let last : flat_map bits ((0 + m) ∷ []) ≡ map line (range_with_len (0 + n) c) =
+    append-nil (bits (0 + m)) ∙ ap bits e ∙ stripped-sent s source most m j has known is (omega arith)
+    ∙ sym (map-range_shift line n 0 c) ∙ ap (λ k. map line (range_with_len k c)) (omega arith) in
     ap (flat_map bits) (range_push 0 m) ∙ flat_map-append bits (range_with_len 0 m) ((0 + m) ∷ [])
-    ∙ ap (λ x. x ++ flat_map bits ((0 + m) ∷ [])) before ∙ ap (λ x. front (source.inputs j) n ++ x) last
-    ∙ sym (map-append (source.inputs j) (range_with_len 0 n) (range_with_len (0 + n) c))
-    ∙ ap (map (source.inputs j)) (sym (range_append 0 n c)) ∙ ap (front (source.inputs j)) (sym (sent-suc s (source.counts j) m))
+    ∙ ap (λ x. x ++ flat_map bits ((0 + m) ∷ [])) before ∙ ap (λ x. front line n ++ x) last
+    ∙ sym (map-append line (range_with_len 0 n) (range_with_len (0 + n) c))
+    ∙ ap (map line) (sym (range_append 0 n c)) ∙ ap (front line) (sym (is.next m))
 
 -- ---- what a receiver gets of a front of a sent line
 
@@ -208,22 +225,51 @@ flat_map-range_same f g a (suc n) same =
     let rest : flat_map f (range_with_len (a + 1) n) ≡ flat_map g (range_with_len (a + 1) n) = flat_map-range_same f g (a + 1) n (λ k h. same k (omega arith)) in
     cc
 
--- what a tributary gets of a front of its node's line is a front of its own bits
-pub received-front : (s : FrameShape) (source : Source) (j x : ℕ) → IsFrame s → HasTributaries s → j < s.tribs
-    → received s j (front (line_bit s source) x) ≡ front (source.inputs j) (sent s (source.counts j) (frames_found (x / s.len)))
-received-front s source j x frame has known =
+-- what a tributary gets of a front of its node's line is a front of its own bits, with the edits of at least that many frames
+pub received-carried : (s : FrameShape) (source : Source) (j x most : ℕ) → IsFrame s → HasTributaries s → j < s.tribs → IsCarried s j (carriage_of s source j) → x / s.len ≤ most
+    → received s j (front (line_bit s source) x) ≡ front (settled_bits s source j most) ((carriage_of s source j).sent (frames_found (x / s.len)))
+received-carried s source j x most frame has known is upto =
     let l : List Bool = front (line_bit s source) x in
+    let line : ℕ → Bool = settled_bits s source j most in
+    let sent : ℕ → ℕ = (carriage_of s source j).sent in
     let whole : frames_in s l ≡ x / s.len = ap (λ n. n / s.len) (length-front (line_bit s source) x) in
     elim (cases_lt (x / s.len) 3) [
       | inl few ↦
           let short : x < 3 * s.len = omega (arith, lt-div-mul-add {a = x} frame.some_slots, mul-le-mul_right s.len few) in
           received-short s j l frame (omega (arith, length-front (line_bit s source) x))
-          ∙ ap (front (source.inputs j)) (sym (ap (λ b. sent s (source.counts j) (cond b 0 (x / s.len))) (lt-ltb _ _ few) ∙ sent-zero s (source.counts j)))
+          ∙ ap (front line) (sym (ap (λ b. sent (cond b 0 (x / s.len))) (lt-ltb _ _ few) ∙ is.zero))
       | inr enough ↦
           received-right s j l frame (omega arith) (front-right s source x frame)
           ∙ ap (λ n. flat_map (λ k. stripped s j (frame_of s l k)) (range_with_len 0 n)) whole
           ∙ flat_map-range_same (λ k. stripped s j (frame_of s l k)) (λ k. stripped s j (sent_frame s source k)) 0 (x / s.len)
           (λ k h. ap (stripped s j) (frame_of-front s source x k (omega (arith, mul-le-mul_right s.len h, div-mul-le_self x s.len))))
-          ∙ stripped-front s source j (x / s.len) has known
-          ∙ ap (λ b. front (source.inputs j) (sent s (source.counts j) (cond b 0 (x / s.len)))) (sym (le-ltb _ _ enough))
+          ∙ stripped-front s source j most (x / s.len) has known is upto
+          ∙ ap (λ b. front line (sent (cond b 0 (x / s.len)))) (sym (le-ltb _ _ enough))
     ]
+
+-- ---- plain mode
+
+-- where an event ends a line, a tributary is carried as its sums say, and nothing edits its bits
+pub plain_carried : (s : FrameShape) (j : ℕ) (counts : ℕ → ℕ) → IsCarried s j (carriage Plain s j counts)
+plain_carried s j counts = record {
+  zero = sent-zero s counts;
+  next = sent-suc s counts;
+  locked = λ locked n. sends_more-locked s counts n locked;
+  settled = λ bits m n t below inside reads. refl;
+}
+
+pub is_plain : (s : FrameShape) (source : Source) (j : ℕ) → source.mode ≡ Plain → IsCarried s j (carriage_of s source j)
+is_plain s source j plain = subst (λ mode. IsCarried s j (carriage mode s j (source.counts j))) (sym plain) (plain_carried s j (source.counts j))
+
+-- a sent frame gives back the next bits of the tributary, as they came
+pub stripped-plain : (s : FrameShape) (source : Source) (n j : ℕ) → source.mode ≡ Plain → HasTributaries s → j < s.tribs
+    → stripped s j (sent_frame s source n) ≡ map (λ k. source.inputs j (sent s (source.counts j) n + k)) (range_with_len 0 (carried s (sends_more s (source.counts j) n)))
+stripped-plain s source n j plain has known =
+    stripped-sent s source (suc n) n j has known (is_plain s source j plain) (omega arith)
+    ∙ ap (λ mode. let c = carriage mode s j (source.counts j) in map (λ k. edited (c.edits (suc n) 0) (source.inputs j) (c.sent n + k)) (range_with_len 0 (carried s (c.more n)))) plain
+
+pub received-front : (s : FrameShape) (source : Source) (j x : ℕ) → source.mode ≡ Plain → IsFrame s → HasTributaries s → j < s.tribs
+    → received s j (front (line_bit s source) x) ≡ front (source.inputs j) (sent s (source.counts j) (frames_found (x / s.len)))
+received-front s source j x plain frame has known =
+    received-carried s source j x (x / s.len) frame has known (is_plain s source j plain) (omega arith)
+    ∙ ap (λ mode. front (edited ((carriage mode s j (source.counts j)).edits (x / s.len) 0) (source.inputs j)) ((carriage mode s j (source.counts j)).sent (frames_found (x / s.len)))) plain

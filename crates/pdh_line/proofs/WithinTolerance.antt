@@ -12,7 +12,7 @@ use Rattle.pdh_line.specs.Tolerance.{arrived_over, IsWithin}
 use Rattle.pdh_line.proofs.SendingLaws.{HasStores, came_before_grows}
 use Rattle.pdh_line.proofs.FillBounds.{fill-from, fill-upto}
 
-and_false : (a b : Bool) → b ≡ false → (a && b) ≡ false
+pub and_false : (a b : Bool) → b ≡ false → (a && b) ≡ false
 and_false true b h = h
 and_false false b h = refl
 

@@ -1,9 +1,10 @@
 -- Overflows and underflows of a node's elastic stores.
-use Rattle.std.specs.Prelude.{◌≡◌, ◌<◌, ℕ, suc, ◌+◌, ◌*◌, Bool, false, nat_le, ◌&&◌, if◌then◌else◌, List, [], ◌∷◌}
+use Rattle.std.specs.Prelude.{◌≡◌, ◌<◌, ℕ, suc, ◌+◌, ◌*◌, Bool, false, not, nat_le, ◌&&◌, ◌==◌, if◌then◌else◌, List, [], ◌∷◌, map, filter}
 use Rattle.pdh_shape.specs.Frame.{FrameShape}
 use Rattle.pdh_shape.specs.Tributary.{reads_from}
 use Rattle.pdh_shape.specs.OwnNumbers.{store_size}
-use Rattle.pdh_line.specs.Sending.{arrives_at, sends_more, came_before, read_before}
+use Rattle.pdh_line.specs.Sending.{arrives_at, sends_more, came_before, read_before, Mode, slips_in}
+use Rattle.pdh_line.specs.Sending.Mode.{Plain, Slipping}
 
 pub data Kind : Type 0 where
   Overflow Underflow : Kind
@@ -35,10 +36,24 @@ pub record IsQuiet (s : FrameShape) (j : ℕ) (counts : ℕ → ℕ) (n t : ℕ)
 abbrev pub one_if : {X : Type 0} → Bool → X → List X
 one_if test x = (if test then x ∷ [] else [])
 
+-- ---- the events of a slot
+
+-- the slip of that kind of tributary j of the node at a path in slot t of frame n, if there is one
+abbrev pub slip_at : Kind → FrameShape → List ℕ → ℕ → (ℕ → ℕ) → ℕ → ℕ → List Event
+slip_at kind s path j counts n t =
+    map (λ slip. record { kind = kind; path = path; trib = j; frame = n; slot = t })
+    (filter (λ slip. (slip.slot == t) && is_kind kind slip.over) (slips_in s j counts n (suc t)))
+  where
+    is_kind : Kind → Bool → Bool
+    is_kind Overflow over = over
+    is_kind Underflow over = not over
+
 -- the overflow of tributary j of the node at a path in slot t of frame n, if there is one
-abbrev pub overflow_at : FrameShape → List ℕ → ℕ → (ℕ → ℕ) → ℕ → ℕ → List Event
-overflow_at s path j counts n t = one_if (overflows s j counts n t) (record { kind = Overflow; path = path; trib = j; frame = n; slot = t })
+abbrev pub overflow_at : Mode → FrameShape → List ℕ → ℕ → (ℕ → ℕ) → ℕ → ℕ → List Event
+overflow_at Plain s path j counts n t = one_if (overflows s j counts n t) (record { kind = Overflow; path = path; trib = j; frame = n; slot = t })
+overflow_at Slipping s path j counts n t = slip_at Overflow s path j counts n t
 
 -- the underflow of tributary j of the node at a path in slot t of frame n, if there is one
-abbrev pub underflow_at : FrameShape → List ℕ → ℕ → (ℕ → ℕ) → ℕ → ℕ → List Event
-underflow_at s path j counts n t = one_if (underflows s j counts n t) (record { kind = Underflow; path = path; trib = j; frame = n; slot = t })
+abbrev pub underflow_at : Mode → FrameShape → List ℕ → ℕ → (ℕ → ℕ) → ℕ → ℕ → List Event
+underflow_at Plain s path j counts n t = one_if (underflows s j counts n t) (record { kind = Underflow; path = path; trib = j; frame = n; slot = t })
+underflow_at Slipping s path j counts n t = slip_at Underflow s path j counts n t

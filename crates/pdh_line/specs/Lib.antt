@@ -3,6 +3,7 @@ pub mod Tracking
 pub mod Receiving
 pub mod Progress
 pub mod Nodes
+pub mod Edits
 pub mod Sending
 pub mod Events
 pub mod Tolerance

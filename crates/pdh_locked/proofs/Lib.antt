@@ -4,3 +4,4 @@ mod OneBit
 mod Opening
 mod Filled
 mod Clearing
+mod QuietSlots

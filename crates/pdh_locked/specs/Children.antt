@@ -1,5 +1,5 @@
 -- The children of a multiplexer without stores.
-use Rattle.std.specs.Prelude.{◌≡◌, ℕ, suc, ◌+◌, ◌<◌, ◌^◌, Bool, true, false, List, [], ◌∷◌, length, map, slice_get, Some, None}
+use Rattle.std.specs.Prelude.{◌≡◌, ℕ, suc, ◌+◌, ◌*◌, ◌<◌, ◌≤◌, ◌^◌, Bool, true, false, List, [], ◌∷◌, length, map, slice_get, Some, None, Result}
 use Rattle.std.specs.List.{range_with_len, slice_index_or}
 use Rattle.pdh_bits.specs.BitOut.{BoundedBits}
 use Rattle.pdh_edge.specs.Ports.{Inputs, Takes}
@@ -11,17 +11,27 @@ use Rattle.pdh_shape.specs.Tributary.{turned}
 use Rattle.pdh_line.specs.Sending.{Source, given}
 use Rattle.pdh_runs.specs.Pieces.{rows, FillsColumn}
 use Rattle.pdh_clock.specs.Contents.{Contents}
+use Rattle.pdh_slips.specs.declared.log.SlipLog as log
 use Rattle.pdh_tx.specs.declared.tx.Tx.{Ghosts}
 use Rattle.pdh_tx.specs.declared.tx.TxStop.{TxStop}
 use Rattle.pdh_tx.specs.declared.tx.TxStop.TheVariants.{Failed}
 use Rattle.pdh_tx.specs.Meaning.{Plan, Supply, plan_of, Meaning, Agrees, HoldsAll}
 use Rattle.pdh_tx.specs.Held.{Gains, Halts}
 use Rattle.pdh_tx.specs.Making.{IsClear}
-use Rattle.pdh_tx.specs.Node.{below, line_of, any_leaf, given_by, obstacle_of, set_at, EachPlaced, EachHeld, EachInChain, AllFit, Blocked, Stays}
+use Rattle.pdh_tx.specs.Node.{below, line_of, any_leaf, given_by, obstacle_of, slips_below, set_at, EachPlaced, EachHeld, EachInChain, AllFit, Blocked, Stays}
 use Rattle.pdh_tx.specs.Passing.{up_to, carried_in, Passes, HoldsBits, HoldsBitsOf, HasRows, HasRowsOf}
 use Rattle.pdh_tx.specs.Body.{Kind, GivesSlots}
-use Rattle.pdh_tx.specs.Locked.{locked_to, locked_steps}
+use Rattle.pdh_tx.specs.Locked.{locked_to, locked_steps, locked_slot_slips}
+use Rattle.pdh_tx.specs.Telling.{Tells}
 use Rattle.pdh_locked.specs.declared.children.Children.{Children}
+
+-- ---- frames
+
+-- so many slots from slot t of frame n on, of the node at a path, are slots of frames that are scheduled
+pub record AreScheduled (schedule : Contents) (s : FrameShape) (path : Path) (n t count : ℕ) : Type 0 where
+  pub frames : ℕ
+  pub scheduled : (m : ℕ) → n ≤ m → m < n + frames → m < (plan_of schedule).frames path
+  pub inside : 0 < count → t + count ≤ frames * s.len
 
 -- ---- one child
 
@@ -89,6 +99,7 @@ locked_kind s = record {
   came = λ path plan. locked_to s;
   by = λ path plan j x. given s j (plan.counts path j) x;
   steps = locked_steps s;
+  slips = λ path. locked_slot_slips s;
 }
 
 module _ {C : Type 0} (tx : Ghosts C) (s : FrameShape) (path : Path) (plan : Plan) where
@@ -144,19 +155,23 @@ module _ {S C : Type 0} {shape : shape.Ghosts S} {tx : Ghosts C} where
 
   -- ---- one slot
 
-  -- each has made some bits by this schedule
-  abbrev pub HaveMadeSome : Children S C shape tx → Contents → Type 0
-  HaveMadeSome cs schedule = (made : ℕ → ℕ) × HaveMade cs (plan_of schedule) made
+  -- each has made some bits by this plan
+  abbrev pub HaveMadeSome : Children S C shape tx → Plan → Type 0
+  HaveMadeSome cs plan = (made : ℕ → ℕ) × HaveMade cs plan made
 
   -- child j gave its next bit
-  abbrev pub ReadOne : Children S C shape tx → Children S C shape tx → Contents → ℕ → Bool → Inputs → Inputs → Type 0
-  ReadOne old new schedule j bit before after = (made : ℕ → ℕ) → HaveMade old (plan_of schedule) made → Reads tx shape.shape (plan_of schedule) old.list.items new.list.items made j bit before after
+  abbrev pub ReadOne : Children S C shape tx → Children S C shape tx → Plan → ℕ → Bool → Inputs → Inputs → Type 0
+  ReadOne old new plan j bit before after = (made : ℕ → ℕ) → HaveMade old plan made → Reads tx shape.shape plan old.list.items new.list.items made j bit before after
 
   -- or it met what stands in its way
-  abbrev pub StopAtRead : Children S C shape tx → Contents → ℕ → TxStop → Inputs → Inputs → ℕ → ℕ → Type 0
-  StopAtRead cs schedule j stop before after faults now =
-      (made : ℕ → ℕ) → HaveMade cs (plan_of schedule) made
-      → Blocked (meanings cs) (plan_of schedule) made (set_at made j (suc (made j))) (λ size. obstacle_of (slice_get (meanings cs) j) (plan_of schedule) size (made j) ∷ []) stop before after faults now
+  abbrev pub StopAtRead : Children S C shape tx → Plan → ℕ → TxStop → Inputs → Inputs → ℕ → ℕ → Type 0
+  StopAtRead cs plan j stop before after faults now =
+      (made : ℕ → ℕ) → HaveMade cs plan made
+      → Blocked (meanings cs) plan made (set_at made j (suc (made j))) (λ size. obstacle_of (slice_get (meanings cs) j) plan size (made j) ∷ []) stop before after faults now
+
+  -- and told a log of the slips in making it
+  abbrev pub TellAtRead : {G T : Type 0} → Children S C shape tx → Plan → ℕ → log.Ghosts G → G → G → Result T TxStop → Type 0
+  TellAtRead cs plan j logs old new result = (made : ℕ → ℕ) → HaveMade cs plan made → Tells logs old new (slips_below (slice_get (meanings cs) j) plan (made j)) result
 
   -- ---- many slots: so many, from slot t of frame n on
 

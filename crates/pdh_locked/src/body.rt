@@ -6,10 +6,12 @@ ghost use Rattle.pdh_tx.specs.laws.StoredLaws.{stored_long};
 
 use crate::beginning::begin;
 use crate::children::Children;
+use crate::quiet::{MOST_ASKED, frames_of, slots_scheduled};
 use pdh_clock::Schedule;
 use pdh_edge::{Failed, Feed};
 use pdh_packed::Packed;
 use pdh_shape::{Path, Service, Shape};
+use pdh_slips::SlipLog;
 use pdh_tx::{Body, Piece, Tx, TxStop, carried, overhead_of, write_overhead};
 
 impl<S: Shape, C: Tx> Body<S> for Children<S, C> {
@@ -25,7 +27,7 @@ impl<S: Shape, C: Tx> Body<S> for Children<S, C> {
 
     ghost held = { λ b. HoldsTo b };
 
-    fn bit<F: Feed>(
+    fn bit<F: Feed, G: SlipLog>(
         &mut self,
         path: Path,
         frame: u64,
@@ -34,12 +36,30 @@ impl<S: Shape, C: Tx> Body<S> for Children<S, C> {
         odd: bool,
         clock: &Schedule,
         feed: &mut F,
+        log: &mut G,
     ) -> Result<bool, TxStop> {
         begin(path, frame, slot, clock)?;
         match carried::<S, ()>(slot, &()) {
-            Some(trib) => self.read(trib, clock, feed),
+            Some(trib) => self.read(trib, clock, feed, log),
             None => Ok(overhead_of::<S, ()>(slot, say, odd, &())),
         }
+    }
+
+    fn quiet<F: Feed>(
+        &self,
+        path: Path,
+        frame: u64,
+        slot: u32,
+        clock: &Schedule,
+        feed: &F,
+        most: usize,
+    ) -> usize {
+        let slots = slots_scheduled::<S>(path, frame, slot, clock, most.min(MOST_ASKED));
+        let bits = frames_of::<S>(slot, slots) * u64::from(S::LOW);
+        if !self.all_stay_free(bits as usize, clock, feed) {
+            return 0;
+        }
+        slots
     }
 
     fn piece<F: Feed>(

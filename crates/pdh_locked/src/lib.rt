@@ -8,6 +8,7 @@ mod body;
 mod children;
 mod filling;
 mod locked;
+mod quiet;
 
 pub use children::Children;
 pub use locked::{Locked, open_locked};

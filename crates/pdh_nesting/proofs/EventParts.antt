@@ -8,6 +8,7 @@ use Rattle.pdh_shape.specs.Tributary.{reads_from, reads_below}
 use Rattle.pdh_shape.specs.OwnNumbers.{lead}
 use Rattle.pdh_line.specs.Sending.{HasStores, arrives_at, came_before}
 use Rattle.pdh_line.specs.Nodes.{child, Counts}
+use Rattle.pdh_line.specs.Sending.Mode.{Plain}
 use Rattle.pdh_line.specs.Events.{Event, overflows, underflows, overflow_at, underflow_at}
 use Rattle.pdh_nesting.specs.Chains.{top_len}
 use Rattle.pdh_nesting.specs.Events.{events_with_stores, events_without_stores, events_in, events_below, first_event}
@@ -49,10 +50,10 @@ arrival_of s below counts path n t j = cond (arrives_at s (counts path j n) t) (
 
 -- the events of all arrivals of a slot
 abbrev pub arrivals_of : FrameShape → List FrameShape → Counts → List ℕ → ℕ → ℕ → List Event
-arrivals_of s below counts path n t = flat_map (λ j. arrival_of s below counts path n t j ++ overflow_at s path j (counts path j) n t) (range_with_len 0 s.tribs)
+arrivals_of s below counts path n t = flat_map (λ j. arrival_of s below counts path n t j ++ overflow_at Plain s path j (counts path j) n t) (range_with_len 0 s.tribs)
 
 abbrev pub reads_of : FrameShape → Counts → List ℕ → ℕ → ℕ → List Event
-reads_of s counts path n t = flat_map (λ j. underflow_at s path j (counts path j) n t) (range_with_len 0 s.tribs)
+reads_of s counts path n t = flat_map (λ j. underflow_at Plain s path j (counts path j) n t) (range_with_len 0 s.tribs)
 
 -- those of a node with stores
 pub events_in-is : (s : FrameShape) (below : List FrameShape) (counts : Counts) (path : List ℕ) (x : ℕ) → HasStores s
@@ -103,14 +104,14 @@ module _ (s : FrameShape) (below : List FrameShape) (counts : Counts) (path : Li
   arrival_none j x none known arrives =
       let n : ℕ = x / s.len in
       let t : ℕ = x % s.len in
-      let here = each_of_range (λ j. arrival_of s below counts path n t j ++ overflow_at s path j (counts path j) n t) 0 s.tribs j (slot_none x none).0 (omega arith) (omega arith) in
+      let here = each_of_range (λ j. arrival_of s below counts path n t j ++ overflow_at Plain s path j (counts path j) n t) 0 s.tribs j (slot_none x none).0 (omega arith) (omega arith) in
       let parts = none_of_both (arrival_of s below counts path n t j) _ here in
       ap (λ b. cond b (events_in below counts (child path j) (came_before s (counts path j) n t)) []) (sym arrives) ∙ parts.0
 
   -- and none has an underflow
   pub underflow_none : (j x : ℕ) → events_in (s ∷ below) counts path x ≡ [] → j < s.tribs → underflows s j (counts path j) (x / s.len) (x % s.len) ≡ false
   underflow_none j x none known =
-      one_if_none _ _ (each_of_range (λ j. underflow_at s path j (counts path j) (x / s.len) (x % s.len)) 0 s.tribs j (slot_none x none).1 (omega arith) (omega arith))
+      one_if_none _ _ (each_of_range (λ j. underflow_at Plain s path j (counts path j) (x / s.len) (x % s.len)) 0 s.tribs j (slot_none x none).1 (omega arith) (omega arith))
 
   -- a bit has none where no part has
   pub events_in-none : (x : ℕ) → ((j k : ℕ) → x ≡ 0 → j < s.tribs → k < lead → events_in below counts (child path j) k ≡ [])
@@ -122,9 +123,9 @@ module _ (s : FrameShape) (below : List FrameShape) (counts : Counts) (path : Li
       let n : ℕ = x / s.len in
       let t : ℕ = x % s.len in
       let made : arrivals_of s below counts path n t ≡ [] =
-      none_of_range (λ j. arrival_of s below counts path n t j ++ overflow_at s path j (counts path j) n t) 0 s.tribs
-      (λ j l h. ap (λ es. es ++ overflow_at s path j (counts path j) n t) (none_if (arrives_at s (counts path j n) t) _ (arrivals j (omega arith))) ∙ rw (over j (omega arith)) refl) in
-      let read : reads_of s counts path n t ≡ [] = none_of_range (λ j. underflow_at s path j (counts path j) n t) 0 s.tribs (λ j l h. rw (under j (omega arith)) refl) in
+      none_of_range (λ j. arrival_of s below counts path n t j ++ overflow_at Plain s path j (counts path j) n t) 0 s.tribs
+      (λ j l h. ap (λ es. es ++ overflow_at Plain s path j (counts path j) n t) (none_if (arrives_at s (counts path j n) t) _ (arrivals j (omega arith))) ∙ rw (over j (omega arith)) refl) in
+      let read : reads_of s counts path n t ≡ [] = none_of_range (λ j. underflow_at Plain s path j (counts path j) n t) 0 s.tribs (λ j l h. rw (under j (omega arith)) refl) in
       let taken : cond (eqb x 0) (leads_of s below counts path) [] ≡ [] =
       none_if (eqb x 0) _ (λ first. none_of_range (λ j. flat_map (events_in below counts (child path j)) (range_with_len 0 lead)) 0 s.tribs
       (λ j l h. none_of_range (events_in below counts (child path j)) 0 lead (λ k l' h'. leads j k (eqb-true x 0 first) (omega arith) (omega arith)))) in

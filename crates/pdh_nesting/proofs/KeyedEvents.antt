@@ -8,6 +8,7 @@ use Rattle.pdh_shape.specs.Tributary.{reads_from, reads_below}
 use Rattle.pdh_shape.specs.OwnNumbers.{lead}
 use Rattle.pdh_line.specs.Sending.{arrives_at, came_before}
 use Rattle.pdh_line.specs.Nodes.{child, Counts}
+use Rattle.pdh_line.specs.Sending.Mode.{Plain}
 use Rattle.pdh_line.specs.Events.{Event, overflow_at, underflow_at}
 use Rattle.pdh_nesting.specs.Events.{events_with_stores, events_without_stores, events_in, events_below}
 use Rattle.pdh_nesting.specs.StepOrder.{Keyed, at_key, below_key, keyed_with_stores, keyed_in, keyed_below}
@@ -30,11 +31,11 @@ keyed_lead below counts path j = flat_map (keyed_made below counts path 0 j) (ra
 abbrev pub keyed_arrival : FrameShape → List FrameShape → Counts → List ℕ → ℕ → ℕ → ℕ → List Keyed
 keyed_arrival s below counts path n t j =
     cond (arrives_at s (counts path j n) t) (keyed_made below counts path 1 j (came_before s (counts path j) n t)) []
-    ++ at_key (1 ∷ suc j ∷ []) (overflow_at s path j (counts path j) n t)
+    ++ at_key (1 ∷ suc j ∷ []) (overflow_at Plain s path j (counts path j) n t)
 
 -- and the underflow of tributary j
 abbrev pub keyed_read : FrameShape → Counts → List ℕ → ℕ → ℕ → ℕ → List Keyed
-keyed_read s counts path n t j = at_key (1 ∷ suc s.tribs ∷ []) (underflow_at s path j (counts path j) n t)
+keyed_read s counts path n t j = at_key (1 ∷ suc s.tribs ∷ []) (underflow_at Plain s path j (counts path j) n t)
 
 -- in a node without stores, those in making the bit of tributary j that a slot reads
 abbrev pub keyed_bit_read : FrameShape → List FrameShape → Counts → List ℕ → ℕ → ℕ → ℕ → List Keyed
@@ -90,20 +91,20 @@ module _ (s : FrameShape) (below : List FrameShape) (counts : Counts) (path : Li
   lead-events j = of_flat (keyed_made below counts path 0 j) (made j) (range_with_len 0 lead) (made-events 0 j)
 
   arrival-events : (j : ℕ) → events_of (keyed_arrival s below counts path frame slot j)
-      ≡ cond (arrives_at s (counts path j frame) slot) (made j (came_before s (counts path j) frame slot)) [] ++ overflow_at s path j (counts path j) frame slot
+      ≡ cond (arrives_at s (counts path j frame) slot) (made j (came_before s (counts path j) frame slot)) [] ++ overflow_at Plain s path j (counts path j) frame slot
   arrival-events j =
       let bit : ℕ = came_before s (counts path j) frame slot in
-      let over : List Keyed = at_key (1 ∷ suc j ∷ []) (overflow_at s path j (counts path j) frame slot) in
+      let over : List Keyed = at_key (1 ∷ suc j ∷ []) (overflow_at Plain s path j (counts path j) frame slot) in
       of_append (cond (arrives_at s (counts path j frame) slot) (keyed_made below counts path 1 j bit) []) over
       ∙ ap (λ es. es ++ events_of over) (of_cond (arrives_at s (counts path j frame) slot) _ _ (made-events 1 j bit))
-      ∙ ap (λ es. cond (arrives_at s (counts path j frame) slot) (made j bit) [] ++ es) (of_at_key (1 ∷ suc j ∷ []) (overflow_at s path j (counts path j) frame slot))
+      ∙ ap (λ es. cond (arrives_at s (counts path j frame) slot) (made j bit) [] ++ es) (of_at_key (1 ∷ suc j ∷ []) (overflow_at Plain s path j (counts path j) frame slot))
 
   with_stores-events : events_of (keyed_with_stores s counts path (keyed_made below counts path) x) ≡ events_with_stores s counts path made x
   with_stores-events =
       of_three _ _ (flat_map (keyed_read s counts path frame slot) (range_with_len 0 s.tribs)) _ _ _
       (of_cond (eqb x 0) _ _ (of_flat (keyed_lead below counts path) _ (range_with_len 0 s.tribs) lead-events))
       (of_flat (keyed_arrival s below counts path frame slot) _ (range_with_len 0 s.tribs) arrival-events)
-      (of_flat (keyed_read s counts path frame slot) _ (range_with_len 0 s.tribs) (λ j. of_at_key (1 ∷ suc s.tribs ∷ []) (underflow_at s path j (counts path j) frame slot)))
+      (of_flat (keyed_read s counts path frame slot) _ (range_with_len 0 s.tribs) (λ j. of_at_key (1 ∷ suc s.tribs ∷ []) (underflow_at Plain s path j (counts path j) frame slot)))
 
   without_stores-events : events_of (events_without_stores s (keyed_made below counts path 1) x) ≡ events_without_stores s made x
   without_stores-events =

@@ -1,6 +1,7 @@
 pub mod Worked
 pub mod WorkedTracking
 pub mod WorkedLines
+pub mod WorkedSlips
 pub mod WorkedEvents
 pub mod KnownChains
 pub mod RoundTrip

@@ -1,5 +1,6 @@
 -- What comes back of a front of a chain's line: a front of each leaf's own bits.
-use Rattle.std.proofs.Common.{◌≡◌, ℕ, ◌+◌, ◌*◌, ◌/◌, ◌%◌, ◌<◌, Bool, List, [], ◌∷◌, length, ap, ◌∙◌, arith}
+use Rattle.std.proofs.Common.{refl, ◌≡◌, ℕ, ◌+◌, ◌*◌, ◌/◌, ◌%◌, ◌<◌, Bool, List, [], ◌∷◌, length, ap, ◌∙◌, arith}
+use Rattle.pdh_line.specs.Sending.Mode.{Plain}
 use Rattle.pdh_shape.specs.declared.role.Service.{Service as Say}
 use Rattle.pdh_shape.specs.Frame.{FrameShape, idle}
 use Rattle.pdh_line.specs.Sending.{Source, front, given_back}
@@ -22,9 +23,9 @@ far_front (s ∷ below) counts bits says path first x k are h =
     let w : ℕ = width below in
     let j : ℕ = k / w in
     let inputs : ℕ → ℕ → Bool = λ j. chain_line below counts bits (λ n. idle) (child path j) (first + j * w) in
-    let source : Source = record { counts = counts path; inputs = inputs; says = says } in
+    let source : Source = record { mode = Plain; counts = counts path; inputs = inputs; says = says } in
     let back : ℕ = given_back s (counts path j) (x / s.len) in
-    ap (λ line. far below line (k % w)) (received-front s source j x are.0 are.1 (leaf-tributary s.tribs w k h))
+    ap (λ line. far below line (k % w)) (received-front s source j x refl are.0 are.1 (leaf-tributary s.tribs w k h))
     ∙ far_front below counts bits (λ n. idle) (child path j) (first + j * w) back (k % w) are.2 (leaf-below s.tribs w k h)
     ∙ ap (λ i. front (bits i) (back_below below counts (child path j) back (k % w))) (leaf-number first w k)
 

@@ -26,10 +26,7 @@ all_of_range P f a (suc n) i low high all = elim (cases_eq i a) [
 
 -- ---- the nodes of a chain
 
-pub top_of_nodes : (P : List ℕ → Type 0) (frame : FrameNumbers) (below : List FrameNumbers) → All P (nodes_of (frame ∷ below)) → P []
-top_of_nodes P frame below all = all 0 [] (omega arith)
-
-pub nodes_below : (P : List ℕ → Type 0) (frame : FrameNumbers) (below : List FrameNumbers) (j : ℕ) → j < frame.tribs → All P (nodes_of (frame ∷ below)) → All (λ steps. P (suc j ∷ steps)) (nodes_of below)
+nodes_below : (P : List ℕ → Type 0) (frame : FrameNumbers) (below : List FrameNumbers) (j : ℕ) → j < frame.tribs → All P (nodes_of (frame ∷ below)) → All (λ steps. P (suc j ∷ steps)) (nodes_of below)
 nodes_below P frame below j known all =
     all_of_map P (λ steps. suc j ∷ steps) (nodes_of below)
     (all_of_range P (λ step. map (λ path. step ∷ path) (nodes_of below)) 1 frame.tribs (suc j) (omega arith) (omega arith)

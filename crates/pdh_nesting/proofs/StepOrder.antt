@@ -9,6 +9,7 @@ use Rattle.pdh_shape.specs.Frame.{FrameShape}
 use Rattle.pdh_shape.specs.Tributary.{reads_from, reads_below}
 use Rattle.pdh_shape.specs.OwnNumbers.{lead}
 use Rattle.pdh_line.specs.Sending.{arrives_at, sends_more, came_before}
+use Rattle.pdh_line.specs.Sending.Mode.{Plain}
 use Rattle.pdh_line.specs.Events.{Event, overflows, underflows, overflow_at, underflow_at}
 use Rattle.pdh_line.specs.Nodes.{child, Counts}
 use Rattle.pdh_line.proofs.Ranges.{and_true}
@@ -61,7 +62,7 @@ module _ (s : FrameShape) (below : List FrameShape) (counts : Counts) (path : Li
     made_at j = cond (arrives_at s (counts path j n) t) (keyed_made below counts path 1 j (came_before s (counts path j) n t)) []
 
     abbrev over_at : ℕ → List Keyed
-    over_at j = at_key (1 ∷ suc j ∷ []) (overflow_at s path j (counts path j) n t)
+    over_at j = at_key (1 ∷ suc j ∷ []) (overflow_at Plain s path j (counts path j) n t)
 
     ordered-arrival : (j : ℕ) → Ordered Before (keyed_arrival s below counts path n t j)
     ordered-arrival j =
@@ -71,7 +72,7 @@ module _ (s : FrameShape) (below : List FrameShape) (counts : Counts) (path : Li
         (across-by Before (Begins (1 ∷ suc j ∷ bit ∷ [])) (λ event. event.0 ≡ 1 ∷ suc j ∷ []) (made_at j) (over_at j)
         (λ a b ea eb. ap (comes_before a.0) eb ∙ ap (λ key. comes_before key (1 ∷ suc j ∷ [])) ea.1 ∙ comes_before-same (1 ∷ suc j ∷ []) (bit ∷ ea.0) [])
         (each-if (Begins (1 ∷ suc j ∷ bit ∷ [])) (arrives_at s (counts path j n) t) (keyed_made below counts path 1 j bit) (begins-made 1 j bit))
-        (begins-at (1 ∷ suc j ∷ []) (overflow_at s path j (counts path j) n t)))
+        (begins-at (1 ∷ suc j ∷ []) (overflow_at Plain s path j (counts path j) n t)))
 
     begins-arrival : (j : ℕ) → Each (Begins (1 ∷ suc j ∷ [])) (keyed_arrival s below counts path n t j)
     begins-arrival j =
@@ -79,7 +80,7 @@ module _ (s : FrameShape) (below : List FrameShape) (counts : Counts) (path : Li
         each-append (Begins (1 ∷ suc j ∷ [])) (made_at j) (over_at j)
         (each-if (Begins (1 ∷ suc j ∷ [])) (arrives_at s (counts path j n) t) (keyed_made below counts path 1 j bit)
         (each-weaker (Begins (1 ∷ suc j ∷ bit ∷ [])) (Begins (1 ∷ suc j ∷ [])) (keyed_made below counts path 1 j bit) (λ event begins. (bit ∷ begins.0, begins.1)) (begins-made 1 j bit)))
-        (each-weaker (λ event. event.0 ≡ 1 ∷ suc j ∷ []) (Begins (1 ∷ suc j ∷ [])) (over_at j) (λ event is. ([], is)) (begins-at (1 ∷ suc j ∷ []) (overflow_at s path j (counts path j) n t)))
+        (each-weaker (λ event. event.0 ≡ 1 ∷ suc j ∷ []) (Begins (1 ∷ suc j ∷ [])) (over_at j) (λ event is. ([], is)) (begins-at (1 ∷ suc j ∷ []) (overflow_at Plain s path j (counts path j) n t)))
 
     abbrev arrivals : List Keyed
     arrivals = flat_map (keyed_arrival s below counts path n t) (range_with_len 0 s.tribs)
@@ -107,7 +108,7 @@ module _ (s : FrameShape) (below : List FrameShape) (counts : Counts) (path : Li
     begins-reads =
         each-flat (Begins (1 ∷ suc s.tribs ∷ [])) (keyed_read s counts path n t) 0 s.tribs
         (λ j h h'. each-weaker (λ event. event.0 ≡ 1 ∷ suc s.tribs ∷ []) (Begins (1 ∷ suc s.tribs ∷ [])) (keyed_read s counts path n t j) (λ event is. ([], is))
-        (begins-at (1 ∷ suc s.tribs ∷ []) (underflow_at s path j (counts path j) n t)))
+        (begins-at (1 ∷ suc s.tribs ∷ []) (underflow_at Plain s path j (counts path j) n t)))
 
     -- a list of one of the node's tributaries, of an arrival
     abbrev IsArrival : Keyed → Type 0

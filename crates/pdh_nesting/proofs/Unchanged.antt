@@ -3,6 +3,7 @@ use Rattle.std.proofs.Common.{◌≡◌, ℕ, suc, ◌+◌, ◌*◌, ◌/◌, �
 use Rattle.std.proofs.lemmas.Bool.{leb-false, cases_Bool}
 use Rattle.std.proofs.lemmas.Nat.{div-mul-add, mod-mul-add}
 use Rattle.std.proofs.Math.Nat.{mul-le-mul_right}
+use Rattle.pdh_line.specs.Sending.Mode.{Plain}
 use Rattle.pdh_shape.specs.declared.role.Service.{Service as Say}
 use Rattle.pdh_shape.specs.Frame.{FrameShape, IsFrame, idle}
 use Rattle.pdh_shape.specs.Tributary.{reads_from, reads_below, HasTributaries}
@@ -52,7 +53,7 @@ read-given s counts x n t j frame has known fine inside made reads =
 line_bit-same_given : (s : FrameShape) (counts : ℕ → ℕ → ℕ) (p q : ℕ → ℕ → Bool) (f g : ℕ → Say) (x y : ℕ) → IsFrame s → HasTributaries s
     → ((j : ℕ) → j < s.tribs → HasStores s → (n t : ℕ) → t < s.len → n * s.len + t < x → underflows s j (counts j) n t ≡ false)
     → ((j i : ℕ) → j < s.tribs → i < given s j (counts j) x → p j i ≡ q j i) → ((n : ℕ) → n < begun s x → f n ≡ g n) → y < x
-    → line_bit s (record { counts = counts; inputs = p; says = f }) y ≡ line_bit s (record { counts = counts; inputs = q; says = g }) y
+    → line_bit s (record { mode = Plain; counts = counts; inputs = p; says = f }) y ≡ line_bit s (record { mode = Plain; counts = counts; inputs = q; says = g }) y
 line_bit-same_given s counts p q f g x y frame has full same says h =
     line_bit-same_upto s counts p q f g x frame has
     (λ n t j known inside made reads. same j (read_before s j (counts j) n t) known (read-given s (counts j) x n t j frame has known (λ stores. full j known stores n t inside made) inside made reads))

@@ -4,12 +4,13 @@ use Rattle.pdh_shape.specs.Frame.{idle}
 use Rattle.pdh_eframes.specs.Sets.{set_role}
 use Rattle.pdh_eframes.specs.Plans.{e2, e2_signal}
 use Rattle.pdh_eframes.proofs.Worked.{zeros_frame}
+use Rattle.pdh_line.specs.Sending.Mode.{Plain}
 use Rattle.pdh_line.specs.Sending.{Source, sent, odd_before, line_bit, front}
 use Rattle.pdh_line.specs.Progress.{arrived}
 
 -- four tributaries of zeros, with 205 bits of each in each frame
 unfoldable pub zeros_source : Source
-zeros_source = record { counts = λ j n. 205; inputs = λ j k. false; says = λ n. idle }
+zeros_source = record { mode = Plain; counts = λ j n. 205; inputs = λ j k. false; says = λ n. idle }
 
 -- a justified frame of zeros: its control bits and its justifiable slots are 1
 unfoldable pub justified_frame : List Bool

@@ -7,6 +7,7 @@ use Rattle.pdh_shape.specs.Tributary.{reads_from, reads_below}
 use Rattle.pdh_shape.specs.OwnNumbers.{lead}
 use Rattle.pdh_line.specs.Sending.{HasStores, arrives_at, came_before, given}
 use Rattle.pdh_line.specs.Nodes.{child, Counts}
+use Rattle.pdh_line.specs.Sending.Mode.{Plain}
 use Rattle.pdh_line.specs.Events.{Event, underflows, overflow_at, underflow_at}
 use Rattle.pdh_nesting.specs.Chains.{top_len}
 
@@ -19,8 +20,8 @@ events_with_stores s counts path made x =
     let t = x % s.len in
     let tributaries = range_with_len 0 s.tribs in
     (if x == 0 then flat_map (λ j. flat_map (made j) (range_with_len 0 lead)) tributaries else [])
-    ++ flat_map (λ j. (if arrives_at s (counts path j n) t then made j (came_before s (counts path j) n t) else []) ++ overflow_at s path j (counts path j) n t) tributaries
-    ++ flat_map (λ j. underflow_at s path j (counts path j) n t) tributaries
+    ++ flat_map (λ j. (if arrives_at s (counts path j n) t then made j (came_before s (counts path j) n t) else []) ++ overflow_at Plain s path j (counts path j) n t) tributaries
+    ++ flat_map (λ j. underflow_at Plain s path j (counts path j) n t) tributaries
 
 -- The same of a node without stores, which has no events of its own: those in making the bit that its slot reads, of the
 -- tributary that it reads.

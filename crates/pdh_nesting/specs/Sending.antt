@@ -1,6 +1,7 @@
 -- What a chain sends, and how far it has come.
 use Rattle.std.specs.Prelude.{◌≡◌, ℕ, ◌+◌, ◌*◌, ◌<◌, ◌≤◌, Bool, false, List, [], ◌∷◌, ◌++◌, All}
 use Rattle.std.specs.List.{slice_index_or}
+use Rattle.pdh_line.specs.Sending.Mode.{Plain}
 use Rattle.pdh_shape.specs.declared.role.Service.{Service as Say}
 use Rattle.pdh_shape.specs.Frame.{FrameShape, idle}
 use Rattle.pdh_line.specs.Sending.{HasStores, line_bit, begun, given}
@@ -16,7 +17,7 @@ use Rattle.pdh_nesting.specs.Chains.{numbers_of, width}
 unfoldable pub chain_line : List FrameShape → Counts → (ℕ → ℕ → Bool) → (ℕ → Say) → List ℕ → ℕ → ℕ → Bool
 chain_line [] counts bits says path first x = bits first x
 chain_line (s ∷ below) counts bits says path first x =
-    line_bit s (record { counts = counts path; inputs = λ j. chain_line below counts bits (λ n. idle) (child path j) (first + j * width below); says = says }) x
+    line_bit s (record { mode = Plain; counts = counts path; inputs = λ j. chain_line below counts bits (λ n. idle) (child path j) (first + j * width below); says = says }) x
 
 -- ---- how far a chain has come, where the node at a path has made x bits of its line
 

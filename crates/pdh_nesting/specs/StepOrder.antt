@@ -8,6 +8,7 @@ use Rattle.pdh_shape.specs.Frame.{FrameShape}
 use Rattle.pdh_shape.specs.OwnNumbers.{lead}
 use Rattle.pdh_line.specs.Sending.{arrives_at, came_before}
 use Rattle.pdh_line.specs.Nodes.{child, Counts}
+use Rattle.pdh_line.specs.Sending.Mode.{Plain}
 use Rattle.pdh_line.specs.Events.{Event, overflow_at, underflow_at}
 use Rattle.pdh_nesting.specs.Chains.{top_len}
 use Rattle.pdh_nesting.specs.Events.{events_without_stores}
@@ -39,8 +40,8 @@ keyed_with_stores s counts path made x =
     let t = x % s.len in
     let tributaries = range_with_len 0 s.tribs in
     (if x == 0 then flat_map (λ j. flat_map (made 0 j) (range_with_len 0 lead)) tributaries else [])
-    ++ flat_map (λ j. (if arrives_at s (counts path j n) t then made 1 j (came_before s (counts path j) n t) else []) ++ at_key (1 ∷ suc j ∷ []) (overflow_at s path j (counts path j) n t)) tributaries
-    ++ flat_map (λ j. at_key (1 ∷ suc s.tribs ∷ []) (underflow_at s path j (counts path j) n t)) tributaries
+    ++ flat_map (λ j. (if arrives_at s (counts path j n) t then made 1 j (came_before s (counts path j) n t) else []) ++ at_key (1 ∷ suc j ∷ []) (overflow_at Plain s path j (counts path j) n t)) tributaries
+    ++ flat_map (λ j. at_key (1 ∷ suc s.tribs ∷ []) (underflow_at Plain s path j (counts path j) n t)) tributaries
 
 -- all events in making bit x of the line of the node at a path, in order, each with that part of its list; a bit that a node
 -- without stores reads has the mark of one that arrives

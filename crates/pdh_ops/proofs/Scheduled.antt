@@ -8,9 +8,8 @@ use Rattle.pdh_clock.specs.Contents.{Contents, IsRowOf, counts, frame_count}
 use Rattle.pdh_clock.specs.Begun.{shortage, bits_entered}
 use Rattle.pdh_chain.specs.Chains.{shapes_of, levels_of, leaves_of}
 use Rattle.pdh_chain.specs.declared.chain.Chain.{Chain}
-use Rattle.pdh_chain.proofs.Clear.{all_scheduled as all_scheduled_of}
 use Rattle.pdh_chain.proofs.ChainLaws.{are_levels_of}
-use Rattle.pdh_chain.proofs.Scheduled.{entered_small, entered_is}
+use Rattle.pdh_chain.proofs.Scheduled.{all_scheduled as all_scheduled_of, entered_small, entered_is}
 use Rattle.pdh_ops.specs.Schedules.{contents_of, frames_in}
 use Rattle.pdh_ops.specs.Commands.Mux.{line_len, short_node, bits_needed}
 

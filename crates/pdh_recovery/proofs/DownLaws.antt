@@ -15,6 +15,7 @@ use Rattle.pdh_shape.specs.Frame.{idle}
 use Rattle.pdh_shape.specs.Tributary.{HasTributaries, stripped}
 use Rattle.pdh_shape.specs.declared.role.Service.{Service as Say}
 use Rattle.pdh_line.specs.Receiving.{piece_bits, received}
+use Rattle.pdh_line.specs.Sending.Mode.{Plain}
 use Rattle.pdh_line.specs.Sending.{HasStores, Source, sent, carried, sends_more, line_bit, given, given_back, frames_found}
 use Rattle.pdh_line.specs.Nodes.{child, Counts, given_at}
 use Rattle.pdh_nesting.specs.Chains.{width, AreFrames}
@@ -29,7 +30,7 @@ use Rattle.pdh_align.proofs.AligningLaws.{all_delivered, covered-append}
 use Rattle.pdh_line.proofs.Ranges.{range_push, range_append, map-range_same_on, map-range_shift}
 use Rattle.pdh_line.proofs.LeafNumbers.{leaf-tributary, leaf-below, leaf-number}
 use Rattle.pdh_line.proofs.SendingLaws.{sent-suc}
-use Rattle.pdh_line.proofs.SentFrames.{sent_frame, line_bit-at, sent_frame-right, stripped-sent}
+use Rattle.pdh_line.proofs.SentFrames.{sent_frame, line_bit-at, sent_frame-right, stripped-plain}
 use Rattle.pdh_recovery.specs.Losing.{KeepsRight}
 use Rattle.pdh_recovery.specs.Recovering.{Rejoins, RejoinsList, IsTruePosition, IsQuietFrom, AllRight, RecoversAfter}
 use Rattle.pdh_recovery.specs.Downwards.{ChildPlace, IsQuietDown, ComesBack, KeepRight, LeafComesBack}
@@ -52,14 +53,14 @@ unfolding piece_bits
 bits_of_frame s j frame = refl
 
 -- the frames of a sent line from frame a on give back the tributary's bits from there on
-pub frames_give_from : (s : FrameShape) (source : Source) (a m j : ℕ) → HasTributaries s → j < s.tribs
+pub frames_give_from : (s : FrameShape) (source : Source) (a m j : ℕ) → source.mode ≡ Plain → HasTributaries s → j < s.tribs
     → (n : ℕ) × (sent s (source.counts j) (a + m) ≡ sent s (source.counts j) a + n)
     × (flat_map (piece_bits s j) (map (λ k. Delivered (sent_frame s source (a + k))) (range_with_len 0 m)) ≡ map (source.inputs j) (range_with_len (sent s (source.counts j) a) n))
-frames_give_from s source a zero j tribs h =
+frames_give_from s source a zero j plain tribs h =
     let e : a + 0 ≡ a = omega arith in
     (0, ap (sent s (source.counts j)) e ∙ omega arith, refl)
-frames_give_from s source a (suc m) j tribs h =
-    let before = frames_give_from s source a m j tribs h in
+frames_give_from s source a (suc m) j plain tribs h =
+    let before = frames_give_from s source a m j plain tribs h in
     let e : 0 + m ≡ m = omega arith in
     let next : a + suc m ≡ suc (a + m) = omega arith in
     let f : ℕ → Piece = λ k. Delivered (sent_frame s source (a + k)) in
@@ -68,7 +69,7 @@ frames_give_from s source a (suc m) j tribs h =
     let c : ℕ = carried s (sends_more s (source.counts j) (a + m)) in
     let here : sent s (source.counts j) (a + m) ≡ from + n = before.1 in
     let last : flat_map (piece_bits s j) (f (0 + m) ∷ []) ≡ map (source.inputs j) (range_with_len (from + n) c) =
-    append-nil (piece_bits s j (f (0 + m))) ∙ bits_of_frame s j (sent_frame s source (a + (0 + m))) ∙ ap (λ k. stripped s j (sent_frame s source (a + k))) e ∙ stripped-sent s source (a + m) j tribs h
+    append-nil (piece_bits s j (f (0 + m))) ∙ bits_of_frame s j (sent_frame s source (a + (0 + m))) ∙ ap (λ k. stripped s j (sent_frame s source (a + k))) e ∙ stripped-plain s source (a + m) j plain tribs h
     ∙ sym (map-range_shift (source.inputs j) (sent s (source.counts j) (a + m)) 0 c) ∙ ap (λ k. map (source.inputs j) (range_with_len k c)) (omega arith) in
     let grown : sent s (source.counts j) (a + suc m) ≡ from + (n + c) =
     ap (sent s (source.counts j)) next ∙ sent-suc s (source.counts j) (a + m) ∙ ap (λ k. k + c) here ∙ omega arith in (
@@ -123,11 +124,11 @@ abbrev pub EndsWithFrames : FrameShape → (ℕ → ℕ) → List Bool → ℕ �
 EndsWithFrames s counts line e u j e' u' last = (last * s.len ≤ u + (length line - e)) × (u' + (length (received s j line) - e') ≡ sent s counts last)
 
 -- a node that has come back gives tributary j its own bits from the first frame at or after the rejoining place on
-pub downwards_to : (s : FrameShape) (source : Source) (line : List Bool) (e u m j : ℕ) → IsFrame s → HasTributaries s → KeepsRight s → j < s.tribs → Rejoins line (line_bit s source) e u
+pub downwards_to : (s : FrameShape) (source : Source) (line : List Bool) (e u m j : ℕ) → source.mode ≡ Plain → IsFrame s → HasTributaries s → KeepsRight s → j < s.tribs → Rejoins line (line_bit s source) e u
     → IsQuietFrom s line e u m → e + (m + 3) * s.len ≤ length line
     → (e' : ℕ) × (u' : ℕ) × ChildPlace s (source.counts j) line e u j e' u' × Rejoins (received s j line) (source.inputs j) e' u' × (last : ℕ) × EndsWithFrames s (source.counts j) line e u j e' u' last
 unfolding received
-downwards_to s source line e u m j shape tribs keeps h same quiet long =
+downwards_to s source line e u m j plain shape tribs keeps h same quiet long =
     let some : 0 < s.len = shape.some_slots in
     let stays = recovers_by s line (line_bit s source) e u m shape keeps same (sent_all_right s source (u + (length line - e))) quiet long in
     let c : ℕ = stays.c in
@@ -182,7 +183,7 @@ downwards_to s source line e u m j shape tribs keeps h same quiet long =
     let settled : covered s search.settled ≡ c = search.cover in
     let covers : covered s before ≡ v =
     omega (arith, covered-append s search.settled (Gap (gap_of s x) ∷ map f (range_with_len 0 k)), covered-cons s (Gap (gap_of s x)) (map f (range_with_len 0 k)), those, settled) in
-    let gives = frames_give_from s source n (d - k) j tribs h in
+    let gives = frames_give_from s source n (d - k) j plain tribs h in
     let got : flat_map (piece_bits s j) (track s line) ≡ flat_map (piece_bits s j) before ++ map (source.inputs j) (range_with_len (sent s (source.counts j) n) gives.0) =
     ap (flat_map (piece_bits s j)) pieces ∙ flat_map-append (piece_bits s j) before (map Delivered later)
     ∙ ap (λ y. flat_map (piece_bits s j) before ++ y) (ap (flat_map (piece_bits s j)) (map_twice (λ i. sent_frame s source (n + i)) Delivered (range_with_len 0 (d - k))) ∙ gives.2) in
@@ -216,11 +217,11 @@ downwards_to s source line e u m j shape tribs keeps h same quiet long =
       (within, upto),
     )
 
-pub downwards : (s : FrameShape) (source : Source) (line : List Bool) (e u m j : ℕ) → IsFrame s → HasTributaries s → KeepsRight s → j < s.tribs → Rejoins line (line_bit s source) e u
+pub downwards : (s : FrameShape) (source : Source) (line : List Bool) (e u m j : ℕ) → source.mode ≡ Plain → IsFrame s → HasTributaries s → KeepsRight s → j < s.tribs → Rejoins line (line_bit s source) e u
     → IsQuietFrom s line e u m → e + (m + 3) * s.len ≤ length line
     → (e' : ℕ) × (u' : ℕ) × ChildPlace s (source.counts j) line e u j e' u' × Rejoins (received s j line) (source.inputs j) e' u'
-downwards s source line e u m j shape tribs keeps h same quiet long =
-    let down = downwards_to s source line e u m j shape tribs keeps h same quiet long in
+downwards s source line e u m j plain shape tribs keeps h same quiet long =
+    let down = downwards_to s source line e u m j plain shape tribs keeps h same quiet long in
     (down.0, down.1, down.2, down.3)
 
 -- no more bits come by a place than the node has made there, so no more of a tributary come than it has taken
@@ -248,10 +249,10 @@ comes_back_in (s ∷ below) counts bits says path first line e u k (m ∷ ms) ar
     let w : ℕ = width below in
     let j : ℕ = k / w in
     let at : List ℕ = child path j in
-    let source : Source = record { counts = counts path; inputs = λ j. chain_line below counts bits (λ n. idle) (child path j) (first + j * w); says = says } in
+    let source : Source = record { mode = Plain; counts = counts path; inputs = λ j. chain_line below counts bits (λ n. idle) (child path j) (first + j * w); says = says } in
     let known : j < s.tribs = leaf-tributary s.tribs w k h in
     let here : RecoversAfter s line e u m = recovers s line (line_bit s source) e u m are.0 keep.0 same (sent_all_right s source (u + (length line - e))) quiet.0 quiet.1 in
-    let down = downwards_to s source line e u m j are.0 are.1 keep.0 known same quiet.0 quiet.1 in
+    let down = downwards_to s source line e u m j refl are.0 are.1 keep.0 known same quiet.0 quiet.1 in
     let rest = comes_back_in below counts bits (λ n. idle) at (first + j * w) (received s j line) down.0 down.1 (k % w) ms are.2 keep.1 (leaf-below s.tribs w k h) down.3 (quiet.2 down.0 down.1 down.2) in (
       rest.0,
       rest.1,

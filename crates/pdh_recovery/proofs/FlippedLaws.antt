@@ -17,7 +17,7 @@ use Rattle.pdh_shape.specs.Tributary.{reads_from, controls, control_ones, is_maj
 use Rattle.pdh_line.specs.Receiving.{piece_bits, received}
 use Rattle.pdh_line.proofs.TrackingLaws as laws
 use Rattle.pdh_align.proofs.AligningLaws.{all_delivered, track_aligned}
-use Rattle.pdh_line.specs.Sending.{Source, sends_more, line_bit, front}
+use Rattle.pdh_line.specs.Sending.{Source, more_in, line_bit, front}
 use Rattle.pdh_line.proofs.SentFrames.{sent_frame, frame_of-front, sent_frame-right, control_ones-sent, length-front}
 use Rattle.pdh_line.specs.Tracking.{after_loss}
 use Rattle.pdh_recovery.proofs.PieceLaws.{begins_with_gap, open_frames, one_search_frames, length-open_frames}
@@ -245,7 +245,7 @@ contained_sent s source line j shape tribs h one few =
     let long : length l ≡ length line = length-front (line_bit s source) (length line) in
     let frame : (k : ℕ) → k < frames_in s l → frame_of s l k ≡ sent_frame s source k = λ k lt. frame_of-front s source (length line) k (subst (λ n. k * s.len + s.len ≤ n) long (laws.whole_frame s l k shape lt)) in
     contained s line l j shape (sym long) one (λ k lt. ap (is_right s) (frame k lt) ∙ sent_frame-right s source k)
-    (λ k lt. equal (sends_more s (source.counts j) k) (ap (control_ones s j) (frame k lt) ∙ control_ones-sent s source k j tribs h)) few
+    (λ k lt. equal (more_in s source j k) (ap (control_ones s j) (frame k lt) ∙ control_ones-sent s source k j tribs h)) few
   where
     equal : {n : ℕ} (more : Bool) → n ≡ cond more 0 s.copies → (n ≡ 0) ⊎ (n ≡ s.copies)
     equal true e = inl e

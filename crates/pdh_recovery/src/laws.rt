@@ -7,6 +7,7 @@ ghost use Rattle.pdh_eframes.specs.Plans.{e2, e3, e4};
 ghost use Rattle.pdh_ds.specs.Plans.{ds2, ds3, ds3c};
 ghost use Rattle.pdh_line.specs.Tracking.{frame_of, frames_in};
 ghost use Rattle.pdh_line.specs.Receiving.{received};
+ghost use Rattle.pdh_line.specs.Sending.Mode.{Plain};
 ghost use Rattle.pdh_line.specs.Sending.{Source, line_bit, front};
 ghost use Rattle.pdh_line.specs.Nodes.{Counts};
 ghost use Rattle.pdh_nesting.specs.Chains.{width, AreFrames};
@@ -64,12 +65,13 @@ pub fn rejoined_front_is_rejoined_line()
         RejoinsList received (front sent bits) e u → Rejoins received sent e u }
 {}
 
-/// Where a node's received line comes back to its sent line, each tributary's received line rejoins its own line, at one place.
+/// Where a node's received line comes back to a line that was sent in plain mode, in which no store slips, each tributary's received
+/// line rejoins its own line, at one place.
 pub fn tributaries_come_back()
     ensures once { (s : FrameShape) (counts : ℕ → ℕ) (line : List Bool) (e u trib e' u' other_e other_u : ℕ) → 0 < s.len →
         ChildPlace s counts line e u trib e' u' → ChildPlace s counts line e u trib other_e other_u →
         (e' ≡ other_e) × (u' ≡ other_u) }
-    ensures line { (s : FrameShape) (source : Source) (line : List Bool) (e u m trib : ℕ) →
+    ensures line { (s : FrameShape) (source : Source) (line : List Bool) (e u m trib : ℕ) → source.mode ≡ Plain →
         IsFrame s → HasTributaries s → KeepsRight s → trib < s.tribs →
         IsClearFrom s line (line_bit s source) e u m →
         (e' : ℕ) × (u' : ℕ) × ChildPlace s (source.counts trib) line e u trib e' u'

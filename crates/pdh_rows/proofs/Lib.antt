@@ -9,3 +9,4 @@ pub mod Rising
 pub mod FirstBreaks
 pub mod Parts
 pub mod Counted
+pub mod Fills

@@ -30,6 +30,11 @@ pub record FlowFits (repeat : ℕ) (flow : Flow) : Type 0 where
   pub all_few : repeat * flow.frames < 2 ^ 95
   pub most : flow.bits ≤ 4294967295 * flow.frames
 
+-- in each of its frames a flow brings `low` bits or one more
+pub record KeepsStep (low : ℕ) (flow : Flow) : Type 0 where
+  pub least : low * flow.frames ≤ flow.bits
+  pub most : flow.bits ≤ suc low * flow.frames
+
 -- two sums grow steadily: what one gains over the other only grows
 abbrev pub Ahead : (ℕ → ℕ) → (ℕ → ℕ) → Type 0
 Ahead g l = (j i : ℕ) → j ≤ i → g j + l i ≤ g i + l j

@@ -3,3 +3,4 @@ pub mod Rows
 pub mod Stored
 pub mod Outside
 pub mod Bounds
+pub mod Inside

@@ -41,6 +41,10 @@ impl Flow {
         requires most { self.bits ≤ 4294967295 * self.frames }
         ensures { result ≡ flow_count self frame }
     {
+        // a row of counts, which most long schedules have one of for each frame
+        if self.frames == 1 {
+            return self.bits as u32;
+        }
         let frame = u128::from(frame);
         (self.arrived(frame + 1) - self.arrived(frame)) as u32
     }

@@ -7,14 +7,19 @@
 //!
 //! A tributary is within the tolerance where over no run of frames more bits arrive than these carry at most, or fewer
 //! than they carry at least, each up to the allowance. A table answers with the first run that isn't.
+//!
+//! A table also answers whether a tributary's store, by its fill at the start of a frame, surely stays away from both its ends in some
+//! frames from there on.
 #![tactic(auto)]
 
 mod flow;
+mod inside;
 mod outside;
 mod table;
 mod tolerance;
 
 pub use flow::{Flow, Says};
+pub use inside::stays_inside;
 pub use outside::Outside;
 pub use table::{Table, TribRow};
 pub use tolerance::within_tolerance;

@@ -75,7 +75,7 @@ fn push_sums(
 }
 
 /// The number of the row that a frame is of, by the number of each row's first frame.
-fn row_with(firsts: &[u64], frame: u64) -> usize
+pub fn row_with(firsts: &[u64], frame: u64) -> usize
     requires rising { IsNonDecreasing firsts.now }
     requires begun { slice_index firsts.now 0 ≤ frame }
     requires ended { frame < slice_index firsts.now (length firsts.now - 1) }

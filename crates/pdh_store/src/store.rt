@@ -1,15 +1,19 @@
 //! An elastic store, and its decision on justification.
 
-ghost use Rattle.std.specs.Prelude.{◌≡◌, ◌<◌, ◌≤◌, ◌+◌, ◌↔◌, [], ◌∷◌, ◌++◌, length, take, drop, nat_le, IsErr, IfOk, OnOk, OnErr};
+ghost use Rattle.std.specs.Prelude.{◌≡◌, ◌<◌, ◌≤◌, ◌+◌, ◌↔◌, [], ◌∷◌, ◌++◌, length, take, drop, replicate, true, nat_le, IsErr, IfOk, OnOk, OnErr};
 ghost use Rattle.pdh_shape.specs.OwnNumbers.{threshold, store_size};
+ghost use Rattle.pdh_line.specs.Edits.{half_store};
 
-use pdh_packed::{BitRing, Packed};
+use pdh_packed::{BitRing, Packed, Word};
 use pdh_shape::{STORE_SIZE, THRESHOLD};
 use std::alloc::{AllocError, Global};
 use std::marker::Model;
 
 // The bits that a store's ring has room for: whole words, no fewer than a store may hold.
 const RING_SIZE: u32 = 128;
+
+// Half of what a store may hold: by so many bits a slip moves its fill.
+const HALF: u32 = STORE_SIZE as u32 / 2;
 
 /// The refusal of a store that holds as many bits as it may.
 #[derive(Clone, Copy, Debug, PartialEq, Eq)]
@@ -37,6 +41,13 @@ impl Model for Store {
     ghost view = { λ s. s.ring.bits };
 
     ghost invariant = { λ s. (s.ring.capacity ≡ 128) × (length s.ring.bits ≤ store_size) };
+}
+
+// As many ones as an underflow puts into a store that slips.
+fn ones() -> Word
+    ensures { result ≡ replicate half_store true }
+{
+    Word::of((1 << HALF) - 1, HALF)
 }
 
 impl Store {
@@ -96,6 +107,22 @@ impl Store {
         ensures { self.new ≡ self.old ++ take count (drop place list.now.bits) }
     {
         self.ring.append_from(list, place, count);
+    }
+
+    /// Drops the oldest half of a full store's bits.
+    pub fn drop_half(&mut self)
+        requires { length self.old ≡ store_size }
+        ensures { self.new ≡ drop half_store self.old }
+    {
+        self.ring.drop_oldest(HALF);
+    }
+
+    /// Puts ones into an empty store, half of what it may hold.
+    pub fn add_half(&mut self)
+        requires { self.old ≡ [] }
+        ensures { self.new ≡ replicate half_store true }
+    {
+        self.ring.append(ones());
     }
 
     /// How many bits are held, from 0 to [`STORE_SIZE`].

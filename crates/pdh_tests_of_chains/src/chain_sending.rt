@@ -1,4 +1,4 @@
-//! Lines that are made at once and bit by bit, and lines that send a code.
+//! Lines of lists that hold no bit more than is taken, and lines that send a code.
 
 ghost use Rattle.std.specs.Prelude.{◌≡◌, ◌<◌, ◌≤◌, length, IfOk, IfSome};
 ghost use Rattle.pdh_chain.specs.Chains.{leaves_of, levels_of};
@@ -77,11 +77,10 @@ fn shorten(lists: &mut Vec<Vec<bool>>, by: &[u64])
     }
 }
 
-// Where each list holds all bits that enter, frames are made at once. Where the lists hold no more
-// than the frames take, which is less where a node below the top is within a frame, the line is made
-// bit by bit, and is the same.
+// The lists need no bit more than the frames take, which is less than what enters where a node below the top is within a frame. The line
+// is the same.
 #[test]
-fn lines_at_once_and_bit_by_bit(rt: HostRuntime) -> Result<(), Fail> {
+fn lists_without_a_bit_more_are_enough(rt: HostRuntime) -> Result<(), Fail> {
     let cases = [
         (Chain::E13, 3),
         (Chain::E24, 2),
@@ -92,7 +91,7 @@ fn lines_at_once_and_bit_by_bit(rt: HostRuntime) -> Result<(), Fail> {
     for (chain, frames) in cases {
         let alloc = rt.alloc();
         let clock = Schedule::from_ppm(alloc, chain.levels(), frames, Bias::Mixed)?;
-        let (at_once, left) = sent(
+        let (line, left) = sent(
             alloc,
             chain,
             &clock,
@@ -105,8 +104,8 @@ fn lines_at_once_and_bit_by_bit(rt: HostRuntime) -> Result<(), Fail> {
 
         let mut lists = patterns(alloc, chain, 4_000)?;
         shorten(&mut lists, &left);
-        let (bit_by_bit, none) = sent(alloc, chain, &clock, Some(5), lists)?;
-        assert_eq!(rt; bit_by_bit, at_once, "{chain:?}");
+        let (same, none) = sent(alloc, chain, &clock, Some(5), lists)?;
+        assert_eq!(rt; same, line, "{chain:?}");
         for count in none {
             assert_eq!(rt; count, 0, "{chain:?}");
         }

@@ -137,6 +137,34 @@ fn finds_counts_and_totals(rt: HostRuntime) -> Result<(), Fail> {
 }
 
 #[test]
+fn keeps_stores_inside(rt: HostRuntime) -> Result<(), Fail> {
+    let text = b"/ 3 206 206 206 206\n/ 1 247 165 160 248\n/ 2 206 206 206 206\n";
+    let schedule = Schedule::read(rt.alloc(), &[E2_LEVEL], text)?;
+    let rows: [(u8, u64, u64, bool); 9] = [
+        // A tributary, the fill of its store at the start of frame 0, and whether the store stays inside up to a frame.
+        (0, 4, 3, true),
+        (0, 3, 3, false),
+        (0, 89, 3, true),
+        (0, 90, 3, false),
+        (0, 48, 6, true),
+        (1, 48, 6, true),
+        (2, 48, 3, true),
+        (2, 48, 4, false),
+        (3, 48, 4, false),
+    ];
+    for (trib, fill, end, inside) in rows {
+        assert!(rt; trib < 4);
+        assert!(rt; end <= schedule.frames(&TOP));
+        assert_eq!(rt;
+            schedule.stays_inside(&TOP, trib, fill, 0, end),
+            inside,
+            "tributary {trib} from {fill}"
+        );
+    }
+    Ok(())
+}
+
+#[test]
 fn finds_counts_at_the_largest_offsets(rt: HostRuntime) -> Result<(), Fail> {
     let text = b"version 2\nrate / 131072 -1000 1000 0 -1000 999\n/ 1 0 0 0 0\n";
     let schedule = Schedule::read(rt.alloc(), &[E2_LEVEL], text)?;

@@ -13,6 +13,7 @@ use pdh_eframes::E2;
 use pdh_packed::Packed;
 use pdh_runs::Layout;
 use pdh_shape::TOP;
+use pdh_slips::NoSlips;
 use pdh_tx::{Leaf, Node, Tx, TxStop};
 use std::alloc::{AllocError, Global};
 use std::rc::Rc;
@@ -77,7 +78,7 @@ fn make_bits<T: Tx, F: Feed>(
 {
     let mut line = Vec::new(alloc);
     for _made in 0..most {
-        match tx.next(clock, feed) {
+        match tx.next(clock, feed, &mut NoSlips) {
             Ok(bit) => line.push(bit)?,
             Err(stop) => return Ok((line, Some(stop))),
         }
@@ -101,5 +102,18 @@ fn frame_of_zeros(rt: HostRuntime) -> Result<(), Fail> {
     assert_eq!(rt; stop, Some(TxStop::NoFrame { node: TOP }));
     assert!(rt; node.stopped());
     assert_eq!(rt; node.fill(0), 47);
+    Ok(())
+}
+
+// There is one frame, and each list has the bits that enter with it and no more.
+#[test]
+fn tells_that_a_frame_meets_nothing(rt: HostRuntime) -> Result<(), Fail> {
+    let alloc = rt.alloc();
+    let clock = Schedule::read(alloc, &[E2_LEVEL], b"/ 1 205 205 205 205\n")?;
+    let feed = zeros(alloc)?;
+    let node = node(alloc)?;
+    for (most, quiet) in [(1, 1), (848, 848), (849, 0)] {
+        assert_eq!(rt; node.quiet(&clock, &feed, most), quiet, "of {most}");
+    }
     Ok(())
 }

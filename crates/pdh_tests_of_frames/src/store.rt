@@ -23,6 +23,26 @@ fn bits_leave_in_the_order_of_their_arrival(rt: HostRuntime) -> Result<(), Fail>
     Ok(())
 }
 
+// An empty store gets ones, and a full one keeps the newer half of its bits.
+#[test]
+fn half_is_added_and_dropped(rt: HostRuntime) -> Result<(), Fail> {
+    let mut store = Store::open(rt.alloc())?;
+    store.add_half();
+    for place in 0..STORE_SIZE / 2 {
+        assert_eq!(rt; store.leave(), Ok(true), "at {place}");
+    }
+    for place in 0..STORE_SIZE {
+        assert_eq!(rt; store.arrive(place % 5 == 0), Ok(()), "at {place}");
+    }
+    assert_eq!(rt; store.fill() as usize, STORE_SIZE);
+    store.drop_half();
+    for place in STORE_SIZE / 2..STORE_SIZE {
+        assert_eq!(rt; store.leave(), Ok(place % 5 == 0), "at {place}");
+    }
+    assert_eq!(rt; store.leave(), Err(Underflow));
+    Ok(())
+}
+
 #[test]
 fn laws_hold_of_the_second_order_frame(_rt: HostRuntime) -> Result<(), Fail> {
     laws::fill_at_frame_start::<E2>();

@@ -9,7 +9,7 @@ use Rattle.pdh_shape.specs.Frame.{FrameShape, IsFrame}
 use Rattle.pdh_shape.specs.Tributary.{HasTributaries}
 use Rattle.pdh_tx.specs.declared.tx.Tx.{Ghosts}
 use Rattle.pdh_tx.specs.declared.tx.TxStop.{TxStop}
-use Rattle.pdh_tx.specs.declared.tx.TxStop.TheVariants.{Failed}
+use Rattle.pdh_tx.specs.declared.tx.TxStop.TheVariants.{Failed, LogFailed}
 use Rattle.pdh_tx.specs.declared.pieces.Piece.{Piece}
 use Rattle.pdh_tx.specs.declared.tributaries.Tributaries.{Tributaries}
 use Rattle.pdh_tx.specs.declared.tributary.Tributary.{Tributary}
@@ -55,14 +55,14 @@ module _ {S C : Type 0} {shape : shape.Ghosts S} {tx : Ghosts C} (frame : IsFram
 
   -- ---- it began
 
-  module _ (mid : Tributaries S C shape tx) (same : meanings mid ≡ meanings ts) (begun : GoThrough ts mid (beginning_stretch ts at.path schedule n t) a b) where
+  module _ (mid : Tributaries S C shape tx) (same : meanings mid ≡ meanings ts) (begun : GoThrough ts mid (beginning_stretch ts at.path plan n t) a b) where
     pub begun_placed : HavePassed mid schedule at 0
     begun_placed =
         let P : (ℕ → ℕ) → Type 0 = λ made. EachPlaced (placed_in tx) mid.list.items plan made (read_to s at.path plan n t) in
         let Q : (ℕ → ℕ) → Type 0 = λ gone. EachPlaced (placed_in tx) mid.list.items plan (made_through s plan at 0) gone in
         subst Q (read_first (placed_in tx) (held_in tx) (meaning_in tx) (share_in {C = C}) s has at.path plan n t u) (subst P first begun.place)
 
-    pub begun_passable : HaveDecided mid at.path schedule n → IsClearFor ts schedule at a → (j : ℕ) → IsPassable mid schedule at b j
+    pub begun_passable : HaveDecided mid at.path plan n → IsClearFor ts schedule at a → (j : ℕ) → IsPassable mid schedule at b j
     begun_passable decided clear j m here =
         let ms : List Meaning = meanings ts in
         let ws : List (Tributary C) = ts.list.items in
@@ -93,7 +93,7 @@ module _ {S C : Type 0} {shape : shape.Ghosts S} {tx : Ghosts C} (frame : IsFram
 
   -- ---- something stood in the way of its beginning
 
-  module _ (stop : TxStop) (f g : ℕ) (blocked : StopIn ts (beginning_stretch ts at.path schedule n t) stop a b f g) where
+  module _ (stop : TxStop) (f g : ℕ) (blocked : StopIn ts (beginning_stretch ts at.path plan n t) stop a b f g) where
     pub begin_halts : ((c : C) (n k : ℕ) → (tx.meaning c).given plan n k ≤ (tx.meaning c).given plan (suc n) k) → FailIn ts schedule at a b
     begin_halts grows =
         stays_more (meanings ts) plan (taken_to s at.path plan n t) (came_to s at.path plan n t 0) (came_at s at.path plan n u) stop a b
@@ -102,12 +102,12 @@ module _ {S C : Type 0} {shape : shape.Ghosts S} {tx : Ghosts C} (frame : IsFram
         blocked.stays
 
     -- which was a fault, since nothing else does
-    pub begin_failed : 0 < at.len → IsClearFor ts schedule at a → g ≡ one_more f
-    begin_failed some clear =
+    pub begin_failed : (stop ≡ LogFailed → ⊥) → 0 < at.len → IsClearFor ts schedule at a → g ≡ one_more f
+    begin_failed told some clear =
         let zero : t + 0 ≡ t = omega arith in
         let P : ℕ → Type 0 = λ k. first_some (steps s at.path plan (meanings ts) clear.size n k) ≡ None in
         let none = beginning_clear s at.path plan (meanings ts) clear.size n t (subst P zero (clear.clear 0 some)) in
         elim (cases_Bool (is_failed stop)) [
-          | inl failed ↦ blocked.met.counted ∙ faults_failed stop f failed
+          | inl failed ↦ blocked.met.counted ∙ faults_failed stop f told failed
           | inr other ↦ absurd (no (sym none ∙ blocked.met.is_first other clear.size clear.fits))
         ]

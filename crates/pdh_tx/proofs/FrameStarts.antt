@@ -6,11 +6,16 @@ use Rattle.pdh_edge.specs.Ports.{Inputs, nothing}
 use Rattle.pdh_shape.specs.declared.place.Path.{Path}
 use Rattle.pdh_shape.specs.Frame.{FrameShape, IsFrame}
 use Rattle.pdh_shape.specs.OwnNumbers.{lead, threshold}
-use Rattle.pdh_line.specs.Sending.{sends_more, came_before, read_before}
+use Rattle.pdh_shape.specs.declared.place.Level.{Level}
+use Rattle.pdh_shape.specs.Tributary.{reads_below}
+use Rattle.pdh_levels.specs.Levels.{level_stores}
+use Rattle.pdh_line.specs.Progress.{stores_of}
+use Rattle.pdh_line.specs.Progress.Stores.{Elastic, Locked}
+use Rattle.pdh_line.specs.Sending.{sends_more, came_before, read_before, shape_numbers}
 use Rattle.pdh_line.proofs.SendingLaws.{came_before-first, came_before-start, read_before-start, sent-zero, sends_more-fill}
 use Rattle.pdh_tx.specs.declared.tx.TxStop.{TxStop}
 use Rattle.pdh_tx.specs.declared.tx.TxStop.TheVariants.{NoFrame}
-use Rattle.pdh_tx.specs.Meaning.{Meaning, Plan, Supply}
+use Rattle.pdh_tx.specs.Meaning.{Meaning, Plan, Supply, HasNumbers, is_locked}
 use Rattle.pdh_tx.specs.Held.{first_some, some_if}
 use Rattle.pdh_tx.specs.declared.tx.Tx.{Ghosts}
 use Rattle.pdh_tx.specs.declared.tributary.Tributary.{Tributary}
@@ -113,3 +118,11 @@ decision s counts n j held stores frame count =
 pub meanings : {C : Type 0} (tx : Ghosts C) (ws : List (Tributary C)) → map (meaning_in tx) ws ≡ map tx.meaning (map child_in ws)
 meanings tx [] = refl
 meanings tx (w ∷ ws) = ap (λ l. tx.meaning w.child ∷ l) (meanings tx ws)
+
+-- the level of a shape that has control bits has stores, one for each tributary
+pub elastic_level : (s : FrameShape) (level : Level) → eqb s.copies 0 ≡ false → HasNumbers level (shape_numbers s) → level.locked ≡ false
+elastic_level s level stores has = has.locked ∙ ap (λ b. is_locked (cond b (Locked (λ j t. reads_below s j false t)) Elastic)) stores
+
+pub all_stores : (s : FrameShape) (level : Level) → eqb s.copies 0 ≡ false → HasNumbers level (shape_numbers s) → level_stores level ≡ s.tribs
+all_stores s level stores has =
+    ap (λ b. stores_of (record { len = level.len; tribs = level.tribs; low = level.low; stores = cond b (Locked (λ j t. 0)) Elastic })) (elastic_level s level stores has) ∙ has.tribs

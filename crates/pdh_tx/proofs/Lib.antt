@@ -5,6 +5,7 @@ mod LeafSteps
 pub mod TributarySteps
 pub mod Gaining
 pub mod Advancing
+pub mod Telling
 mod Arriving
 mod FrameStarts
 mod Reading
@@ -26,3 +27,4 @@ mod Begun
 pub mod NodePieces
 pub mod MakingAll
 mod LeafPieces
+mod QuietSlots

@@ -30,7 +30,7 @@ module _ {S C : Type 0} {shape : shape.Ghosts S} {tx : Ghosts C} where
     pub few : arriving ≤ shape.shape.len
 
   pub next_one : (frame : IsFrame shape.shape) (ts : Tributaries S C shape tx) (schedule : Contents) (at : Piece) (i : ℕ) (w : Tributary C) (arriving : ℕ) → slice_get ts.list.items i ≡ Some w → at.slot + at.len ≤ shape.shape.len
-      → HaveDecided ts at.path schedule at.frame → HavePassed ts schedule at i → arrived_in shape.shape w.share.arriving at.slot + arriving ≡ arrived_in shape.shape w.share.arriving (at.slot + at.len) → IsNext ts (plan_of schedule) at i w arriving
+      → HaveDecided ts at.path (plan_of schedule) at.frame → HavePassed ts schedule at i → arrived_in shape.shape w.share.arriving at.slot + arriving ≡ arrived_in shape.shape w.share.arriving (at.slot + at.len) → IsNext ts (plan_of schedule) at i w arriving
   next_one frame ts schedule at i w arriving here inside decided passed arrives =
       let plan : Plan = plan_of schedule in
       let s : FrameShape = shape.shape in

@@ -7,7 +7,7 @@ use Rattle.std.proofs.lemmas.Bool.{cases_eq}
 use Rattle.pdh_shape.specs.declared.role.Role.{Role}
 use Rattle.pdh_shape.specs.declared.role.Role.TheVariants.{Align, Service, Control, Just, Info}
 use Rattle.pdh_shape.specs.Frame.{FrameShape}
-use Rattle.pdh_line.specs.Sending.{Source, sends_more, input_bit, payload_bit, slot_bit, odd_before}
+use Rattle.pdh_line.specs.Sending.{Source, more_in, input_bit, payload_bit, slot_bit, odd_before}
 use Rattle.pdh_line.proofs.Ranges.{count-range_push}
 use Rattle.pdh_tx.specs.Node.{odd_within}
 use Rattle.pdh_shape.specs.Payload.{is_payload, payload_ones}
@@ -23,8 +23,8 @@ all_payload false = refl
 pub payload_of : (s : FrameShape) (source : Source) (n t : ℕ) (r : Role) → (slot_bit s source n t r && is_payload r) ≡ payload_bit s source n t r
 payload_of s source n t (Align signal) = no_payload signal
 payload_of s source n t (Service number) = no_payload (s.service number (source.says n) (odd_before s source n))
-payload_of s source n t (Control j copy) = no_payload (not (sends_more s (source.counts j) n))
-payload_of s source n t (Just j) = all_payload (cond (sends_more s (source.counts j) n) (input_bit s source n t j) true)
+payload_of s source n t (Control j copy) = no_payload (not (more_in s source j n))
+payload_of s source n t (Just j) = all_payload (cond (more_in s source j n) (input_bit s source n t j) true)
 payload_of s source n t (Info j) = all_payload (input_bit s source n t j)
 
 -- one more slot turns the parity where it holds a one

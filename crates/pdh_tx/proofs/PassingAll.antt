@@ -15,7 +15,7 @@ use Rattle.std.proofs.lemmas.Nat.{le-div}
 use Rattle.std.proofs.Math.Nat.{div-mul-le_self, mul-le-mul_right}
 use Rattle.pdh_shape.specs.Frame.{FrameShape, IsFrame}
 use Rattle.pdh_shape.specs.Tributary.{reads_from, reads_below, turned}
-use Rattle.pdh_line.specs.Sending.{Source, sends_more, came_before, read_before, arrived_in, sent, input_bit, slot_bit}
+use Rattle.pdh_line.specs.Sending.{Source, sends_more, came_before, read_before, arrived_in, sent, more_in, input_bit, slot_bit}
 use Rattle.pdh_line.proofs.SendingLaws.{came_before_grows, arrived_in-all}
 use Rattle.pdh_tx.specs.declared.tx.TxStop.{TxStop}
 use Rattle.pdh_tx.specs.declared.pieces.Piece.{Piece}
@@ -159,11 +159,11 @@ pub rows_all : (s : FrameShape) (first len : ℕ) (columns : List BoundedBits) �
 rows_all s first len columns each k d within = ap length (sym (get_or-map (λ (c : BoundedBits). c.bits) columns k d [] within)) ∙ each k within
 
 -- a payload slot that carries nothing is 1
-spare_is : (s : FrameShape) (source : Source) (n t i : ℕ) (r : Role) → reads_from i true r ≡ true → reads_from i (sends_more s (source.counts i) n) r ≡ false → slot_bit s source n t r ≡ true
+spare_is : (s : FrameShape) (source : Source) (n t i : ℕ) (r : Role) → reads_from i true r ≡ true → reads_from i (more_in s source i n) r ≡ false → slot_bit s source n t r ≡ true
 spare_is s source n t i (Info k) own none = absurd (differ (sym none ∙ own))
 spare_is s source n t i (Just k) own none =
     let here : eqb k i ≡ true = left (eqb k i) own in
-    let less : sends_more s (source.counts i) n ≡ false = ap (λ b. b && sends_more s (source.counts i) n) (sym here) ∙ none in
+    let less : more_in s source i n ≡ false = ap (λ b. b && more_in s source i n) (sym here) ∙ none in
     ap (λ v. slot_bit s source n t (Just v)) (eqb-true k i here) ∙ ap (λ b. cond b (input_bit s source n t i) true) less
   where
     left : (a : Bool) → (a && true) ≡ true → a ≡ true
@@ -182,7 +182,7 @@ holds_from s path ms plan supply n t len i gone more m columns column is carries
     let line : ℕ → Bool = m.line (below supply) in
     let source : Source = source_of path ms supply in
     let r : Role = s.role (t + v) in
-    let same : sends_more s (source.counts i) n ≡ more = ap (λ (p : Plan). sends_more s (p.counts path i) n) is ∙ sym carries in
+    let same : more_in s source i n ≡ more = ap (λ (p : Plan). sends_more s (p.counts path i) n) is ∙ sym carries in
     ap (λ l. slice_index_or l (row s t v) false) own ∙ elim (cases_Bool (reads_from i more r)) [
       | inl carried ↦
           let p : ℕ → Bool = λ x. reads_from i more (s.role x) in

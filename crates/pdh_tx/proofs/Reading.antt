@@ -8,7 +8,7 @@ use Rattle.pdh_shape.specs.declared.role.Service.{Service}
 use Rattle.pdh_shape.specs.declared.place.Path.{Path}
 use Rattle.pdh_shape.specs.Frame.{FrameShape}
 use Rattle.pdh_shape.specs.Tributary.{reads_from, HasTributaries}
-use Rattle.pdh_line.specs.Sending.{Source, sends_more, came_before, read_before, slot_bit, input_bit, odd_before}
+use Rattle.pdh_line.specs.Sending.{Source, sends_more, came_before, read_before, more_in, slot_bit, input_bit, odd_before}
 use Rattle.pdh_line.proofs.SendingLaws.{read_before-suc}
 use Rattle.pdh_tx.specs.declared.tx.TxStop.{TxStop}
 use Rattle.pdh_tx.specs.declared.tx.TxStop.TheVariants.{Underflow}
@@ -105,11 +105,11 @@ module _ {W : Type 0} (share : W → FrameShare) (s : FrameShape) (has : HasTrib
   overhead_is ms lists says say odd t (Info k) within role e said parity = absurd (cc e)
 
 -- the bit of a slot that reads tributary i
-pub read_is : (s : FrameShape) (source : Source) (n t i : ℕ) (r : Role) → reads_from i (sends_more s (source.counts i) n) r ≡ true → slot_bit s source n t r ≡ input_bit s source n t i
+pub read_is : (s : FrameShape) (source : Source) (n t i : ℕ) (r : Role) → reads_from i (more_in s source i n) r ≡ true → slot_bit s source n t r ≡ input_bit s source n t i
 read_is s source n t i (Info k) h = ap (λ v. input_bit s source n t v) (eqb-true k i h)
 read_is s source n t i (Just k) h = go (eqb k i) refl h
   where
-    go : (b : Bool) → eqb k i ≡ b → (b && sends_more s (source.counts i) n) ≡ true → slot_bit s source n t (Just k) ≡ input_bit s source n t i
+    go : (b : Bool) → eqb k i ≡ b → (b && more_in s source i n) ≡ true → slot_bit s source n t (Just k) ≡ input_bit s source n t i
     go false e h = absurd (cc h)
     go true e h =
         let same : k ≡ i = eqb-true k i e in

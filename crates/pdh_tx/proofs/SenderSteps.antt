@@ -1,6 +1,7 @@
 -- The line of a multiplexer, from the bits that its tributaries gave.
 use mathlib.Core.Path.{fun_ext}
-use Rattle.std.proofs.Common.{◌≡◌, ℕ, suc, ◌+◌, ◌*◌, ◌%◌, ◌<◌, ◌≤◌, Bool, true, false, List, [], ◌∷◌, length, cond, eqb, refl, sym, ap, ◌∙◌, subst, arith, Option}
+use Rattle.std.proofs.Common.{◌≡◌, ℕ, suc, ◌+◌, ◌*◌, ◌/◌, ◌%◌, ◌<◌, ◌≤◌, Bool, true, false, List, [], ◌∷◌, length, cond, eqb, refl, sym, ap, ◌∙◌, subst, arith, Option, None}
+use Rattle.std.proofs.lemmas.Nat.{div-add-mod', mod_below}
 use Rattle.pdh_edge.specs.Ports.{Inputs}
 use Rattle.pdh_shape.specs.declared.place.Path.{Path}
 use Rattle.pdh_shape.specs.declared.role.Service.{Service}
@@ -11,7 +12,7 @@ use Rattle.pdh_tx.specs.declared.tx.TxStop.{TxStop}
 use Rattle.pdh_tx.specs.declared.position.Position.{Position}
 use Rattle.pdh_tx.specs.Meaning.{Meaning, Plan, Supply, Makes, Stops}
 use Rattle.pdh_tx.specs.Held.{Halts, first_some}
-use Rattle.pdh_tx.specs.Making.{IsClear, MakesAll}
+use Rattle.pdh_tx.specs.Making.{IsClear, IsFree, MakesAll}
 use Rattle.pdh_tx.specs.Node.{source_of, given_by, odd_within, AllFit, Blocked, Stays}
 use Rattle.pdh_tx.specs.NodeState.{HasParity, KeepsParity}
 use Rattle.pdh_tx.specs.Body.{Kind, IsKind, sender_meaning, SlotsClear, SlotFree, GivesSlots, SenderAt, SenderFor}
@@ -62,6 +63,11 @@ module _ (s : FrameShape) (kind : Kind) (is_kind : IsKind s kind) (path : Path) 
     abbrev came : ℕ → ℕ → ℕ
     came = kind.came path plan at.frame
 
+    -- ---- the slips in making its bit
+
+    pub sender_slips : (sender_meaning s kind path ms).slips plan x ≡ kind.slips path plan ms at.frame at.slot
+    sender_slips = ap (λ n. kind.slips path plan ms n (x % s.len)) (frame_is s at.frame at.slot x was.place was.inside) ∙ ap (kind.slips path plan ms at.frame) (slot_is s at.frame at.slot x was.place was.inside)
+
     -- ---- it stopped
 
     pub sender_stops : (stop : TxStop) (a b : Inputs) (f g : ℕ) → Blocked ms plan taken (came (suc at.slot)) (λ size. steps size at.frame at.slot) stop a b f g → Stops (sender_meaning s kind path ms) plan x stop a b f g
@@ -102,6 +108,15 @@ module _ (s : FrameShape) (kind : Kind) (is_kind : IsKind s kind) (path : Path) 
           let place : at.frame * s.len + (at.slot + v) ≡ x + v = (let p = was.place in omega arith) in
           sym (obstacle_is at.frame (at.slot + v) (x + v) place (omega arith) clear.size) ∙ clear.clear (x + v) (omega arith) (omega arith);
     }
+
+    pub sender_free : (count : ℕ) (a : Inputs)
+        → ((size : ℕ → ℕ) → AllFit ms plan taken a size → (m u : ℕ) → u < s.len → at.frame * s.len + at.slot ≤ m * s.len + u → m * s.len + u < at.frame * s.len + at.slot + count → first_some (steps size m u) ≡ None)
+        → IsFree (sender_meaning s kind path ms) plan x (x + count) a
+    sender_free count a free size fit y from to =
+        let whole : y / s.len * s.len + y % s.len ≡ y = div-add-mod' y s.len in
+        let place = was.place in
+        free size (fit_now at.frame at.slot x was.place was.inside a size fit) (y / s.len) (y % s.len) (mod_below y s.len (omega (arith, was.inside)))
+        (omega (arith, whole, place, from)) (omega (arith, whole, place, to))
 
     -- ---- it made bits
 

@@ -10,7 +10,7 @@ use Rattle.pdh_edge.specs.Ports.{Inputs}
 use Rattle.pdh_shape.specs.declared.place.Place.{Place}
 use Rattle.pdh_shape.specs.declared.role.Service.{Service}
 use Rattle.pdh_tx.specs.declared.tx.TxStop.{TxStop}
-use Rattle.pdh_tx.specs.declared.tx.TxStop.TheVariants.{Overflow, Underflow, NoFrame, Failed, Ended}
+use Rattle.pdh_tx.specs.declared.tx.TxStop.TheVariants.{Overflow, Underflow, NoFrame, Failed, Ended, LogFailed}
 use Rattle.pdh_tx.specs.Meaning.{Supply, Plan, Meaning, Makes, Met, Fits, is_failed, faults_met}
 use Rattle.pdh_tx.specs.Held.{IsPart, Placed, Held, Gains, arrival, first_some}
 
@@ -36,14 +36,16 @@ faults_unmet (Underflow place) faults h = refl
 faults_unmet (NoFrame node) faults h = refl
 faults_unmet Failed faults h = cc
 faults_unmet (Ended leaf) faults h = refl
+faults_unmet LogFailed faults h = cc
 
--- a failure is counted once
-pub faults_failed : (stop : TxStop) (faults : ℕ) → is_failed stop ≡ true → faults_met stop faults ≡ one_more faults
-faults_failed (Overflow place) faults h = cc
-faults_failed (Underflow place) faults h = cc
-faults_failed (NoFrame node) faults h = cc
-faults_failed Failed faults h = refl
-faults_failed (Ended leaf) faults h = cc
+-- a failure of the feed is counted once
+pub faults_failed : (stop : TxStop) (faults : ℕ) → (stop ≡ LogFailed → ⊥) → is_failed stop ≡ true → faults_met stop faults ≡ one_more faults
+faults_failed (Overflow place) faults other h = cc
+faults_failed (Underflow place) faults other h = cc
+faults_failed (NoFrame node) faults other h = cc
+faults_failed Failed faults other h = refl
+faults_failed (Ended leaf) faults other h = cc
+faults_failed LogFailed faults other h = absurd (other refl)
 
 module _ {C : Type 0} (stands_at : C → Plan → ℕ → Type 0) (stands_for : C → Supply → ℕ → Type 0) (meaning : C → Meaning) (says : C → Service) (is_stopped : C → Bool) (old new : C) (plan : Plan) where
   abbrev held : C → List Bool → Supply → ℕ → ℕ → Type 0

@@ -1,5 +1,5 @@
 -- What a multiplexer has below its own frame: its tributaries, with stores or without. And the multiplexer above them.
-use Rattle.std.specs.Prelude.{◌≡◌, ℕ, suc, ◌+◌, ◌*◌, ◌/◌, ◌%◌, ◌<◌, ◌^◌, ◌==◌, Bool, true, false, List, [], ◌∷◌, length, Option, None}
+use Rattle.std.specs.Prelude.{◌≡◌, ℕ, suc, ◌+◌, ◌*◌, ◌/◌, ◌%◌, ◌<◌, ◌^◌, ◌==◌, ◌≤◌, Bool, true, false, List, [], ◌∷◌, length, Option, None, Result}
 use Rattle.pdh_edge.specs.Ports.{Inputs, Takes}
 use Rattle.pdh_shape.specs.declared.place.Path.{Path}
 use Rattle.pdh_shape.specs.declared.role.Service.{Service}
@@ -7,6 +7,8 @@ use Rattle.pdh_shape.specs.Frame.{FrameShape}
 use Rattle.pdh_shape.specs.Payload.{payload_ones}
 use Rattle.pdh_line.specs.Sending.{odd_before}
 use Rattle.pdh_clock.specs.Contents.{Contents}
+use Rattle.pdh_slips.specs.declared.log.SlipLog as log
+use Rattle.pdh_slips.specs.declared.slip.Slip.{Slip}
 use Rattle.pdh_tx.specs.declared.tx.TxStop.{TxStop}
 use Rattle.pdh_tx.specs.declared.tx.TxStop.TheVariants.{Failed}
 use Rattle.pdh_tx.specs.declared.pieces.Piece.{Piece}
@@ -17,6 +19,7 @@ use Rattle.pdh_tx.specs.Node.{source_of, any_leaf, given_by, node_frame, meaning
 use Rattle.pdh_tx.specs.NodeState.{HasParity}
 use Rattle.pdh_tx.specs.Passing.{HoldsLine}
 use Rattle.pdh_tx.specs.Follows.{Follows}
+use Rattle.pdh_tx.specs.Telling.{Tells}
 
 -- ---- kinds of multiplexers
 
@@ -30,6 +33,8 @@ pub record Kind : Type 0 where
   pub by : Path → Plan → ℕ → ℕ → ℕ
   -- what may stand in the way of slot t of frame n, in order
   pub steps : Path → Plan → List Meaning → (ℕ → ℕ) → ℕ → ℕ → List (Option TxStop)
+  -- the slips in making its bit, in order
+  pub slips : Path → Plan → List Meaning → ℕ → ℕ → List Slip
 
 -- these are the same numbers, by bits and by slots
 pub record IsKind (s : FrameShape) (kind : Kind) : Type 0 where
@@ -38,7 +43,8 @@ pub record IsKind (s : FrameShape) (kind : Kind) : Type 0 where
 
 -- what a multiplexer of this kind at a path makes, takes and meets
 abbrev pub sender_meaning : FrameShape → Kind → Path → List Meaning → Meaning
-sender_meaning s kind path ms = meaning_with s path ms (kind.by path) (λ plan size x. first_some (kind.steps path plan ms size (x / s.len) (x % s.len)))
+sender_meaning s kind path ms =
+    meaning_with s path ms (kind.by path) (λ plan size x. first_some (kind.steps path plan ms size (x / s.len) (x % s.len))) (λ plan x. kind.slips path plan ms (x / s.len) (x % s.len))
 
 -- ---- what its calls want
 
@@ -54,6 +60,13 @@ pub record SlotsClear (steps : (ℕ → ℕ) → ℕ → List (Option TxStop)) (
   pub size : ℕ → ℕ
   pub fits : AllFit ms plan made inputs size
   pub clear : (v : ℕ) → v < len → first_some (steps size (t + v)) ≡ None
+
+-- nothing stands in the way of so many slots from slot t of frame n on, over the ends of frames, whatever the lists hold behind the bits
+-- that they have
+abbrev pub AreSlotsFree : Kind → FrameShape → List Meaning → Path → Contents → ℕ → ℕ → ℕ → Inputs → Type 0
+AreSlotsFree kind s ms path schedule n t count inputs =
+    (size : ℕ → ℕ) → AllFit ms (plan_of schedule) (kind.taken path (plan_of schedule) n t) inputs size
+    → (m u : ℕ) → u < s.len → n * s.len + t ≤ m * s.len + u → m * s.len + u < n * s.len + t + count → first_some (kind.steps path (plan_of schedule) ms size m u) ≡ None
 
 -- ---- what they give
 
@@ -74,19 +87,22 @@ pub record GivesSlots (stood : Type 0) (old new : Supply → Type 0) (ms : List 
 abbrev pub SlotFree : ((ℕ → ℕ) → ℕ → List (Option TxStop)) → List Meaning → Plan → (ℕ → ℕ) → ℕ → Inputs → Type 0
 SlotFree steps ms plan made t inputs = (size : ℕ → ℕ) → AllFit ms plan made inputs size → first_some (steps size t) ≡ None
 
--- ---- what its calls leave, by the schedule that they go by
+-- ---- what its calls leave, by the schedule or the plan that they go by
 
 -- the bit of slot t of frame n, in whose way nothing stood
-pub record GivesBit {B : Type 0} (kind : Kind) (meanings : B → List Meaning) (stood : B → Path → Plan → ℕ → ℕ → Type 0) (holds held : B → Path → Plan → Supply → ℕ → ℕ → Type 0) (s : FrameShape) (old new : B) (path : Path) (schedule : Contents) (n t : ℕ) (say : Service) (odd bit : Bool)
+pub record GivesBit {B : Type 0} (kind : Kind) (meanings : B → List Meaning) (stood : B → Path → Plan → ℕ → ℕ → Type 0) (holds held : B → Path → Plan → Supply → ℕ → ℕ → Type 0) (s : FrameShape) (old new : B) (path : Path) (plan : Plan) (n t : ℕ) (say : Service) (odd bit : Bool)
     (before after : Inputs) : Type 0 where
-  pub gives : GivesSlots (stood new path (plan_of schedule) n (suc t)) (λ supply. holds old path (plan_of schedule) supply n t) (λ supply. held new path (plan_of schedule) supply n (suc t))
-      (meanings old) s path (plan_of schedule) (kind.taken path (plan_of schedule) n t) (kind.came path (plan_of schedule) n (suc t)) n t say odd (bit ∷ []) before after
-  pub free : SlotFree (λ size. kind.steps path (plan_of schedule) (meanings old) size n) (meanings old) (plan_of schedule) (kind.taken path (plan_of schedule) n t) t before
+  pub gives : GivesSlots (stood new path plan n (suc t)) (λ supply. holds old path plan supply n t) (λ supply. held new path plan supply n (suc t))
+      (meanings old) s path plan (kind.taken path plan n t) (kind.came path plan n (suc t)) n t say odd (bit ∷ []) before after
+  pub free : SlotFree (λ size. kind.steps path plan (meanings old) size n) (meanings old) plan (kind.taken path plan n t) t before
 
 -- they stopped at the first step of the slot in whose way something stood
-abbrev pub StopsAtSlot : Kind → List Meaning → Path → Contents → ℕ → ℕ → TxStop → Inputs → Inputs → ℕ → ℕ → Type 0
-StopsAtSlot kind ms path schedule n t =
-    Blocked ms (plan_of schedule) (kind.taken path (plan_of schedule) n t) (kind.came path (plan_of schedule) n (suc t)) (λ size. kind.steps path (plan_of schedule) ms size n t)
+abbrev pub StopsAtSlot : Kind → List Meaning → Path → Plan → ℕ → ℕ → TxStop → Inputs → Inputs → ℕ → ℕ → Type 0
+StopsAtSlot kind ms path plan n t = Blocked ms plan (kind.taken path plan n t) (kind.came path plan n (suc t)) (λ size. kind.steps path plan ms size n t)
+
+-- and told a log of the slot's slips
+abbrev pub TellsSlot : {G T : Type 0} → Kind → List Meaning → Path → Plan → ℕ → ℕ → log.Ghosts G → G → G → Result T TxStop → Type 0
+TellsSlot kind ms path plan n t logs old new = Tells logs old new (kind.slips path plan ms n t)
 
 -- nothing stands in the way of a piece
 abbrev pub IsPieceClear : Kind → List Meaning → Contents → Piece → Inputs → Type 0

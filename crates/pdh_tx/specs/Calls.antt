@@ -7,11 +7,13 @@ use Rattle.pdh_edge.specs.declared.port.Feed as feed
 use Rattle.pdh_edge.specs.Ports.{Inputs, HasCause}
 use Rattle.pdh_shape.specs.declared.role.Service.{Service}
 use Rattle.pdh_clock.specs.Contents.{Contents}
+use Rattle.pdh_slips.specs.declared.log.SlipLog as log
 use Rattle.pdh_tx.specs.declared.tx.TxStop.{TxStop}
 use Rattle.pdh_tx.specs.declared.tx.TxStop.TheVariants.{Failed}
 use Rattle.pdh_tx.specs.Meaning.{Plan, Supply, plan_of, Meaning, IsNodeOf, HoldsAll, Makes, Stops}
 use Rattle.pdh_tx.specs.Held.{Halts}
-use Rattle.pdh_tx.specs.Making.{IsClear, MakesAll}
+use Rattle.pdh_tx.specs.Making.{IsClear, IsFree, MakesAll}
+use Rattle.pdh_tx.specs.Telling.{Tells}
 
 -- ---- the feed, and what is appended
 
@@ -57,23 +59,31 @@ pub record IsKept {T : Type 0} (meaning : T → Meaning) (says : T → Service) 
   pub same : meaning new ≡ meaning old
   pub same_says : says new ≡ says old
 
--- it has made some bits by this schedule
-abbrev pub StandsBy : {T : Type 0} → (T → Plan → ℕ → Type 0) → T → Contents → Type 0
-StandsBy stands_at t schedule = (x : ℕ) × stands_at t (plan_of schedule) x
+-- it has made some bits by this plan
+abbrev pub StandsBy : {T : Type 0} → (T → Plan → ℕ → Type 0) → T → Plan → Type 0
+StandsBy stands_at t plan = (x : ℕ) × stands_at t plan x
 
 -- and nothing stands in the way of its next bits, so many
 abbrev pub StandsClear : {T : Type 0} → (T → Meaning) → (T → Plan → ℕ → Type 0) → T → Contents → ℕ → Inputs → Type 0
 StandsClear meaning stands_at t schedule count inputs = (x : ℕ) × (stands_at t (plan_of schedule) x) × (IsClear (meaning t) (plan_of schedule) x (x + count) inputs)
 
+-- nothing stands in the way of its next bits, so many, whatever the lists hold behind the bits that they have
+abbrev pub GoesFree : {T : Type 0} → (T → Meaning) → (T → Plan → ℕ → Type 0) → T → Contents → ℕ → Inputs → Type 0
+GoesFree meaning stands_at t schedule count inputs = (x : ℕ) → stands_at t (plan_of schedule) x → IsFree (meaning t) (plan_of schedule) x (x + count) inputs
+
 -- it made its next bit
-abbrev pub MakesNext : {T : Type 0} → (T → Meaning) → (T → Service) → (T → Plan → ℕ → Type 0) → (T → Supply → ℕ → Type 0) → T → T → Contents → Bool → Inputs → Inputs → Type 0
-MakesNext meaning says stands_at stands_for old new schedule bit before after =
-    (x : ℕ) → stands_at old (plan_of schedule) x → Makes (meaning old) (says old) (stands_at new (plan_of schedule)) (stands_for old) (stands_for new) (plan_of schedule) x bit before after
+abbrev pub MakesNext : {T : Type 0} → (T → Meaning) → (T → Service) → (T → Plan → ℕ → Type 0) → (T → Supply → ℕ → Type 0) → T → T → Plan → Bool → Inputs → Inputs → Type 0
+MakesNext meaning says stands_at stands_for old new plan bit before after =
+    (x : ℕ) → stands_at old plan x → Makes (meaning old) (says old) (stands_at new plan) (stands_for old) (stands_for new) plan x bit before after
 
 -- it met what stands first in the way of it
-abbrev pub StopsNext : {T : Type 0} → (T → Meaning) → (T → Plan → ℕ → Type 0) → T → Contents → TxStop → Inputs → Inputs → ℕ → ℕ → Type 0
-StopsNext meaning stands_at t schedule stop before after faults now =
-    (x : ℕ) → stands_at t (plan_of schedule) x → Stops (meaning t) (plan_of schedule) x stop before after faults now
+abbrev pub StopsNext : {T : Type 0} → (T → Meaning) → (T → Plan → ℕ → Type 0) → T → Plan → TxStop → Inputs → Inputs → ℕ → ℕ → Type 0
+StopsNext meaning stands_at t plan stop before after faults now =
+    (x : ℕ) → stands_at t plan x → Stops (meaning t) plan x stop before after faults now
+
+-- and told a log of the slips in making it
+abbrev pub TellsNext : {T G X : Type 0} → (T → Meaning) → (T → Plan → ℕ → Type 0) → T → Plan → log.Ghosts G → G → G → Result X TxStop → Type 0
+TellsNext meaning stands_at t plan logs old new result = (x : ℕ) → stands_at t plan x → Tells logs old new ((meaning t).slips plan x) result
 
 -- it made its next bits, so many
 abbrev pub MakesNextAll : {T : Type 0} → (T → Meaning) → (T → Service) → (T → Plan → ℕ → Type 0) → (T → Supply → ℕ → Type 0) → T → T → Contents → ℕ → List Bool → Inputs → Inputs → Type 0

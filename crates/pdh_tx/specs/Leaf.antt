@@ -11,4 +11,5 @@ leaf_meaning leaf = record {
   given = λ plan x k. x;
   begins = λ x. None;
   obstacle = λ plan size x. (if nat_le (size leaf) x then Some (Ended leaf) else None);
+  slips = λ plan x. [];
 }

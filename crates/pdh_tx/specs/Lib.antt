@@ -8,9 +8,11 @@ pub mod Node
 pub mod Locked
 pub mod NodeState
 pub mod Making
+pub mod Telling
 pub mod Calls
 pub mod Passing
 pub mod Body
 pub mod Stored
 pub mod Tributaries
+pub mod Quiet
 pub mod laws

@@ -33,6 +33,10 @@ pub record IsClear (m : Meaning) (plan : Plan) (from to : ℕ) (inputs : Inputs)
   pub fits : Fits m plan from inputs size
   pub clear : (y : ℕ) → from ≤ y → y < to → m.obstacle plan size y ≡ None
 
+-- the same, whatever the lists hold behind the bits that they have
+abbrev pub IsFree : Meaning → Plan → ℕ → ℕ → Inputs → Type 0
+IsFree m plan from to inputs = (size : ℕ → ℕ) → Fits m plan from inputs size → (y : ℕ) → from ≤ y → y < to → m.obstacle plan size y ≡ None
+
 -- Bits of the line were made, between two places. `now` is what the frames say that they begin; `placed` tells how many bits
 -- the new state has made, and `old` and `new` which supplies the states stand for.
 pub record MakesAll (m : Meaning) (now : Service) (placed : ℕ → Type 0) (old new : Supply → ℕ → Type 0) (plan : Plan) (from to : ℕ) (bits : List Bool) (before after : Inputs) : Type 0 where

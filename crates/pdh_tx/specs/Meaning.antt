@@ -1,5 +1,5 @@
 -- What a tree of multiplexers makes, takes and meets.
-use Rattle.std.specs.Prelude.{◌≡◌, ℕ, suc, ◌+◌, ◌<◌, ◌≤◌, Bool, true, false, List, [], length, Option, Some, None}
+use Rattle.std.specs.Prelude.{◌≡◌, ℕ, suc, ◌+◌, ◌<◌, ◌≤◌, Bool, true, false, List, [], length, Option, Some, None, if◌then◌else◌}
 use Rattle.std.specs.List.{slice_index_or}
 use Rattle.pdh_edge.specs.Counts.{one_more}
 use Rattle.pdh_edge.specs.Leaves.{HaveLists}
@@ -11,20 +11,33 @@ use Rattle.pdh_shape.specs.Frame.{idle}
 use Rattle.pdh_levels.specs.Levels.{level_at}
 use Rattle.pdh_line.specs.Paths.{steps_of}
 use Rattle.pdh_line.specs.Progress.{FrameNumbers, Stores, by_stores}
+use Rattle.pdh_line.specs.Sending.{Mode}
+use Rattle.pdh_line.specs.Sending.Mode.{Plain, Slipping}
 use Rattle.pdh_clock.specs.Contents.{Contents, frame_count, counts}
+use Rattle.pdh_slips.specs.declared.slip.Slip.{Slip}
 use Rattle.pdh_tx.specs.declared.tx.TxStop.{TxStop}
-use Rattle.pdh_tx.specs.declared.tx.TxStop.TheVariants.{Failed, Ended}
+use Rattle.pdh_tx.specs.declared.tx.TxStop.TheVariants.{Failed, Ended, LogFailed}
 
 -- ---- what decides a line
 
--- a schedule: how many frames each node has, and how many bits of each of its tributaries arrive in each of them
+-- a schedule: what an event of a store does, how many frames each node has, and how many bits of each of its tributaries arrive in
+-- each of them
 pub record Plan : Type 0 where
+  pub mode : Mode
   pub frames : Path → ℕ
   pub counts : Path → ℕ → ℕ → ℕ
 
--- the frames and counts of a schedule
+-- the frames and counts of a schedule, for a line whose stores slip or don't
+abbrev pub plan_in : Contents → Bool → Plan
+plan_in schedule slips = record {
+  mode = (if slips then Slipping else Plain);
+  frames = λ node. frame_count schedule.rows (steps_of node);
+  counts = λ node. counts schedule.rows (steps_of node);
+}
+
+-- for one that the first event of a store ends
 abbrev pub plan_of : Contents → Plan
-plan_of schedule = record { frames = λ node. frame_count schedule.rows (steps_of node); counts = λ node. counts schedule.rows (steps_of node) }
+plan_of schedule = plan_in schedule false
 
 -- a schedule, each leaf's list, and what the service bits of each of its own frames say
 pub record Supply : Type 0 where
@@ -73,6 +86,8 @@ pub record Meaning : Type 0 where
   pub begins : ℕ → Option ℕ
   -- what stands first in the way of bit x, where the leaves' lists hold so many bits in all
   pub obstacle : Plan → (ℕ → ℕ) → ℕ → Option TxStop
+  -- the slips in making bit x, in order
+  pub slips : Plan → ℕ → List Slip
 
 -- each leaf has a list
 abbrev pub HoldsAll : (ℕ → Bool) → Inputs → Type 0
@@ -107,8 +122,10 @@ pub record Makes (m : Meaning) (now : Service) (placed : ℕ → Type 0) (old ne
   pub onward : (supply : Supply) → supply.plan ≡ plan → old supply x → Says m supply now x → Agrees m.leaves supply.lists (m.given plan x) given
       → (bit ≡ m.line supply x) × new supply (suc x)
 
+-- a call failed of what it was lent
 abbrev pub is_failed : TxStop → Bool
 is_failed Failed = true
+is_failed LogFailed = true
 is_failed _ = false
 
 -- a count of faults after a call that met this: one more where it failed, and else as it was
@@ -116,7 +133,7 @@ abbrev pub faults_met : TxStop → ℕ → ℕ
 faults_met Failed faults = one_more faults
 faults_met stop faults = faults
 
--- a call met this: Failed where the feed failed, which was counted once, else exactly what stands first in the way
+-- a call met this: Failed where the feed failed, which was counted once, or a log failed, else exactly what stands first in the way
 pub record Met (fits : (ℕ → ℕ) → Type 0) (first : (ℕ → ℕ) → Option TxStop) (stop : TxStop) (faults now : ℕ) : Type 0 where
   pub counted : now ≡ faults_met stop faults
   pub is_first : is_failed stop ≡ false → (size : ℕ → ℕ) → fits size → first size ≡ Some stop

@@ -1,6 +1,7 @@
 -- A multiplexer with a store for each child.
 use Rattle.std.specs.Prelude.{◌≡◌, ℕ, suc, ◌+◌, ◌/◌, ◌%◌, ◌≤◌, Bool, true, false, not, ◌&&◌, ◌==◌, nat_le, nat_lt, List, [], ◌∷◌, ◌++◌, All, length, map, flat_map, count_by, slice_get, Option, Some, None, if◌then◌else◌}
 use Rattle.std.specs.List.{range_with_len, slice_index_or}
+use Rattle.pdh_line.specs.Sending.Mode.{Plain}
 use Rattle.pdh_edge.specs.Leaves.{any_below, NoneShared}
 use Rattle.pdh_edge.specs.Ports.{Inputs, Takes}
 use Rattle.pdh_shape.specs.declared.place.Path.{Path}
@@ -13,6 +14,7 @@ use Rattle.pdh_shape.specs.Frame.{FrameShape, idle}
 use Rattle.pdh_shape.specs.OwnNumbers.{lead}
 use Rattle.pdh_line.specs.Sending.{arrives_at, sends_more, came_before, read_before, taken, shape_numbers, Source, payload_bit, line_bit}
 use Rattle.pdh_line.specs.Events.{overflows, underflows}
+use Rattle.pdh_slips.specs.declared.slip.Slip.{Slip}
 use Rattle.pdh_tx.specs.declared.tx.TxStop.{TxStop}
 use Rattle.pdh_tx.specs.declared.tx.TxStop.TheVariants.{Overflow, Underflow, NoFrame}
 use Rattle.pdh_tx.specs.declared.tributary.FrameShare.{FrameShare}
@@ -32,7 +34,7 @@ line_of (Some m) supply x = m.line supply x
 
 -- what decides the line of the node at a path that has these children
 abbrev pub source_of : Path → List Meaning → Supply → Source
-source_of path ms supply = record { counts = supply.plan.counts path; inputs = λ j. line_of (slice_get ms j) (below supply); says = supply.says }
+source_of path ms supply = record { mode = Plain; counts = supply.plan.counts path; inputs = λ j. line_of (slice_get ms j) (below supply); says = supply.says }
 
 -- ---- what a node takes
 
@@ -97,26 +99,63 @@ abbrev pub node_obstacle : FrameShape → Path → List Meaning → Plan → (�
 node_obstacle s path ms plan size x =
     first_some (steps s path plan ms size (x / s.len) (x % s.len))
 
+-- ---- the slips in making a node's bit
+
+-- those in making a child's bit, where there is one
+abbrev pub slips_below : Option Meaning → Plan → ℕ → List Slip
+slips_below None plan x = []
+slips_below (Some m) plan x = m.slips plan x
+
+-- those in the lead of tributary j
+abbrev pub lead_slips : Plan → List Meaning → ℕ → List Slip
+lead_slips plan ms j = flat_map (slips_below (slice_get ms j) plan) (range_with_len 0 lead)
+
+-- in all leads, by tributary
+abbrev pub leads_slips : FrameShape → Plan → List Meaning → List Slip
+leads_slips s plan ms = flat_map (lead_slips plan ms) (range_with_len 0 s.tribs)
+
+-- in the beginning of a frame: in frame 0, those in the leads
+abbrev pub beginning_slips : FrameShape → Plan → List Meaning → ℕ → ℕ → List Slip
+beginning_slips s plan ms n t = (if t == 0 then (if n == 0 then leads_slips s plan ms else []) else [])
+
+-- in the arrival of a bit of tributary j in slot t of frame n, if there is one: those in making the child's bit
+abbrev pub arrival_slips : FrameShape → Path → Plan → List Meaning → ℕ → ℕ → ℕ → List Slip
+arrival_slips s path plan ms n t j =
+    (if arrives_at s (plan.counts path j n) t then slips_below (slice_get ms j) plan (came_before s (plan.counts path j) n t) else [])
+
+-- in all arrivals of a slot, by tributary
+abbrev pub arrivals_slips : FrameShape → Path → Plan → List Meaning → ℕ → ℕ → List Slip
+arrivals_slips s path plan ms n t = flat_map (arrival_slips s path plan ms n t) (range_with_len 0 s.tribs)
+
+-- all of slot t of frame n, in step order
+abbrev pub slot_slips : FrameShape → Path → Plan → List Meaning → ℕ → ℕ → List Slip
+slot_slips s path plan ms n t = beginning_slips s plan ms n t ++ arrivals_slips s path plan ms n t
+
+-- all of bit x
+abbrev pub node_slips : FrameShape → Path → List Meaning → Plan → ℕ → List Slip
+node_slips s path ms plan x = slot_slips s path plan ms (x / s.len) (x % s.len)
+
 -- ---- a node as a whole
 
 abbrev pub node_frame : FrameShape → Path → NodeFrame
 node_frame s path = record { path = path; numbers = shape_numbers s }
 
 -- a node at a path that has these children, where `came` tells how many bits of tributary j it has taken by the time when x
--- bits of its line are made, and `first` what stands first in the way of bit x
-abbrev pub meaning_with : FrameShape → Path → List Meaning → (Plan → ℕ → ℕ → ℕ) → (Plan → (ℕ → ℕ) → ℕ → Option TxStop) → Meaning
-meaning_with s path ms came first = record {
+-- bits of its line are made, `first` what stands first in the way of bit x, and `slips` the slips in making it
+abbrev pub meaning_with : FrameShape → Path → List Meaning → (Plan → ℕ → ℕ → ℕ) → (Plan → (ℕ → ℕ) → ℕ → Option TxStop) → (Plan → ℕ → List Slip) → Meaning
+meaning_with s path ms came first slips = record {
   nodes = node_frame s path ∷ flat_map (λ m. m.nodes) ms;
   leaves = any_leaf ms;
   line = λ supply x. line_bit s (source_of path ms supply) x;
   given = λ plan x k. given_by ms plan (λ j. came plan j x) k;
   begins = λ x. (if x % s.len == 0 then Some (x / s.len) else None);
   obstacle = first;
+  slips = slips;
 }
 
 -- with a store for each child
 abbrev pub node_meaning : FrameShape → Path → List Meaning → Meaning
-node_meaning s path ms = meaning_with s path ms (λ plan j x. taken s (plan.counts path j) x) (node_obstacle s path ms)
+node_meaning s path ms = meaning_with s path ms (λ plan j x. taken s (plan.counts path j) x) (node_obstacle s path ms) (node_slips s path ms)
 
 -- the store of tributary j, which has these counts, holds so many bits where x bits of a line with frames of so many are made: what
 -- came into it less what was read

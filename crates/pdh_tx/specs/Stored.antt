@@ -7,7 +7,7 @@ use Rattle.pdh_shape.specs.Frame.{FrameShape}
 use Rattle.pdh_line.specs.Sending.{taken}
 use Rattle.pdh_tx.specs.declared.tributary.FrameShare.{FrameShare}
 use Rattle.pdh_tx.specs.Meaning.{Plan, Supply, Meaning}
-use Rattle.pdh_tx.specs.Node.{below, EachPlaced, EachHeld, IsDecided, taken_to, came_at, read_to, steps}
+use Rattle.pdh_tx.specs.Node.{below, EachPlaced, EachHeld, IsDecided, taken_to, came_at, read_to, steps, slot_slips}
 use Rattle.pdh_tx.specs.Body.{Kind, GivesSlots, SlotFree}
 
 -- how they take the bits of their tributaries
@@ -17,6 +17,7 @@ stored_kind s = record {
   came = came_at s;
   by = λ path plan j x. taken s (plan.counts path j) x;
   steps = steps s;
+  slips = slot_slips s;
 }
 
 module _ {W : Type 0} (placed : W → Plan → ℕ → ℕ → Type 0) (held : W → Supply → ℕ → ℕ → Type 0) (share : W → FrameShare) (s : FrameShape) (path : Path) (plan : Plan) where

@@ -1,5 +1,5 @@
 -- The tributaries of a node.
-use Rattle.std.specs.Prelude.{◌≡◌, ℕ, suc, ◌+◌, ◌<◌, Bool, List, [], map, slice_get, Option, Some}
+use Rattle.std.specs.Prelude.{◌≡◌, ℕ, suc, ◌+◌, ◌<◌, Bool, List, [], map, slice_get, Option, Some, Result}
 use Rattle.std.specs.List.{slice_index_or}
 use Rattle.pdh_bits.specs.BitOut.{BoundedBits}
 use Rattle.pdh_edge.specs.Ports.{Inputs}
@@ -10,6 +10,8 @@ use Rattle.pdh_shape.specs.Tributary.{turned}
 use Rattle.pdh_shape.specs.OwnNumbers.{lead}
 use Rattle.pdh_line.specs.Sending.{Source, slot_bit, odd_before}
 use Rattle.pdh_clock.specs.Contents.{Contents}
+use Rattle.pdh_slips.specs.declared.log.SlipLog as log
+use Rattle.pdh_slips.specs.declared.slip.Slip.{Slip}
 use Rattle.pdh_tx.specs.declared.tx.Tx.{Ghosts}
 use Rattle.pdh_tx.specs.declared.tx.TxStop.{TxStop}
 use Rattle.pdh_tx.specs.declared.tx.TxStop.TheVariants.{Failed}
@@ -19,13 +21,14 @@ use Rattle.pdh_tx.specs.declared.pieces.Piece.{Piece}
 use Rattle.pdh_tx.specs.Meaning.{Plan, Supply, plan_of, Meaning}
 use Rattle.pdh_tx.specs.Held.{first_some}
 use Rattle.pdh_tx.specs.Tributary.{placed_in, held_in, meaning_in, share_in}
-use Rattle.pdh_tx.specs.Node.{below, source_of, line_of, set_at, EachPlaced, EachHeld, IsDecided, Advance, Blocked, Stays, led_to, lead_at, leads, taken_to, came_to, came_at, read_to, beginning, arrival_at, arrivals, reads}
+use Rattle.pdh_tx.specs.Node.{below, source_of, line_of, set_at, EachPlaced, EachHeld, IsDecided, Advance, Blocked, Stays, led_to, lead_at, leads, taken_to, came_to, came_at, read_to, beginning, arrival_at, arrivals, reads, lead_slips, leads_slips, beginning_slips, arrival_slips, arrivals_slips}
 use Rattle.pdh_tx.specs.Body.{AreFedBelow, IsPieceClear, HaltsInPiece}
 use Rattle.pdh_tx.specs.Stored.{stored_kind, Before, Through, HoldBefore, HoldThrough}
+use Rattle.pdh_tx.specs.Telling.{Tells}
 use Rattle.pdh_tx.specs.Passing.{CanPass, Passes, made_through, read_through, HoldsBits, HoldsBitsOf, HasRows, HasRowsOf}
 
--- Steps of a node that come one after another by a schedule, whatever the lists hold in all, and how many bits of each tributary
--- are taken and read by them.
+-- Steps of a node that come one after another by a plan, whatever the lists hold in all, how many bits of each tributary are taken
+-- and read by them, and the slips in them.
 pub record Stretch : Type 0 where
   pub plan : Plan
   -- taken before and after all of them, and at most where something stands in the way
@@ -35,6 +38,11 @@ pub record Stretch : Type 0 where
   -- read before all of them; they read none
   pub read : ℕ → ℕ
   pub steps : (ℕ → ℕ) → List (Option TxStop)
+  pub slips : List Slip
+
+-- a call told a log of the slips in them
+abbrev pub TellIn : {G T : Type 0} → Stretch → log.Ghosts G → G → G → Result T TxStop → Type 0
+TellIn stretch logs old new = Tells logs old new stretch.slips
 
 module _ {S C : Type 0} {shape : shape.Ghosts S} {tx : Ghosts C} where
   -- ---- what they are
@@ -70,8 +78,8 @@ module _ {S C : Type 0} {shape : shape.Ghosts S} {tx : Ghosts C} where
   HoldFor ts = EachHeld (held_in tx) ts.list.items
 
   -- the decisions of frame n are made
-  abbrev pub HaveDecided : Tributaries S C shape tx → Path → Contents → ℕ → Type 0
-  HaveDecided ts path schedule n = IsDecided share_in shape.shape path (plan_of schedule) n ts.list.items
+  abbrev pub HaveDecided : Tributaries S C shape tx → Path → Plan → ℕ → Type 0
+  HaveDecided ts path plan n = IsDecided share_in shape.shape path plan n ts.list.items
 
   -- they have made all bits before slot t of frame n; inside a frame its decisions are made, and it is scheduled
   abbrev pub StandBefore : Tributaries S C shape tx → Path → Plan → ℕ → ℕ → Type 0
@@ -88,58 +96,63 @@ module _ {S C : Type 0} {shape : shape.Ghosts S} {tx : Ghosts C} where
   -- ---- steps
 
   -- tributary j takes its lead
-  abbrev pub lead_stretch : Tributaries S C shape tx → Contents → ℕ → Stretch
-  lead_stretch ts schedule j = record {
-    plan = plan_of schedule;
+  abbrev pub lead_stretch : Tributaries S C shape tx → Plan → ℕ → Stretch
+  lead_stretch ts plan j = record {
+    plan = plan;
     made = led_to j;
     more = led_to (suc j);
     most = λ j. lead;
     read = λ j. 0;
-    steps = λ size. lead_at (plan_of schedule) (meanings ts) size j;
+    steps = λ size. lead_at plan (meanings ts) size j;
+    slips = lead_slips plan (meanings ts) j;
   }
 
   -- the first so many take their leads, which are all of them
-  abbrev pub leads_stretch : Tributaries S C shape tx → Contents → ℕ → Stretch
-  leads_stretch ts schedule count = record {
-    plan = plan_of schedule;
+  abbrev pub leads_stretch : Tributaries S C shape tx → Plan → ℕ → Stretch
+  leads_stretch ts plan count = record {
+    plan = plan;
     made = led_to 0;
     more = led_to count;
     most = λ j. lead;
     read = λ j. 0;
-    steps = λ size. leads shape.shape (plan_of schedule) (meanings ts) size;
+    steps = λ size. leads shape.shape plan (meanings ts) size;
+    slips = leads_slips shape.shape plan (meanings ts);
   }
 
   -- what begins in slot t of frame n
-  abbrev pub beginning_stretch : Tributaries S C shape tx → Path → Contents → ℕ → ℕ → Stretch
-  beginning_stretch ts path schedule n t = record {
-    plan = plan_of schedule;
-    made = taken_to shape.shape path (plan_of schedule) n t;
-    more = came_to shape.shape path (plan_of schedule) n t 0;
-    most = came_to shape.shape path (plan_of schedule) n t 0;
-    read = read_to shape.shape path (plan_of schedule) n t;
-    steps = λ size. beginning shape.shape path (plan_of schedule) (meanings ts) size n t;
+  abbrev pub beginning_stretch : Tributaries S C shape tx → Path → Plan → ℕ → ℕ → Stretch
+  beginning_stretch ts path plan n t = record {
+    plan = plan;
+    made = taken_to shape.shape path plan n t;
+    more = came_to shape.shape path plan n t 0;
+    most = came_to shape.shape path plan n t 0;
+    read = read_to shape.shape path plan n t;
+    steps = λ size. beginning shape.shape path plan (meanings ts) size n t;
+    slips = beginning_slips shape.shape plan (meanings ts) n t;
   }
 
   -- tributary j takes what arrives in slot t of frame n
-  abbrev pub arrival_stretch : Tributaries S C shape tx → Path → Contents → ℕ → ℕ → ℕ → Stretch
-  arrival_stretch ts path schedule n t j = record {
-    plan = plan_of schedule;
-    made = came_to shape.shape path (plan_of schedule) n t j;
-    more = came_to shape.shape path (plan_of schedule) n t (suc j);
-    most = came_at shape.shape path (plan_of schedule) n (suc t);
-    read = read_to shape.shape path (plan_of schedule) n t;
-    steps = λ size. arrival_at shape.shape path (plan_of schedule) (meanings ts) size n t j;
+  abbrev pub arrival_stretch : Tributaries S C shape tx → Path → Plan → ℕ → ℕ → ℕ → Stretch
+  arrival_stretch ts path plan n t j = record {
+    plan = plan;
+    made = came_to shape.shape path plan n t j;
+    more = came_to shape.shape path plan n t (suc j);
+    most = came_at shape.shape path plan n (suc t);
+    read = read_to shape.shape path plan n t;
+    steps = λ size. arrival_at shape.shape path plan (meanings ts) size n t j;
+    slips = arrival_slips shape.shape path plan (meanings ts) n t j;
   }
 
   -- the first so many do, which are all of them
-  abbrev pub arrivals_stretch : Tributaries S C shape tx → Path → Contents → ℕ → ℕ → ℕ → Stretch
-  arrivals_stretch ts path schedule n t count = record {
-    plan = plan_of schedule;
-    made = came_to shape.shape path (plan_of schedule) n t 0;
-    more = came_to shape.shape path (plan_of schedule) n t count;
-    most = came_at shape.shape path (plan_of schedule) n (suc t);
-    read = read_to shape.shape path (plan_of schedule) n t;
-    steps = λ size. arrivals shape.shape path (plan_of schedule) (meanings ts) size n t;
+  abbrev pub arrivals_stretch : Tributaries S C shape tx → Path → Plan → ℕ → ℕ → ℕ → Stretch
+  arrivals_stretch ts path plan n t count = record {
+    plan = plan;
+    made = came_to shape.shape path plan n t 0;
+    more = came_to shape.shape path plan n t count;
+    most = came_at shape.shape path plan n (suc t);
+    read = read_to shape.shape path plan n t;
+    steps = λ size. arrivals shape.shape path plan (meanings ts) size n t;
+    slips = arrivals_slips shape.shape path plan (meanings ts) n t;
   }
 
   -- they stand at its first step

@@ -3,10 +3,10 @@
 ghost use Rattle.std.specs.Prelude.{◌≡◌, ◌+◌, ◌<◌, ◌≤◌, ℕ, suc, List, length, IfOk, IfErr, OnErr};
 ghost use Rattle.pdh_packed.specs.Gaining.{gained};
 ghost use Rattle.pdh_shape.specs.declared.place.Path.{Path};
-ghost use Rattle.pdh_tx.specs.Meaning.{Plan, Supply, Meaning, plan_of};
+ghost use Rattle.pdh_tx.specs.Meaning.{Plan, Supply, Meaning, plan_in, plan_of};
 ghost use Rattle.pdh_tx.specs.Calls.{Draws, DrawsClear, Appends, IsPieceOf};
 ghost use Rattle.pdh_tx.specs.Follows.{Follows};
-ghost use Rattle.pdh_tx.specs.Body.{Kind, IsKind, sender_meaning, AreFedBelow, GivesBit, StopsAtSlot, IsPieceClear, GivesPiece, HaltsInPiece};
+ghost use Rattle.pdh_tx.specs.Body.{Kind, IsKind, sender_meaning, AreFedBelow, AreSlotsFree, GivesBit, StopsAtSlot, TellsSlot, IsPieceClear, GivesPiece, HaltsInPiece};
 
 use crate::TxStop;
 use crate::pieces::Piece;
@@ -14,6 +14,7 @@ use pdh_clock::Schedule;
 use pdh_edge::{Failed, Feed};
 use pdh_packed::Packed;
 use pdh_shape::{Path, Service, Shape};
+use pdh_slips::SlipLog;
 
 /// The tributaries of a multiplexer, of one kind: with stores, or without.
 pub trait Body<S: Shape>: Drop {
@@ -37,7 +38,7 @@ pub trait Body<S: Shape>: Drop {
 
     /// Makes the bit of a slot, with all its steps, where the frame says `say` and `odd` is whether
     /// the information and justifiable slots of the frame before hold an odd number of ones.
-    fn bit<F: Feed>(
+    fn bit<F: Feed, G: SlipLog>(
         &mut self,
         path: Path,
         frame: u64,
@@ -46,17 +47,35 @@ pub trait Body<S: Shape>: Drop {
         odd: bool,
         clock: &Schedule,
         feed: &mut F,
+        log: &mut G,
     ) -> Result<bool, TxStop>
         requires slot { slot < S.LEN }
         requires fed { AreFedBelow S.shape path (meanings self.old) clock.now (F.inputs feed.old) }
-        requires placed { stands self.old path (plan_of clock.now) frame slot }
+        requires placed { stands self.old path (plan_in clock.now G.takes) frame slot }
         ensures made { IfOk result (λ bit.
-            GivesBit kind meanings stood holds held S.shape self.old self.new path clock.now frame slot say.now odd bit
+            GivesBit kind meanings stood holds held S.shape self.old self.new path (plan_in clock.now G.takes) frame slot say.now odd bit
             (F.inputs feed.old) (F.inputs feed.new)) }
-        ensures err { IfErr result (λ stop. StopsAtSlot kind (meanings self.old) path clock.now frame slot stop
+        ensures err { IfErr result (λ stop. StopsAtSlot kind (meanings self.old) path (plan_in clock.now G.takes) frame slot stop
             (F.inputs feed.old) (F.inputs feed.new) (F.feed_faults feed.old) (F.feed_faults feed.new)) }
+        ensures told { TellsSlot kind (meanings self.old) path (plan_in clock.now G.takes) frame slot G.SlipLog log.old log.new result }
         ensures fed { Draws F.Feed feed.old feed.new result }
         ensures same { meanings self.new ≡ meanings self.old };
+
+    /// How many slots from one on, up to so many and over the ends of frames, surely meet nothing.
+    fn quiet<F: Feed>(
+        &self,
+        path: Path,
+        frame: u64,
+        slot: u32,
+        clock: &Schedule,
+        feed: &F,
+        most: usize,
+    ) -> usize
+        requires slot { slot < S.LEN }
+        requires fed { AreFedBelow S.shape path (meanings self.now) clock.now (F.inputs feed.now) }
+        requires placed { stands self.now path (plan_of clock.now) frame slot }
+        ensures most { result ≤ most }
+        ensures free { AreSlotsFree kind S.shape (meanings self.now) path clock.now frame slot result (F.inputs feed.now) };
 
     /// Makes the bits of a piece of a frame, with all their steps, in whose way nothing stands,
     /// appends them to `into`, and answers whether its information and justifiable slots hold an odd

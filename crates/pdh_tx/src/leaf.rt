@@ -10,6 +10,7 @@ use crate::{Tx, TxStop};
 use pdh_clock::Schedule;
 use pdh_edge::{Failed, Feed, FeedStop, take_bits};
 use pdh_packed::Packed;
+use pdh_slips::SlipLog;
 
 /// Passes the bits of one leaf of a feed.
 #[derive(Drop)]
@@ -49,7 +50,12 @@ impl Tx for Leaf {
         self.stopped
     }
 
-    fn next<F: Feed>(&mut self, _clock: &Schedule, feed: &mut F) -> Result<bool, TxStop> {
+    fn next<F: Feed, G: SlipLog>(
+        &mut self,
+        _clock: &Schedule,
+        feed: &mut F,
+        _log: &mut G,
+    ) -> Result<bool, TxStop> {
         match feed.bit(self.leaf) {
             Ok(bit) => Ok(bit),
             Err(FeedStop::Failed) => {
@@ -61,6 +67,10 @@ impl Tx for Leaf {
                 Err(TxStop::Ended { leaf: self.leaf })
             }
         }
+    }
+
+    fn quiet<F: Feed>(&self, _clock: &Schedule, feed: &F, most: usize) -> usize {
+        feed.left(self.leaf).min(most as u64) as usize
     }
 
     #[inline(always)]

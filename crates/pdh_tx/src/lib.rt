@@ -10,6 +10,7 @@ mod leaf;
 mod node;
 mod pieces;
 mod position;
+mod quiet;
 mod scratch;
 mod sender;
 mod slots;

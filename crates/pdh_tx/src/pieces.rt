@@ -3,6 +3,7 @@
 
 ghost use Rattle.std.specs.Prelude.{◌≡◌, ◌+◌, ◌<◌, ◌≤◌, ℕ, OnOk, OnErr};
 ghost use Rattle.pdh_line.specs.Sending.{arrived_in};
+ghost use Rattle.pdh_tx.specs.Meaning.{plan_of};
 ghost use Rattle.pdh_tx.specs.Calls.{DrawsClear};
 ghost use Rattle.pdh_tx.specs.Tributaries.{AreFed, HaveDecided, HavePassed, IsPassable, PassOne, PassAll, FailFrom, KeepAll, KeepFirst};
 
@@ -25,8 +26,8 @@ pub struct Piece {
     pub len: usize,
 }
 
-// How many bits arrive in a piece of a frame in which so many arrive.
-fn arriving<S: Shape>(count: u32, first: u32, len: usize) -> usize
+/// How many bits arrive in a piece of a frame in which so many arrive.
+pub fn arriving<S: Shape>(count: u32, first: u32, len: usize) -> usize
     requires inside { first + len ≤ S.LEN }
     requires fits { count ≤ S.LEN }
     ensures { arrived_in S.shape count first + result ≡ arrived_in S.shape count (first + len) }
@@ -48,7 +49,7 @@ impl<S: Shape, C: Tx> Tributaries<S, C> {
     ) -> Result<(), Failed>
         requires trib { trib < S.TRIBS }
         requires inside { at.slot + at.len ≤ S.LEN }
-        requires decided { HaveDecided self.old at.path clock.now at.frame }
+        requires decided { HaveDecided self.old at.path (plan_of clock.now) at.frame }
         requires fed { AreFed self.old at.path clock.now (F.inputs feed.old) }
         requires placed { HavePassed self.old clock.now at trib }
         requires clear { IsPassable self.old clock.now at (F.inputs feed.old) trib }
@@ -81,7 +82,7 @@ impl<S: Shape, C: Tx> Tributaries<S, C> {
         feed: &mut F,
     ) -> Result<(), Failed>
         requires inside { at.slot + at.len ≤ S.LEN }
-        requires decided { HaveDecided self.old at.path clock.now at.frame }
+        requires decided { HaveDecided self.old at.path (plan_of clock.now) at.frame }
         requires fed { AreFed self.old at.path clock.now (F.inputs feed.old) }
         requires placed { HavePassed self.old clock.now at 0 }
         requires clear { (j : ℕ) → IsPassable self.old clock.now at (F.inputs feed.old) j }

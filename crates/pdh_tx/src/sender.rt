@@ -3,8 +3,8 @@
 
 ghost use Rattle.std.specs.Prelude.{◌≡◌, ◌≤◌, ◌+◌, ℕ, length, OnOk, OnErr, IfOk, IfErr};
 ghost use Rattle.pdh_packed.specs.Gaining.{gained};
-ghost use Rattle.pdh_tx.specs.Meaning.{Plan, Supply, IsFresh};
-ghost use Rattle.pdh_tx.specs.Calls.{Draws, DrawsClear, Appends, IsPieceOf, IsKept, StandsBy, StandsClear, MakesNext, StopsNext, MakesNextAll, HaltsNext};
+ghost use Rattle.pdh_tx.specs.Meaning.{Plan, Supply, plan_in, IsFresh};
+ghost use Rattle.pdh_tx.specs.Calls.{Draws, DrawsClear, Appends, IsPieceOf, IsKept, StandsBy, StandsClear, MakesNext, StopsNext, TellsNext, MakesNextAll, HaltsNext};
 ghost use Rattle.pdh_tx.specs.Body.{sender_meaning, AreFedBelow, SenderAt, SenderFor};
 
 use crate::body::Body;
@@ -15,6 +15,7 @@ use pdh_clock::Schedule;
 use pdh_edge::{Failed, Feed};
 use pdh_packed::Packed;
 use pdh_shape::{Path, Service, Shape};
+use pdh_slips::SlipLog;
 use std::marker::PhantomData;
 
 /// A multiplexer over its tributaries.
@@ -76,15 +77,22 @@ impl<S: Shape, B: Body<S>> Sender<S, B> {
     }
 
     // Makes the next bit, with all its steps.
-    fn step<F: Feed>(&mut self, clock: &Schedule, feed: &mut F) -> Result<bool, TxStop>
+    fn step<F: Feed, G: SlipLog>(
+        &mut self,
+        clock: &Schedule,
+        feed: &mut F,
+        log: &mut G,
+    ) -> Result<bool, TxStop>
         requires fed { AreFedBelow S.shape self.old.path (B.meanings self.old.body) clock.now (F.inputs feed.old) }
-        requires stands { StandsBy ⟦<Sender<S, B> as Tx>⟧.stands_at self.old clock.now }
+        requires stands { StandsBy ⟦<Sender<S, B> as Tx>⟧.stands_at self.old (plan_in clock.now G.takes) }
         ensures made { let tx = ⟦<Sender<S, B> as Tx>⟧ in IfOk result (λ bit.
-            MakesNext tx.meaning tx.says tx.stands_at tx.stands_for self.old self.new clock.now bit
+            MakesNext tx.meaning tx.says tx.stands_at tx.stands_for self.old self.new (plan_in clock.now G.takes) bit
             (F.inputs feed.old) (F.inputs feed.new)) }
         ensures stops { let tx = ⟦<Sender<S, B> as Tx>⟧ in IfErr result (λ stop.
-            StopsNext tx.meaning tx.stands_at self.old clock.now stop
+            StopsNext tx.meaning tx.stands_at self.old (plan_in clock.now G.takes) stop
             (F.inputs feed.old) (F.inputs feed.new) (F.feed_faults feed.old) (F.feed_faults feed.new)) }
+        ensures told { let tx = ⟦<Sender<S, B> as Tx>⟧ in
+            TellsNext tx.meaning tx.stands_at self.old (plan_in clock.now G.takes) G.SlipLog log.old log.new result }
         ensures running { self.new.stopped ≡ self.old.stopped }
         ensures fed { Draws F.Feed feed.old feed.new result }
         ensures kept { let tx = ⟦<Sender<S, B> as Tx>⟧ in IsKept tx.meaning tx.says self.old self.new }
@@ -98,6 +106,7 @@ impl<S: Shape, B: Body<S>> Sender<S, B> {
             self.at.last_odd,
             clock,
             feed,
+            log,
         )?;
         self.say = say;
         self.at = after::<S>(self.at, bit);
@@ -162,14 +171,24 @@ impl<S: Shape, B: Body<S>> Tx for Sender<S, B> {
         self.stopped
     }
 
-    fn next<F: Feed>(&mut self, clock: &Schedule, feed: &mut F) -> Result<bool, TxStop> {
-        match self.step(clock, feed) {
+    fn next<F: Feed, G: SlipLog>(
+        &mut self,
+        clock: &Schedule,
+        feed: &mut F,
+        log: &mut G,
+    ) -> Result<bool, TxStop> {
+        match self.step(clock, feed, log) {
             Ok(bit) => Ok(bit),
             Err(stop) => {
                 self.stopped = true;
                 Err(stop)
             }
         }
+    }
+
+    fn quiet<F: Feed>(&self, clock: &Schedule, feed: &F, most: usize) -> usize {
+        self.body
+            .quiet(self.path, self.at.frame, self.at.slot, clock, feed, most)
     }
 
     fn make_clear<F: Feed>(

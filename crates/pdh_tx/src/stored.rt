@@ -9,6 +9,7 @@ ghost use Rattle.pdh_tx.specs.laws.StoredLaws.{stored_is, stored_next, stored_ho
 use crate::body::Body;
 use crate::decisions::write_overhead;
 use crate::pieces::Piece;
+use crate::quiet::NextBits;
 use crate::tributaries::Tributaries;
 use crate::tributary::Tributary;
 use crate::{Tx, TxStop};
@@ -16,6 +17,7 @@ use pdh_clock::Schedule;
 use pdh_edge::{Failed, Feed};
 use pdh_packed::Packed;
 use pdh_shape::{Path, Service, Shape};
+use pdh_slips::{NoSlips, SlipLog};
 
 impl<S: Shape, C: Tx> Body<S> for Tributaries<S, C> {
     ghost kind = { stored_kind S.shape };
@@ -30,7 +32,7 @@ impl<S: Shape, C: Tx> Body<S> for Tributaries<S, C> {
 
     ghost held = { λ b. HoldToThere b };
 
-    fn bit<F: Feed>(
+    fn bit<F: Feed, G: SlipLog>(
         &mut self,
         path: Path,
         frame: u64,
@@ -39,10 +41,41 @@ impl<S: Shape, C: Tx> Body<S> for Tributaries<S, C> {
         odd: bool,
         clock: &Schedule,
         feed: &mut F,
+        log: &mut G,
     ) -> Result<bool, TxStop> {
-        self.begin(path, frame, slot, clock, feed)?;
-        self.take_arrivals(path, frame, slot, clock, feed)?;
+        self.begin(path, frame, slot, clock, feed, log)?;
+        self.take_arrivals(path, frame, slot, clock, feed, log)?;
         self.slot_bit(path, frame, slot, say, odd)
+    }
+
+    fn quiet<F: Feed>(
+        &self,
+        path: Path,
+        frame: u64,
+        slot: u32,
+        clock: &Schedule,
+        feed: &F,
+        most: usize,
+    ) -> usize {
+        let len = u128::from(S::LEN);
+        let made = u128::from(frame) * len + u128::from(slot);
+        let end = made + most as u128;
+        let end_frame = end.div_ceil(len);
+        if end_frame > u128::from(clock.frames(&path)) {
+            return 0;
+        }
+        let next = NextBits {
+            path,
+            frame,
+            slot,
+            made,
+            end,
+            end_frame: end_frame as u64,
+        };
+        if !self.meet_nothing(next, clock, feed) {
+            return 0;
+        }
+        most
     }
 
     fn piece<F: Feed>(
@@ -54,7 +87,7 @@ impl<S: Shape, C: Tx> Body<S> for Tributaries<S, C> {
         feed: &mut F,
         into: &mut Packed,
     ) -> Result<bool, Failed> {
-        match self.begin(at.path, at.frame, at.slot, clock, feed) {
+        match self.begin(at.path, at.frame, at.slot, clock, feed, &mut NoSlips) {
             Ok(()) => {
                 write_overhead::<S, Vec<Tributary<C>>>(
                     &self.layout,

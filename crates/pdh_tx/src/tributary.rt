@@ -2,9 +2,9 @@
 
 ghost use Rattle.std.specs.Prelude.{◌≡◌, ◌+◌, ◌<◌, ◌≤◌, ℕ, suc, OnOk, OnErr, IfOk, IfErr, length, nat_le};
 ghost use Rattle.pdh_shape.specs.OwnNumbers.{lead, threshold, store_size};
-ghost use Rattle.pdh_tx.specs.Meaning.{Plan, Supply, plan_of};
+ghost use Rattle.pdh_tx.specs.Meaning.{Plan, Supply, plan_in};
 ghost use Rattle.pdh_tx.specs.Calls.{Draws, DrawsClear, HasRoomFor, HasSameRoom, IsFed};
-ghost use Rattle.pdh_tx.specs.Tributary.{placed_in, held_in, meaning_in, KeepsShare, StandsIn, TakesNext, StopsAtNext, TakesLead, StopsInLead};
+ghost use Rattle.pdh_tx.specs.Tributary.{placed_in, held_in, meaning_in, KeepsShare, StandsIn, TakesNext, StopsAtNext, TellsArrival, TakesLead, StopsInLead, TellsLead};
 ghost use Rattle.pdh_tx.specs.Passing.{PassesFreely, PassesColumn, HaltsPassing};
 
 use crate::{Tx, TxStop};
@@ -13,6 +13,7 @@ use pdh_edge::{Failed, Feed};
 use pdh_packed::Packed;
 use pdh_runs::Layout;
 use pdh_shape::{LEAD, Place, Shape};
+use pdh_slips::SlipLog;
 use pdh_store::{Store, Underflow};
 
 /// What a frame brings and carries of a tributary.
@@ -38,23 +39,25 @@ pub struct Tributary<C: Tx> {
 impl<C: Tx> Tributary<C> {
     /// Takes the child's next bit into the store.
     #[inline(always)]
-    pub fn arrive<F: Feed>(
+    pub fn arrive<F: Feed, G: SlipLog>(
         &mut self,
         place: Place,
         clock: &Schedule,
         feed: &mut F,
+        log: &mut G,
     ) -> Result<(), TxStop>
         requires fed { IsFed (meaning_in C.Tx self.old) clock.now (F.inputs feed.old) }
-        requires placed { StandsIn C.Tx self.old clock.now }
-        ensures ok { OnOk result (TakesNext C.Tx self.old self.new clock.now place
+        requires placed { StandsIn C.Tx self.old (plan_in clock.now G.takes) }
+        ensures ok { OnOk result (TakesNext C.Tx self.old self.new (plan_in clock.now G.takes) place
             (F.inputs feed.old) (F.inputs feed.new)) }
-        ensures err { IfErr result (λ stop. StopsAtNext C.Tx self.old clock.now place stop
+        ensures err { IfErr result (λ stop. StopsAtNext C.Tx self.old (plan_in clock.now G.takes) place stop
             (F.inputs feed.old) (F.inputs feed.new) (F.feed_faults feed.old) (F.feed_faults feed.new)) }
+        ensures told { TellsArrival C.Tx self.old (plan_in clock.now G.takes) G.SlipLog log.old log.new result }
         ensures fed { Draws F.Feed feed.old feed.new result }
         ensures kept { KeepsShare C.Tx self.old self.new }
         ensures store { OnErr result (self.new.store ≡ self.old.store) }
     {
-        let bit = self.child.next(clock, feed)?;
+        let bit = self.child.next(clock, feed, log)?;
         match self.store.arrive(bit) {
             Ok(()) => Ok(()),
             Err(_) => Err(TxStop::Overflow(place)),
@@ -101,23 +104,25 @@ impl<C: Tx> Tributary<C> {
     }
 
     /// Takes the child's first bits, which stand in the store before the first frame.
-    pub fn lead<F: Feed>(
+    pub fn lead<F: Feed, G: SlipLog>(
         &mut self,
         place: Place,
         clock: &Schedule,
         feed: &mut F,
+        log: &mut G,
     ) -> Result<(), TxStop>
         requires fed { IsFed (meaning_in C.Tx self.old) clock.now (F.inputs feed.old) }
-        requires placed { placed_in C.Tx self.old (plan_of clock.now) 0 0 }
-        ensures ok { OnOk result (TakesLead C.Tx self.old self.new clock.now
+        requires placed { placed_in C.Tx self.old (plan_in clock.now G.takes) 0 0 }
+        ensures ok { OnOk result (TakesLead C.Tx self.old self.new (plan_in clock.now G.takes)
             (F.inputs feed.old) (F.inputs feed.new)) }
-        ensures err { IfErr result (λ stop. StopsInLead C.Tx self.old clock.now stop
+        ensures err { IfErr result (λ stop. StopsInLead C.Tx self.old (plan_in clock.now G.takes) stop
             (F.inputs feed.old) (F.inputs feed.new) (F.feed_faults feed.old) (F.feed_faults feed.new)) }
+        ensures told { TellsLead C.Tx self.old (plan_in clock.now G.takes) G.SlipLog log.old log.new result }
         ensures fed { Draws F.Feed feed.old feed.new result }
         ensures kept { KeepsShare C.Tx self.old self.new }
     {
         for _taken in 0..LEAD {
-            self.arrive(place, clock, feed)?;
+            self.arrive(place, clock, feed, log)?;
         }
         Ok(())
     }

@@ -3,13 +3,14 @@
 ghost use Rattle.std.specs.Prelude.{◌≡◌, ◌≤◌, ◌+◌, ℕ, suc, Bool, false, is_err, length, IfOk, OnOk, IfErr, OnErr};
 ghost use Rattle.pdh_packed.specs.Gaining.{gained};
 ghost use Rattle.pdh_shape.specs.declared.role.Service.{Service};
-ghost use Rattle.pdh_tx.specs.Meaning.{Supply, Plan, Meaning};
-ghost use Rattle.pdh_tx.specs.Calls.{Draws, DrawsClear, Appends, IsFed, IsKept, StandsBy, StandsClear, MakesNext, StopsNext, MakesNextAll, HaltsNext};
+ghost use Rattle.pdh_tx.specs.Meaning.{Supply, Plan, plan_in, plan_of, Meaning};
+ghost use Rattle.pdh_tx.specs.Calls.{Draws, DrawsClear, Appends, IsFed, IsKept, StandsBy, StandsClear, GoesFree, MakesNext, StopsNext, TellsNext, MakesNextAll, HaltsNext};
 
 use pdh_clock::Schedule;
 use pdh_edge::{Failed, Feed};
 use pdh_packed::Packed;
 use pdh_shape::{Path, Place};
+use pdh_slips::SlipLog;
 
 /// Why a line has no next bit.
 #[derive(Clone, Copy, Debug, PartialEq, Eq)]
@@ -24,6 +25,8 @@ pub enum TxStop {
     Failed,
     /// A leaf's list is used up.
     Ended { leaf: u32 },
+    /// The log couldn't be told of a slip.
+    LogFailed,
 }
 
 /// Makes a line, bit by bit. A bit's steps come in this order: in slot 0 of a frame it is judged
@@ -56,18 +59,33 @@ pub trait Tx: Drop {
         ensures { result ≡ is_stopped self.now };
 
     /// Makes the next bit of the line, or answers what stands first in the way of it: Failed only
-    /// where the feed's count of faults rose, and any other stop exactly where it is the first.
-    fn next<F: Feed>(&mut self, clock: &Schedule, feed: &mut F) -> Result<bool, TxStop>
+    /// where the feed's count of faults rose, LogFailed only where the log's did, and any other stop
+    /// exactly where it is the first. The log is told of each slip in its place in the order of steps.
+    fn next<F: Feed, G: SlipLog>(
+        &mut self,
+        clock: &Schedule,
+        feed: &mut F,
+        log: &mut G,
+    ) -> Result<bool, TxStop>
         requires running { is_stopped self.old ≡ false }
         requires fed { IsFed (meaning self.old) clock.now (F.inputs feed.old) }
-        requires stands { StandsBy stands_at self.old clock.now }
-        ensures made { IfOk result (λ bit. MakesNext meaning says stands_at stands_for self.old self.new clock.now bit
+        requires stands { StandsBy stands_at self.old (plan_in clock.now G.takes) }
+        ensures made { IfOk result (λ bit. MakesNext meaning says stands_at stands_for self.old self.new (plan_in clock.now G.takes) bit
             (F.inputs feed.old) (F.inputs feed.new)) }
-        ensures stops { IfErr result (λ stop. StopsNext meaning stands_at self.old clock.now stop
+        ensures stops { IfErr result (λ stop. StopsNext meaning stands_at self.old (plan_in clock.now G.takes) stop
             (F.inputs feed.old) (F.inputs feed.new) (F.feed_faults feed.old) (F.feed_faults feed.new)) }
+        ensures told { TellsNext meaning stands_at self.old (plan_in clock.now G.takes) G.SlipLog log.old log.new result }
         ensures stopped { is_stopped self.new ≡ is_err result }
         ensures fed { Draws F.Feed feed.old feed.new result }
         ensures kept { IsKept meaning says self.old self.new };
+
+    /// How many next bits of the line, up to so many, surely meet nothing: no event of a store, its own or one below, and no
+    /// end of a node's frames or of a leaf's list. More bits may meet nothing than it answers.
+    fn quiet<F: Feed>(&self, clock: &Schedule, feed: &F, most: usize) -> usize
+        requires fed { IsFed (meaning self.now) clock.now (F.inputs feed.now) }
+        requires stands { StandsBy stands_at self.now (plan_of clock.now) }
+        ensures most { result ≤ most }
+        ensures free { GoesFree meaning stands_at self.now clock.now result (F.inputs feed.now) };
 
     /// Makes the next bits of the line, so many, in whose way nothing stands, and appends them to
     /// `into`; it fails only where the feed's count of faults rose, and the leaves gave no more than

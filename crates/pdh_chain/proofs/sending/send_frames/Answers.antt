@@ -1,10 +1,13 @@
-use Rattle.std.proofs.Common.{◌≡◌, ℕ, ◌*◌, refl, ap, ◌∙◌, arith}
+use Rattle.std.proofs.Common.{◌≡◌, ℕ, ◌+◌, ◌*◌, refl, sym, ap, ◌∙◌, subst, arith}
 use Rattle.pdh_edge.specs.Counts.{one_more}
 use Rattle.pdh_edge.proofs.Progress.{starts, both_counts}
 use Rattle.pdh_edge.proofs.Runs.{rose_of}
-use Rattle.pdh_tx.specs.Meaning.{plan_of, faults_met}
+use Rattle.pdh_edge.specs.Ports.{Inputs}
+use Rattle.pdh_tx.specs.Meaning.{plan_of, Meaning}
+use Rattle.pdh_tx.specs.Making.{IsFree}
+use Rattle.pdh_chain.specs.Muxing.{MakesBits}
 use Rattle.pdh_chain.specs.Saying.{says_of}
-use Rattle.pdh_chain.proofs.Frames.{is_told, sending_none, sending_more, sending_sends, sending_stops, sending_fails, frame_end}
+use Rattle.pdh_chain.proofs.Frames.{is_told, sending_none, sending_more, sending_sends, sending_fails, frame_end, frame_ends, frame_counts, free_none, free_after}
 use Rattle.pdh_chain.proofs.sending.send_frames.Goals as goal
 
 pub loop-whole-init : goal.loop-whole-init
@@ -13,31 +16,49 @@ loop-whole-init g c = record {
   said = c.channel_of-channel.ensures;
   same = refl;
   room = refl;
+  ahead = free_none (g.T.Tx.meaning c.args.sender.now) (plan_of c.args.clock.now) _ _ (g.P.Feed.inputs c.args.port.now) (omega (arith, c.unknown-ahead.ensures));
   lists = refl;
   lines = refl;
   sends = starts (g.met.P.Port.kept_same c.args.port.now) (sending_none (g.T.Tx.meaning c.args.sender.now) (says_of c.args.feac) (g.T.Tx.stands_at c.args.sender.now (plan_of c.args.clock.now)) (g.T.Tx.stands_for c.args.sender.now) (plan_of c.args.clock.now) _ _ _ (omega arith) c.requires.sender.stands);
 }
 
+pub look-known-requires-clause-stands : goal.look-known-requires-clause-stands
+look-known-requires-clause-stands g c =
+    let plan = plan_of c.args.clock.now in
+    let inv = c.loop-whole.invariant in
+    let set = is_told g.T.Tx c.args.sender.now c.loop-whole.sender c.set.new.self plan (says_of c.args.feac) c.args.len c.loop-whole.whole _ _ _ _ c.requires.sender.frames inv.same c.set.ensures.meaning (λ n. c.set.ensures.placed plan n) (λ supply n. c.set.ensures.held supply n) (c.set.ensures.says ∙ c.next_service.ensures.says c.args.feac c.loop-whole.whole inv.said) inv.sends.does in
+    (c.loop-whole.whole * c.args.len, set.sending.makes.place)
+
+pub make_frame-requires-clause-free : goal.make_frame-requires-clause-free
+make_frame-requires-clause-free g c =
+    let plan = plan_of c.args.clock.now in
+    let inv = c.loop-whole.invariant in
+    let x : ℕ = c.loop-whole.whole * c.args.len in
+    let set = is_told g.T.Tx c.args.sender.now c.loop-whole.sender c.set.new.self plan (says_of c.args.feac) c.args.len c.loop-whole.whole _ _ _ _ c.requires.sender.frames inv.same c.set.ensures.meaning (λ n. c.set.ensures.placed plan n) (λ supply n. c.set.ensures.held supply n) (c.set.ensures.says ∙ c.next_service.ensures.says c.args.feac c.loop-whole.whole inv.said) inv.sends.does in
+    let known = subst (λ (m : Meaning). IsFree m plan x (x + c.loop-whole.ahead.clear) (g.P.Feed.inputs c.loop-whole.port)) (sym set.same) inv.ahead in
+    (x, set.sending.makes.place, c.look-known.ensures x set.sending.makes.place known)
+
 pub returns-in-Err-clause-sent : goal.returns-in-Err-clause-sent
 returns-in-Err-clause-sent g c =
     let plan = plan_of c.args.clock.now in
     let inv = c.loop-whole.invariant in
-    let m = g.T.Tx.meaning c.args.sender.now in
-    let set = is_told g.T.Tx c.args.sender.now c.loop-whole.sender c.set.new.self plan (says_of c.args.feac) c.args.len c.loop-whole._whole _ _ _ _ c.requires.sender.frames inv.same c.set.ensures.meaning (λ n. c.set.ensures.placed plan n) (λ supply n. c.set.ensures.held supply n) (c.set.ensures.says ∙ c.next_service.ensures.says c.args.feac c.loop-whole._whole inv.said) inv.sends.does in
+    let set = is_told g.T.Tx c.args.sender.now c.loop-whole.sender c.set.new.self plan (says_of c.args.feac) c.args.len c.loop-whole.whole _ _ _ _ c.requires.sender.frames inv.same c.set.ensures.meaning (λ n. c.set.ensures.placed plan n) (λ supply n. c.set.ensures.held supply n) (c.set.ensures.says ∙ c.next_service.ensures.says c.args.feac c.loop-whole.whole inv.said) inv.sends.does in
     let reads : g.P.Feed.feed_faults c.loop-whole.port ≡ g.P.Feed.feed_faults c.args.port.now = ap (λ (k : ℕ × ℕ). k.0) inv.sends.counts in
     let fed = g.met.P.Port.fed_keeps_outputs _ _ c.make_frame.ensures.fed.fed in
-    let stops = c.in-Err.ensures.stops _ set.sending.makes.place in
+    let stops = c.in-Err.ensures.stops in
+    let writes = fed.1 ∙ ap (λ (k : ℕ × ℕ). k.1) inv.sends.counts in
     record {
       kept = g.met.P.Port.kept_join _ _ _ inv.sends.kept (g.met.P.Port.fed_is_kept _ _ c.make_frame.ensures.fed.fed);
-      counts = both_counts (stops.at.met.counted ∙ ap (faults_met c.in-Err.stop) reads) (fed.1 ∙ ap (λ (k : ℕ × ℕ). k.1) inv.sends.counts);
-      does = sending_stops m (g.T.Tx.meaning c.set.new.self) (says_of c.args.feac) _ _ _ plan c.args.len c.args.frames c.loop-whole._whole _ _ _ _ _ _ _ _ _ _ set.same fed.0 c.loop-whole-test.true reads set.sending stops;
+      counts = frame_counts g.T.Tx c.args.sender.now c.set.new.self c.args.clock.now (says_of c.args.feac) _ _ c.args.len c.args.frames c.loop-whole.whole _ _ _ _ _ set.same set.sending c.in-Err.stop _ _ _ _ _ reads writes stops;
+      does = frame_ends g.T.Tx c.args.sender.now c.set.new.self c.args.clock.now (says_of c.args.feac) _ _ c.args.len c.args.frames c.loop-whole.whole _ _ _ _ _ set.same set.sending c.in-Err.stop _ _ _ _ _ _ fed.0 c.loop-whole-test.true reads stops;
     }
 
 pub returns-in-Err-put_all-clause-sent : goal.returns-in-Err-put_all-clause-sent
 returns-in-Err-put_all-clause-sent g c =
     let plan = plan_of c.args.clock.now in
     let inv = c.loop-whole.invariant in
-    let set = is_told g.T.Tx c.args.sender.now c.loop-whole.sender c.set.new.self plan (says_of c.args.feac) c.args.len c.loop-whole._whole _ _ _ _ c.requires.sender.frames inv.same c.set.ensures.meaning (λ n. c.set.ensures.placed plan n) (λ supply n. c.set.ensures.held supply n) (c.set.ensures.says ∙ c.next_service.ensures.says c.args.feac c.loop-whole._whole inv.said) inv.sends.does in
+    let set = is_told g.T.Tx c.args.sender.now c.loop-whole.sender c.set.new.self plan (says_of c.args.feac) c.args.len c.loop-whole.whole _ _ _ _ c.requires.sender.frames inv.same c.set.ensures.meaning (λ n. c.set.ensures.placed plan n) (λ supply n. c.set.ensures.held supply n) (c.set.ensures.says ∙ c.next_service.ensures.says c.args.feac c.loop-whole.whole inv.said) inv.sends.does in
+    let known = subst (λ (m : Meaning). IsFree m plan (c.loop-whole.whole * c.args.len) (c.loop-whole.whole * c.args.len + c.loop-whole.ahead.clear) (g.P.Feed.inputs c.loop-whole.port)) (sym set.same) inv.ahead in
     let fed = g.met.P.Port.fed_keeps_outputs c.loop-whole.port c.make_frame.new.feed c.make_frame.ensures.fed.fed in
     let drained = g.met.P.Port.drained_keeps_inputs _ _ c.put_all.ensures.drained in
     let writes : g.P.Drain.drain_faults c.make_frame.new.feed ≡ g.P.Drain.drain_faults c.args.port.now = fed.1 ∙ ap (λ (k : ℕ × ℕ). k.1) inv.sends.counts in
@@ -47,35 +68,42 @@ returns-in-Err-put_all-clause-sent g c =
       counts = both_counts (drained.1 ∙ c.in_default.ensures.fed.unfailed ∙ ap (λ (k : ℕ × ℕ). k.0) inv.sends.counts) (c.in-Err-put_all.ensures.cause ∙ ap one_more writes);
       does = sending_fails _ _ _ _ _ _ _ _ _ _ _ _ c.make_frame.new.frame.bits c.make_frame.new.frame.bits _ _ _ _ _ _ _ _ (g.P.Drain.drain_faults c.args.port.now) (g.P.Drain.drain_faults c.make_frame.new.feed) (g.P.Drain.drain_faults c.put_all.new.self) set.same refl
           drained.0 fed.0 c.loop-whole-test.true (omega (arith, writes)) set.sending
-          (c.in_default.ensures.made (c.loop-whole._whole * c.args.len) (says_of c.args.feac) set.sending.makes.place (set.told _ set.same)) c.in-Err-put_all.ensures.err (rose_of _ _ c.in-Err-put_all.ensures.cause);
+          (c.in_default.ensures.made (c.loop-whole.whole * c.args.len) (says_of c.args.feac) set.sending.makes.place (c.look-known.ensures _ set.sending.makes.place known) (set.told _ set.same)) c.in-Err-put_all.ensures.err (rose_of _ _ c.in-Err-put_all.ensures.cause);
     }
 
 pub loop-whole-preserved : goal.loop-whole-preserved
 loop-whole-preserved g c =
     let plan = plan_of c.args.clock.now in
     let inv = c.loop-whole.invariant in
-    let set = is_told g.T.Tx c.args.sender.now c.loop-whole.sender c.set.new.self plan (says_of c.args.feac) c.args.len c.loop-whole._whole _ _ _ _ c.requires.sender.frames inv.same c.set.ensures.meaning (λ n. c.set.ensures.placed plan n) (λ supply n. c.set.ensures.held supply n) (c.set.ensures.says ∙ c.next_service.ensures.says c.args.feac c.loop-whole._whole inv.said) inv.sends.does in
+    let set = is_told g.T.Tx c.args.sender.now c.loop-whole.sender c.set.new.self plan (says_of c.args.feac) c.args.len c.loop-whole.whole _ _ _ _ c.requires.sender.frames inv.same c.set.ensures.meaning (λ n. c.set.ensures.placed plan n) (λ supply n. c.set.ensures.held supply n) (c.set.ensures.says ∙ c.next_service.ensures.says c.args.feac c.loop-whole.whole inv.said) inv.sends.does in
+    let known = subst (λ (m : Meaning). IsFree m plan (c.loop-whole.whole * c.args.len) (c.loop-whole.whole * c.args.len + c.loop-whole.ahead.clear) (g.P.Feed.inputs c.loop-whole.port)) (sym set.same) inv.ahead in
     let fed = g.met.P.Port.fed_keeps_outputs c.loop-whole.port c.make_frame.new.feed c.make_frame.ensures.fed.fed in
     let drained = g.met.P.Port.drained_keeps_inputs c.make_frame.new.feed c.put_all.new.self c.put_all.ensures.drained in
     let moved = g.met.P.Port.kept_join _ _ _ (g.met.P.Port.fed_is_kept _ _ c.make_frame.ensures.fed.fed) (g.met.P.Port.drained_is_kept _ _ c.put_all.ensures.drained) in
     record {
       running = c.in_default.ensures.running;
-      said = c.next_service.ensures.said c.args.feac c.loop-whole._whole inv.said;
+      said = c.next_service.ensures.said c.args.feac c.loop-whole.whole inv.said;
       same = c.make_frame.ensures.kept.same ∙ set.same;
       room = c.make_frame.ensures.room ∙ inv.room;
+      ahead = subst (λ (i : Inputs). IsFree (g.T.Tx.meaning c.args.sender.now) plan ((c.loop-whole.whole + 1) * c.args.len) ((c.loop-whole.whole + 1) * c.args.len + c.after-ahead.result.clear) i) (sym drained.0)
+          (free_after (g.T.Tx.meaning c.args.sender.now) (says_of c.args.feac) (g.T.Tx.stands_at c.make_frame.new.sender plan) (g.T.Tx.stands_for c.set.new.self) (g.T.Tx.stands_for c.make_frame.new.sender) plan (c.loop-whole.whole * c.args.len) ((c.loop-whole.whole + 1) * c.args.len) _ c.look-known.result.clear c.args.len _ _ _
+          (subst (λ (m : Meaning). MakesBits m (says_of c.args.feac) (g.T.Tx.stands_at c.make_frame.new.sender plan) (g.T.Tx.stands_for c.set.new.self) (g.T.Tx.stands_for c.make_frame.new.sender) plan (c.loop-whole.whole * c.args.len) ((c.loop-whole.whole + 1) * c.args.len) c.make_frame.new.frame.bits (g.P.Feed.inputs c.loop-whole.port) (g.P.Feed.inputs c.make_frame.new.feed)) set.same
+          (subst (λ (to : ℕ). MakesBits (g.T.Tx.meaning c.set.new.self) (says_of c.args.feac) (g.T.Tx.stands_at c.make_frame.new.sender plan) (g.T.Tx.stands_for c.set.new.self) (g.T.Tx.stands_for c.make_frame.new.sender) plan (c.loop-whole.whole * c.args.len) to c.make_frame.new.frame.bits (g.P.Feed.inputs c.loop-whole.port) (g.P.Feed.inputs c.make_frame.new.feed)) (frame_end c.loop-whole.whole c.args.len) (c.in_default.ensures.made (c.loop-whole.whole * c.args.len) (says_of c.args.feac) set.sending.makes.place (c.look-known.ensures _ set.sending.makes.place known) (set.told _ set.same))))
+          (sym (frame_end c.loop-whole.whole c.args.len)) (omega (arith, c.after-ahead.ensures))
+          (subst (λ (m : Meaning). IsFree m plan (c.loop-whole.whole * c.args.len) (c.loop-whole.whole * c.args.len + c.look-known.result.clear) (g.P.Feed.inputs c.loop-whole.port)) set.same (c.look-known.ensures _ set.sending.makes.place known)));
       lists = ap (λ i. i.holds) drained.0 ∙ g.met.P.Feed.fed_holds c.loop-whole.port c.make_frame.new.feed c.make_frame.ensures.fed.fed ∙ inv.lists;
       lines = g.met.P.Drain.drained_holds c.make_frame.new.feed c.put_all.new.self c.put_all.ensures.drained ∙ ap (λ o. o.holds) fed.0 ∙ inv.lines;
       sends = record {
         kept = g.met.P.Port.kept_join _ _ _ inv.sends.kept moved;
         counts = both_counts (drained.1 ∙ c.in_default.ensures.fed.unfailed) (c.in_default-put_all.ensures.cause ∙ fed.1) ∙ inv.sends.counts;
-        does = sending_more _ _ _ _ _ _ _ _ _ _ _ _ c.make_frame.new.frame.bits c.make_frame.new.frame.bits _ _ _ _ _ _ _ _ set.same refl drained.0 fed.0 (frame_end c.loop-whole._whole c.args.len) set.sending
-            (c.in_default.ensures.made (c.loop-whole._whole * c.args.len) (says_of c.args.feac) set.sending.makes.place (set.told _ set.same)) c.in_default-put_all.ensures.ok;
+        does = sending_more _ _ _ _ _ _ _ _ _ _ _ _ c.make_frame.new.frame.bits c.make_frame.new.frame.bits _ _ _ _ _ _ _ _ set.same refl drained.0 fed.0 (frame_end c.loop-whole.whole c.args.len) set.sending
+            (c.in_default.ensures.made (c.loop-whole.whole * c.args.len) (says_of c.args.feac) set.sending.makes.place (c.look-known.ensures _ set.sending.makes.place known) (set.told _ set.same)) c.in_default-put_all.ensures.ok;
       };
     }
 
 pub returns-clause-sent : goal.returns-clause-sent
 returns-clause-sent g c =
-    let all : c.loop-whole._whole ≡ c.args.frames = omega arith in
+    let all : c.loop-whole.whole ≡ c.args.frames = omega arith in
     let sends = c.loop-whole.invariant.sends in
     record {
       kept = sends.kept;

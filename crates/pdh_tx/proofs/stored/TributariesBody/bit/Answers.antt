@@ -1,21 +1,23 @@
-use Rattle.std.proofs.Common.{rules, ◌≡◌, ℕ, suc, length, map, List, sym, ap, ◌∙◌, subst, Err}
+use Rattle.std.proofs.Common.{rules, ◌≡◌, ℕ, suc, length, map, List, ◌++◌, refl, sym, ap, ◌∙◌, subst, Err}
 use Rattle.std.proofs.lemmas.Result.{IfOk-weaker, IfErr-weaker}
 use Rattle.std.proofs.lemmas.List.{length-map}
 use Rattle.pdh_shape.specs.Frame.{FrameShape}
 use Rattle.pdh_line.specs.Sending.{came_before}
-use Rattle.pdh_tx.specs.Meaning.{plan_of, Plan, Supply, Meaning}
+use Rattle.pdh_tx.specs.Meaning.{plan_in, Plan, Supply, Meaning}
 use Rattle.pdh_tx.specs.Tributary.{placed_in, held_in, meaning_in, share_in}
-use Rattle.pdh_tx.specs.Node.{Advance, Blocked, IsShare, arrivals, came_to, read_to}
+use Rattle.pdh_tx.specs.Node.{Advance, Blocked, IsShare, arrivals, beginning_slips, arrivals_slips, came_to, read_to}
 use Rattle.pdh_tx.proofs.Feeding.{still_fed}
 use Rattle.pdh_tx.proofs.Gaining.{if_err_from}
 use Rattle.pdh_tx.proofs.Lists.{transfer_one}
+use Rattle.pdh_tx.proofs.Telling.{tells_err, front_more, front_join, all_join, tells_after, not_log_failed}
+use Rattle.pdh_tx.specs.Telling.{TellsFront, TellsAll}
 use Rattle.pdh_tx.proofs.BitSteps.{begin_stops, arrival_stops, before_read, read_stops, made_of}
 use Rattle.pdh_tx.proofs.stored.TributariesBody.bit.Goals as goal
 
 pub returns-in_err-begin-clause-err : goal.returns-in_err-begin-clause-err
 returns-in_err-begin-clause-err g c =
     let e : c.from_residual.result ≡ Err c.in_err-begin.field-0.0 = search rules in
-    let plan : Plan = plan_of c.args.clock.now in
+    let plan : Plan = plan_in c.args.clock.now g.G.SlipLog.takes in
     if_err_from c.from_residual.result _ c.in_err-begin.field-0.0 e
     (begin_stops (placed_in g.C.Tx) (held_in g.C.Tx) (meaning_in g.C.Tx) share_in plan g.S.Shape.shape c.args.path c.args.self.now.list.items c.args.frame c.args.slot _ _ _ _ _
     g.met.S.Shape.is_frame (λ v n k. g.met.C.Tx.grows v.child plan n k) c.in_err-begin.ensures.err)
@@ -26,7 +28,7 @@ returns-in_err-take_arrivals-clause-err g c =
     let n : ℕ = c.args.frame in
     let t : ℕ = c.args.slot in
     let e : c.from_residual-in_err-take_arrivals.result ≡ Err c.in_err-take_arrivals.field-0.0 = search rules in
-    let plan : Plan = plan_of c.args.clock.now in
+    let plan : Plan = plan_in c.args.clock.now g.G.SlipLog.takes in
     let ms : List Meaning = map (meaning_in g.C.Tx) c.args.self.now.list.items in
     let P : List Meaning → Type 0 = λ v. Blocked v plan (came_to s c.args.path plan n t 0) (λ j. came_before s (plan.counts c.args.path j) n (suc t)) (λ size. arrivals s c.args.path plan v size n t) c.in_err-take_arrivals.field-0.0
     (g.F.Feed.inputs c.begin.new.feed) (g.F.Feed.inputs c.take_arrivals.new.feed) (g.F.Feed.feed_faults c.begin.new.feed) (g.F.Feed.feed_faults c.take_arrivals.new.feed) in
@@ -39,7 +41,7 @@ returns-clause-made g c =
     let s : FrameShape = g.S.Shape.shape in
     let n : ℕ = c.args.frame in
     let t : ℕ = c.args.slot in
-    let plan : Plan = plan_of c.args.clock.now in
+    let plan : Plan = plan_in c.args.clock.now g.G.SlipLog.takes in
     let placed : _ → Plan → ℕ → ℕ → Type 0 = placed_in g.C.Tx in
     let held : _ → Supply → ℕ → ℕ → Type 0 = held_in g.C.Tx in
     let meaning = meaning_in g.C.Tx in
@@ -65,7 +67,7 @@ returns-clause-err g c =
     let s : FrameShape = g.S.Shape.shape in
     let n : ℕ = c.args.frame in
     let t : ℕ = c.args.slot in
-    let plan : Plan = plan_of c.args.clock.now in
+    let plan : Plan = plan_in c.args.clock.now g.G.SlipLog.takes in
     let placed : _ → Plan → ℕ → ℕ → Type 0 = placed_in g.C.Tx in
     let held : _ → Supply → ℕ → ℕ → Type 0 = held_in g.C.Tx in
     let meaning = meaning_in g.C.Tx in
@@ -90,3 +92,36 @@ pub take_arrivals-requires-clause-fed : goal.take_arrivals-requires-clause-fed
 take_arrivals-requires-clause-fed g c =
     let ok = c.in_ok-begin.ensures in
     still_fed c.args.self.now c.begin.new.self c.args.path c.args.clock.now (g.F.Feed.inputs c.args.feed.now) (g.F.Feed.inputs c.begin.new.feed) ok.same (g.met.F.Feed.fed_holds c.args.feed.now c.begin.new.feed ok.fed.fed) c.requires.fed
+
+pub returns-in_err-begin-clause-told : goal.returns-in_err-begin-clause-told
+returns-in_err-begin-clause-told g c =
+    let s : FrameShape = g.S.Shape.shape in
+    let plan : Plan = plan_in c.args.clock.now g.G.SlipLog.takes in
+    let ms : List Meaning = map (meaning_in g.C.Tx) c.args.self.now.list.items in
+    let stop = c.in_err-begin.field-0.0 in
+    let e : c.from_residual.result ≡ Err stop = search rules in
+    tells_err c.from_residual.result stop e
+    (front_more g.G.SlipLog _ _ (beginning_slips s plan ms c.args.frame c.args.slot) (arrivals_slips s c.args.path plan ms c.args.frame c.args.slot) _ stop refl c.in_err-begin.ensures.told.front)
+
+pub returns-in_err-take_arrivals-clause-told : goal.returns-in_err-take_arrivals-clause-told
+returns-in_err-take_arrivals-clause-told g c =
+    let s : FrameShape = g.S.Shape.shape in
+    let plan : Plan = plan_in c.args.clock.now g.G.SlipLog.takes in
+    let ms : List Meaning = map (meaning_in g.C.Tx) c.args.self.now.list.items in
+    let stop = c.in_err-take_arrivals.field-0.0 in
+    let e : c.from_residual-in_err-take_arrivals.result ≡ Err stop = search rules in
+    let P : List Meaning → Type 0 = λ v. TellsFront g.G.SlipLog c.begin.new.log c.take_arrivals.new.log (arrivals_slips s c.args.path plan v c.args.frame c.args.slot) stop in
+    tells_err c.from_residual-in_err-take_arrivals.result stop e
+    (front_join g.G.SlipLog (record { nothing = g.met.G.SlipLog.logged_nothing; joins = g.met.G.SlipLog.logged_join; breaks = g.met.G.SlipLog.broken_join }) _ _ _ (beginning_slips s plan ms c.args.frame c.args.slot) (arrivals_slips s c.args.path plan ms c.args.frame c.args.slot) stop
+    c.in_ok-begin.ensures.told.all (subst P c.in_ok-begin.ensures.same c.in_err-take_arrivals.ensures.told.front))
+
+pub returns-clause-told : goal.returns-clause-told
+returns-clause-told g c =
+    let s : FrameShape = g.S.Shape.shape in
+    let plan : Plan = plan_in c.args.clock.now g.G.SlipLog.takes in
+    let ms : List Meaning = map (meaning_in g.C.Tx) c.args.self.now.list.items in
+    let P : List Meaning → Type 0 = λ v. TellsAll g.G.SlipLog c.begin.new.log c.take_arrivals.new.log (arrivals_slips s c.args.path plan v c.args.frame c.args.slot) in
+    tells_after g.G.SlipLog (record { nothing = g.met.G.SlipLog.logged_nothing; joins = g.met.G.SlipLog.logged_join; breaks = g.met.G.SlipLog.broken_join }) _ _ (beginning_slips s plan ms c.args.frame c.args.slot ++ arrivals_slips s c.args.path plan ms c.args.frame c.args.slot) c.slot_bit.result
+    (IfErr-weaker c.slot_bit.result _ _ (λ stop first. not_log_failed stop first.0) c.slot_bit.ensures.stop)
+    (all_join g.G.SlipLog (record { nothing = g.met.G.SlipLog.logged_nothing; joins = g.met.G.SlipLog.logged_join; breaks = g.met.G.SlipLog.broken_join }) _ _ _ (beginning_slips s plan ms c.args.frame c.args.slot) (arrivals_slips s c.args.path plan ms c.args.frame c.args.slot)
+    c.in_ok-begin.ensures.told.all (subst P c.in_ok-begin.ensures.same c.in_ok-take_arrivals.ensures.told.all))

@@ -12,6 +12,7 @@ use Rattle.pdh_tx.specs.Passing.{made_through, read_through, HoldsBits, HasRows,
 use Rattle.pdh_tx.specs.Tributaries.{meanings, columns, HavePassed}
 use Rattle.pdh_tx.proofs.Feeding.{still_fed}
 use Rattle.pdh_tx.proofs.Lists.{transfer_one}
+use Rattle.pdh_tx.proofs.Telling.{told_all}
 use Rattle.pdh_tx.proofs.Gaining.{on_err_from}
 use Rattle.pdh_tx.proofs.PassingAll.{rows_all}
 use Rattle.pdh_tx.proofs.PieceSteps.{piece_makes}
@@ -84,5 +85,5 @@ returns-in-Err-clause-halts g c =
 pub returns-in-Err-clause-fed : goal.returns-in-Err-clause-fed
 returns-in-Err-clause-fed g c = record {
   fed = c.in-Err.ensures.fed.fed;
-  cause = begin_failed g.met.S.Shape.is_frame g.met.S.Shape.has_tributaries g.met.S.Shape.tribs_is c.args.self.now c.args.clock.now c.args.at (omega (arith, c.requires.piece.inside, g.met.S.Shape.len_is)) _ _ _ _ _ c.in-Err.ensures.err c.requires.piece.some c.requires.clear;
+  cause = begin_failed g.met.S.Shape.is_frame g.met.S.Shape.has_tributaries g.met.S.Shape.tribs_is c.args.self.now c.args.clock.now c.args.at (omega (arith, c.requires.piece.inside, g.met.S.Shape.len_is)) _ _ _ _ _ c.in-Err.ensures.err (told_all _ c.in-Err.ensures.told.front.counted) c.requires.piece.some c.requires.clear;
 }

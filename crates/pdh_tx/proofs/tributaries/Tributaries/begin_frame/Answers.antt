@@ -1,20 +1,22 @@
-use Rattle.std.proofs.Common.{◌≡◌, ◌<◌, ◌≤◌, ℕ, length, map, sym, ap, ◌∙◌, arith}
+use Rattle.std.proofs.Common.{rules, ◌≡◌, ◌<◌, ◌≤◌, ℕ, length, map, refl, sym, ap, ◌∙◌, arith, Err}
 use Rattle.std.proofs.lemmas.List.{length-map}
 use Rattle.pdh_shape.specs.Frame.{FrameShape}
-use Rattle.pdh_tx.specs.Meaning.{plan_of, Plan}
+use Rattle.pdh_tx.specs.Meaning.{plan_in, Plan}
 use Rattle.pdh_tx.specs.Held.{Placed, Held}
 use Rattle.pdh_tx.specs.Tributary.{placed_in, held_in, meaning_in, child_in, store_in}
 use Rattle.pdh_tx.specs.Node.{came_to, read_to}
 use Rattle.pdh_tx.proofs.Lists.{transfer}
 use Rattle.pdh_tx.proofs.Moving.{inside}
 use Rattle.pdh_tx.proofs.FrameStarts.{decision, started, meanings, blocked_none}
+use Rattle.pdh_tx.proofs.Telling.{tells_err, front_first}
+use Rattle.pdh_tx.specs.declared.tx.TxStop.TheVariants.{NoFrame}
 use Rattle.pdh_tx.proofs.tributaries.Tributaries.begin_frame.Goals as goal
 
 pub returns-clause-decided : goal.returns-clause-decided
 returns-clause-decided g c j w e =
     let s : FrameShape = g.S.Shape.shape in
     let n : ℕ = c.args.frame in
-    let plan : Plan = plan_of c.args.clock.now in
+    let plan : Plan = plan_in c.args.clock.now g.G.SlipLog.takes in
     let was = transfer child_in store_in (λ child store j. Placed g.C.Tx.stands_at g.C.Tx.says g.C.Tx.is_stopped child store plan (came_to s c.args.path plan n 0 0 j) (read_to s c.args.path plan n 0 j))
     c.take_first.new.self.list.items c.decide_all.new.self.list.items c.decide_all.ensures.child c.decide_all.ensures.store c.in_ok-take_first.ensures.ok.place j w e in
     let count = was.count in
@@ -34,7 +36,7 @@ pub returns-clause-ok : goal.returns-clause-ok
 returns-clause-ok g c =
     let s : FrameShape = g.S.Shape.shape in
     let n : ℕ = c.args.frame in
-    let plan : Plan = plan_of c.args.clock.now in
+    let plan : Plan = plan_in c.args.clock.now g.G.SlipLog.takes in
     let ok = c.in_ok-take_first.ensures.ok in
     record {
       place = transfer child_in store_in (λ child store j. Placed g.C.Tx.stands_at g.C.Tx.says g.C.Tx.is_stopped child store plan (came_to s c.args.path plan n 0 0 j) (read_to s c.args.path plan n 0 j))
@@ -57,7 +59,16 @@ returns-clause-same g c =
 
 pub returns-then-frame-frames-clause-err : goal.returns-then-frame-frames-clause-err
 returns-then-frame-frames-clause-err g c =
-    let plan : Plan = plan_of c.args.clock.now in
+    let plan : Plan = plan_in c.args.clock.now g.G.SlipLog.takes in
     let none : plan.frames c.args.path ≤ c.args.frame = omega (arith, c.if-frame-frames.true, c.frames.ensures) in
     blocked_none (placed_in g.C.Tx) (held_in g.C.Tx) (meaning_in g.C.Tx) plan g.S.Shape.shape c.args.path c.args.self.now.list.items c.args.frame _ _
     (λ v n k. g.met.C.Tx.grows v.child plan n k) none
+
+pub returns-then-frame-frames-clause-told : goal.returns-then-frame-frames-clause-told
+returns-then-frame-frames-clause-told g c =
+    tells_err _ (NoFrame c.args.path) refl (front_first g.G.SlipLog (record { nothing = g.met.G.SlipLog.logged_nothing; joins = g.met.G.SlipLog.logged_join; breaks = g.met.G.SlipLog.broken_join }) c.args.log.now _ (NoFrame c.args.path) (λ h. cc))
+
+pub returns-in_err-take_first-clause-told : goal.returns-in_err-take_first-clause-told
+returns-in_err-take_first-clause-told g c =
+    let e : c.from_residual.result ≡ Err c.in_err-take_first.field-0.0 = search rules in
+    tells_err c.from_residual.result c.in_err-take_first.field-0.0 e c.in_err-take_first.ensures.told.front

@@ -1,20 +1,15 @@
 use Rattle.pdh_tx.specs.Node.{IsDisjoint}
-use Rattle.std.proofs.Common.{◌≡◌, ◌<◌, ◌≤◌, ◌+◌, ◌==◌, ℕ, List, slice_index, IsSome, refl, false, length, sym, ap, ◌∙◌, arith, leb, cond, inl, inr, subst}
+use Rattle.std.proofs.Common.{◌≡◌, ◌<◌, ◌≤◌, ◌+◌, ℕ, List, slice_index, IsSome, refl, length, sym, ap, ◌∙◌, arith, leb, inl, inr, subst}
 use Rattle.std.specs.Option.{option_map_or}
 use Rattle.std.proofs.lemmas.Bool.{cases_lt, cases_eq}
 use Rattle.std.proofs.lemmas.List.{length-set}
 use Rattle.std.proofs.Math.Seq.{map-set_same}
 use Rattle.pdh_shape.specs.OwnNumbers.{threshold}
 use Rattle.pdh_levels.specs.Levels.{len_at, level_stores, stores_at}
-use Rattle.pdh_line.specs.Progress.{stores_of}
-use Rattle.pdh_line.specs.Progress.Stores.{Elastic, Locked}
-use Rattle.pdh_line.specs.Sending.{shape_numbers}
-use Rattle.pdh_shape.specs.Frame.{FrameShape}
-use Rattle.pdh_shape.specs.Tributary.{reads_below}
-use Rattle.pdh_shape.specs.declared.place.Level.{Level}
 use Rattle.pdh_line.specs.Paths.{steps_of}
-use Rattle.pdh_tx.specs.Meaning.{plan_of, HasNumbers, is_locked}
+use Rattle.pdh_tx.specs.Meaning.{plan_of}
 use Rattle.pdh_tx.specs.Tributary.{child_in, store_in, share_in, would_carry, meaning_in}
+use Rattle.pdh_tx.proofs.FrameStarts.{all_stores}
 use Rattle.pdh_tx.proofs.Moving.{slice_get_set, inside}
 use Rattle.pdh_tx.proofs.tributaries.Tributaries.decide_all.Goals as goal
 
@@ -23,12 +18,6 @@ before j i h other = elim (cases_lt j i) [
   | inl less ↦ less
   | inr more ↦ absurd (other (omega arith))
 ]
-
--- each tributary of a level whose shape has control bits has a store
-all_stores : (s : FrameShape) (level : Level) → (s.copies == 0) ≡ false → HasNumbers level (shape_numbers s) → level_stores level ≡ s.tribs
-all_stores s level stores has =
-    let elastic : level.locked ≡ false = has.locked ∙ ap (λ b. is_locked (cond b (Locked (λ j t. reads_below s j false t)) Elastic)) stores in
-    ap (λ b. stores_of (record { len = level.len; tribs = level.tribs; low = level.low; stores = cond b (Locked (λ j t. 0)) Elastic })) elastic ∙ has.tribs
 
 pub counts-arriving-requires-clause-node : goal.counts-arriving-requires-clause-node
 counts-arriving-requires-clause-node g c = subst IsSome (sym c.requires.node.at) refl

@@ -1,4 +1,4 @@
-use Rattle.std.proofs.Common.{rules, ◌≡◌, ◌<◌, ℕ, suc, length, map, true, false, refl, sym, ap, ◌∙◌, subst, arith, Some, slice_get}
+use Rattle.std.proofs.Common.{rules, ◌≡◌, ◌<◌, ℕ, suc, List, [], length, map, true, false, cond, refl, sym, ap, ◌∙◌, subst, arith, Some, slice_get}
 use Rattle.std.proofs.lemmas.Option.{slice_get_read, slice_get-map}
 use Rattle.std.proofs.lemmas.List.{length-map, length-set}
 use Rattle.std.proofs.lemmas.Result.{on_ok_weaker, IfErr-weaker}
@@ -6,11 +6,12 @@ use Rattle.std.proofs.Math.Seq.{map-set_same}
 use Rattle.pdh_shape.specs.Frame.{FrameShape}
 use Rattle.pdh_line.specs.Sending.{arrives_at, came_before}
 use Rattle.pdh_line.proofs.SendingLaws.{came_before_grows}
-use Rattle.pdh_tx.specs.Meaning.{plan_of, Plan}
+use Rattle.pdh_tx.specs.Meaning.{plan_in, Plan, Meaning}
 use Rattle.pdh_tx.specs.Held.{Gains, Halts}
 use Rattle.pdh_tx.specs.Tributary.{placed_in, held_in, meaning_in, share_in}
-use Rattle.pdh_tx.specs.Node.{read_to, IsDisjoint}
+use Rattle.pdh_tx.specs.Node.{read_to, slips_below, arrival_slips, IsDisjoint}
 use Rattle.pdh_tx.proofs.Feeding.{fed_one}
+use Rattle.pdh_tx.proofs.Telling.{tells_ok, tells_same, all_none}
 use Rattle.pdh_tx.proofs.Advancing.{upto_here, advance_one, advance_idle, blocked_one}
 use Rattle.pdh_tx.proofs.Arriving.{came_arrives, came_same, no_arrival, arrival_same}
 use Rattle.pdh_tx.proofs.tributaries.Tributaries.take_arrival.Goals as goal
@@ -18,7 +19,7 @@ use Rattle.pdh_tx.proofs.tributaries.Tributaries.take_arrival.Goals as goal
 pub returns-then-not-arrives-clause-ok : goal.returns-then-not-arrives-clause-ok
 returns-then-not-arrives-clause-ok g c =
     let s : FrameShape = g.S.Shape.shape in
-    let plan : Plan = plan_of c.args.clock.now in
+    let plan : Plan = plan_in c.args.clock.now g.G.SlipLog.takes in
     let ws = c.args.self.now.list.items in
     let counts : ℕ → ℕ → ℕ = plan.counts c.args.path in
     let within : c.args.trib < length ws = omega (arith, c.requires.trib, c.args.self.now.count) in
@@ -52,7 +53,7 @@ arrive-requires-clause-placed g c =
 pub returns-clause-ok : goal.returns-clause-ok
 returns-clause-ok g c =
     let s : FrameShape = g.S.Shape.shape in
-    let plan : Plan = plan_of c.args.clock.now in
+    let plan : Plan = plan_in c.args.clock.now g.G.SlipLog.takes in
     let counts : ℕ → ℕ → ℕ = plan.counts c.args.path in
     let i : ℕ = c.args.trib in
     let n : ℕ = c.args.frame in
@@ -86,7 +87,7 @@ returns-clause-ok g c =
 pub returns-clause-err : goal.returns-clause-err
 returns-clause-err g c =
     let s : FrameShape = g.S.Shape.shape in
-    let plan : Plan = plan_of c.args.clock.now in
+    let plan : Plan = plan_in c.args.clock.now g.G.SlipLog.takes in
     let counts : ℕ → ℕ → ℕ = plan.counts c.args.path in
     let i : ℕ = c.args.trib in
     let n : ℕ = c.args.frame in
@@ -127,3 +128,43 @@ invariant_of-self-clause-count g c = length-set c.args.self.now.list.items c.arg
 pub invariant_of-self-clause-disjoint : goal.invariant_of-self-clause-disjoint
 invariant_of-self-clause-disjoint g c =
     subst IsDisjoint (sym (map-set_same (meaning_in g.C.Tx) c.args.self.now.list.items c.args.trib c.arrive.new.self c.index_mut.result.now (c.arrive.ensures.kept.same ∙ ap (meaning_in g.C.Tx) c.index_mut.ensures.value))) c.args.self.now.disjoint
+
+pub returns-then-not-arrives-clause-told : goal.returns-then-not-arrives-clause-told
+returns-then-not-arrives-clause-told g c =
+    let s : FrameShape = g.S.Shape.shape in
+    let plan : Plan = plan_in c.args.clock.now g.G.SlipLog.takes in
+    let ws = c.args.self.now.list.items in
+    let ms : List Meaning = map (meaning_in g.C.Tx) ws in
+    let counts : ℕ → ℕ → ℕ = plan.counts c.args.path in
+    let within : c.args.trib < length ws = omega (arith, c.requires.trib, c.args.self.now.count) in
+    let at : slice_get ws c.args.trib ≡ Some c.index.result.now = slice_get_read _ _ c.args.trib _ refl within c.index.ensures in
+    let share = c.requires.decided c.args.trib _ at in
+    let none : arrives_at s (counts c.args.trib c.args.frame) c.args.slot ≡ false = (let off : c.arrives.result ≡ false = search rules in ap (λ n. arrives_at s n c.args.slot) (sym share.arriving) ∙ sym c.arrives.ensures ∙ off) in
+    tells_same [] (arrival_slips s c.args.path plan ms c.args.frame c.args.slot c.args.trib)
+    (ap (λ b. cond b (slips_below (slice_get ms c.args.trib) plan (came_before s (counts c.args.trib) c.args.frame c.args.slot)) []) none)
+    (tells_ok tt (all_none g.G.SlipLog (record { nothing = g.met.G.SlipLog.logged_nothing; joins = g.met.G.SlipLog.logged_join; breaks = g.met.G.SlipLog.broken_join }) c.args.log.now))
+
+pub returns-clause-told : goal.returns-clause-told
+returns-clause-told g c =
+    let s : FrameShape = g.S.Shape.shape in
+    let plan : Plan = plan_in c.args.clock.now g.G.SlipLog.takes in
+    let counts : ℕ → ℕ → ℕ = plan.counts c.args.path in
+    let i : ℕ = c.args.trib in
+    let n : ℕ = c.args.frame in
+    let t : ℕ = c.args.slot in
+    let ws = c.args.self.now.list.items in
+    let ms : List Meaning = map (meaning_in g.C.Tx) ws in
+    let w = c.index_mut.result.now in
+    let within : i < length ws = omega (arith, c.requires.trib, c.args.self.now.count) in
+    let read : slice_get ws i ≡ Some c.index.result.now = slice_get_read _ _ i _ refl within c.index.ensures in
+    let share = c.requires.decided i _ read in
+    let is : arrives_at s (counts i n) t ≡ true = (let on : c.arrives.result ≡ true = search rules in ap (λ n. arrives_at s n t) (sym share.arriving) ∙ sym c.arrives.ensures ∙ on) in
+    let at : slice_get ws i ≡ Some w = slice_get_read _ _ i _ refl within c.index_mut.ensures.value in
+    let maker : slice_get ms i ≡ Some (g.C.Tx.meaning w.child) = slice_get-map (meaning_in g.C.Tx) ws i ∙ rw at refl in
+    let f : ℕ → ℕ = λ j. came_before s (counts j) n t in
+    let h : ℕ → ℕ = λ j. came_before s (counts j) n (suc t) in
+    let P : ℕ → Type 0 = λ v. placed_in g.C.Tx w plan v (read_to s c.args.path plan n t i) in
+    let was : placed_in g.C.Tx w plan (f i) (read_to s c.args.path plan n t i) = subst P (upto_here f h i) (c.requires.placed i w at) in
+    tells_same ((g.C.Tx.meaning w.child).slips plan (f i)) (arrival_slips s c.args.path plan ms n t i)
+    (ap (λ b. cond b (slips_below (slice_get ms i) plan (f i)) []) is ∙ ap (λ o. slips_below o plan (f i)) maker)
+    (c.arrive.ensures.told (f i) _ was)

@@ -1,20 +1,25 @@
 use Rattle.std.proofs.Common.{◌≡◌, ℕ, map, List, refl, ap, ◌∙◌, subst, arith, Some, slice_get, sym}
+use Rattle.std.specs.Prelude.{flat_map}
 use Rattle.std.specs.List.{range_with_len}
 use Rattle.std.proofs.lemmas.Option.{slice_get_read, slice_get-map}
 use Rattle.std.proofs.lemmas.List.{length-set}
 use Rattle.std.proofs.lemmas.Result.{on_ok_weaker, IfErr-weaker}
 use Rattle.std.proofs.Math.Seq.{map-set_same}
 use Rattle.pdh_shape.specs.OwnNumbers.{lead}
-use Rattle.pdh_tx.specs.Meaning.{plan_of, Plan, Meaning}
+use Rattle.pdh_tx.specs.Meaning.{plan_in, Plan, Meaning}
 use Rattle.pdh_tx.specs.Held.{first_some, lead_of}
 use Rattle.pdh_tx.specs.Tributary.{placed_in, held_in, meaning_in}
-use Rattle.pdh_tx.specs.Node.{lead_at, obstacle_of, IsDisjoint}
+use Rattle.pdh_tx.specs.Node.{lead_at, obstacle_of, slips_below, lead_slips, IsDisjoint}
 use Rattle.pdh_tx.proofs.Feeding.{fed_one}
+use Rattle.pdh_tx.proofs.Telling.{tells_same}
 use Rattle.pdh_tx.proofs.Advancing.{upto_here, advance_one, blocked_one}
 use Rattle.pdh_tx.proofs.tributaries.Tributaries.take_lead.Goals as goal
 
 lead_same : (plan : Plan) (ms : List Meaning) (size : ℕ → ℕ) (i : ℕ) (m : Meaning) → slice_get ms i ≡ Some m → first_some (lead_at plan ms size i) ≡ first_some (lead_of m plan size)
 lead_same plan ms size i m at = ap (λ o. first_some (map (obstacle_of o plan size) (range_with_len 0 lead))) at
+
+slips_same : (plan : Plan) (ms : List Meaning) (i : ℕ) (m : Meaning) → slice_get ms i ≡ Some m → lead_slips plan ms i ≡ flat_map (m.slips plan) (range_with_len 0 lead)
+slips_same plan ms i m at = ap (λ o. flat_map (slips_below o plan) (range_with_len 0 lead)) at
 
 pub lead-requires-clause-fed : goal.lead-requires-clause-fed
 lead-requires-clause-fed g c =
@@ -24,11 +29,11 @@ lead-requires-clause-fed g c =
 pub lead-requires-clause-placed : goal.lead-requires-clause-placed
 lead-requires-clause-placed g c =
     let at : slice_get c.args.self.now.list.items c.args.trib ≡ Some c.index_mut.result.now = slice_get_read _ _ c.args.trib _ refl (omega (arith, c.requires.trib, c.args.self.now.count)) c.index_mut.ensures.value in
-    subst (λ n. placed_in g.C.Tx c.index_mut.result.now (plan_of c.args.clock.now) n 0) (upto_here (λ j. 0) (λ j. lead) c.args.trib) (c.requires.placed c.args.trib _ at)
+    subst (λ n. placed_in g.C.Tx c.index_mut.result.now (plan_in c.args.clock.now g.G.SlipLog.takes) n 0) (upto_here (λ j. 0) (λ j. lead) c.args.trib) (c.requires.placed c.args.trib _ at)
 
 pub returns-clause-ok : goal.returns-clause-ok
 returns-clause-ok g c =
-    let plan : Plan = plan_of c.args.clock.now in
+    let plan : Plan = plan_in c.args.clock.now g.G.SlipLog.takes in
     let i : ℕ = c.args.trib in
     let ws = c.args.self.now.list.items in
     let w = c.index_mut.result.now in
@@ -45,7 +50,7 @@ returns-clause-ok g c =
 
 pub returns-clause-err : goal.returns-clause-err
 returns-clause-err g c =
-    let plan : Plan = plan_of c.args.clock.now in
+    let plan : Plan = plan_in c.args.clock.now g.G.SlipLog.takes in
     let i : ℕ = c.args.trib in
     let ws = c.args.self.now.list.items in
     let w = c.index_mut.result.now in
@@ -68,3 +73,13 @@ invariant_of-self-clause-count g c = length-set c.args.self.now.list.items c.arg
 pub invariant_of-self-clause-disjoint : goal.invariant_of-self-clause-disjoint
 invariant_of-self-clause-disjoint g c =
     subst IsDisjoint (sym (map-set_same (meaning_in g.C.Tx) c.args.self.now.list.items c.args.trib c.lead.new.self c.index_mut.result.now (c.lead.ensures.kept.same ∙ ap (meaning_in g.C.Tx) c.index_mut.ensures.value))) c.args.self.now.disjoint
+
+pub returns-clause-told : goal.returns-clause-told
+returns-clause-told g c =
+    let plan : Plan = plan_in c.args.clock.now g.G.SlipLog.takes in
+    let i : ℕ = c.args.trib in
+    let ws = c.args.self.now.list.items in
+    let w = c.index_mut.result.now in
+    let at : slice_get ws i ≡ Some w = slice_get_read _ _ i _ refl (omega (arith, c.requires.trib, c.args.self.now.count)) c.index_mut.ensures.value in
+    tells_same (flat_map ((g.C.Tx.meaning w.child).slips plan) (range_with_len 0 lead)) (lead_slips plan (map (meaning_in g.C.Tx) ws) i)
+    (slips_same plan (map (meaning_in g.C.Tx) ws) i (g.C.Tx.meaning w.child) (slice_get-map (meaning_in g.C.Tx) ws i ∙ rw at refl)) c.lead.ensures.told

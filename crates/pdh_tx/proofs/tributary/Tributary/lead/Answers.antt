@@ -1,8 +1,9 @@
 use Rattle.std.proofs.Common.{rules, ◌≡◌, ◌<◌, ℕ, suc, ◌+◌, length, refl, Err, None, sym, ap, ◌∙◌, subst, arith, inl, inr}
 use Rattle.std.proofs.lemmas.Bool.{cases_lt}
 use Rattle.pdh_shape.specs.OwnNumbers.{lead, store_size}
-use Rattle.pdh_tx.specs.Meaning.{plan_of, Meaning, Fits, Met}
+use Rattle.pdh_tx.specs.Meaning.{plan_in, Meaning, Fits, Met}
 use Rattle.pdh_tx.specs.Held.{Placed, Held, Gains, Halts, first_some, arrival}
+use Rattle.pdh_tx.proofs.Telling.{tells_err, tells_ok, all_none, loop_tells, loop_tells_front, loop_tells_all}
 use Rattle.pdh_tx.proofs.Gaining.{gains_none, gains_join, gains_fit, halts_join, halts_more, arrival_none, lead_met, if_err_from}
 use Rattle.pdh_tx.proofs.tributary.Tributary.lead.Goals as goal
 
@@ -15,13 +16,14 @@ loop-taken-init g c = record {
   fed = g.met.F.Feed.fed_same _;
   same = refl;
   share = refl;
+  told = all_none g.G.SlipLog (record { nothing = g.met.G.SlipLog.logged_nothing; joins = g.met.G.SlipLog.logged_join; breaks = g.met.G.SlipLog.broken_join }) c.args.log.now;
 }
 
 pub returns-in_err-arrive-clause-err : goal.returns-in_err-arrive-clause-err
 returns-in_err-arrive-clause-err g c =
     let inv = c.loop-taken.invariant in
     let i : ℕ = c.loop-taken._taken in
-    let plan = plan_of c.args.clock.now in
+    let plan = plan_in c.args.clock.now g.G.SlipLog.takes in
     let m : Meaning = g.C.Tx.meaning c.args.self.now.child in
     let stop = c.in_err-arrive.field-0.0 in
     let stops = c.in_err-arrive.ensures.err i 0 inv.placed in
@@ -41,7 +43,7 @@ loop-taken-preserved g c =
     let inv = c.loop-taken.invariant in
     let i : ℕ = c.loop-taken._taken in
     let e : suc i ≡ i + 1 = omega arith in
-    let plan = plan_of c.args.clock.now in
+    let plan = plan_in c.args.clock.now g.G.SlipLog.takes in
     let m : Meaning = g.C.Tx.meaning c.args.self.now.child in
     let ok = c.in_ok-arrive.ensures in
     let took = ok.ok i 0 inv.placed in
@@ -64,4 +66,23 @@ loop-taken-preserved g c =
       fed = g.met.F.Feed.fed_join _ _ _ inv.fed ok.fed.fed;
       same = ok.kept.same ∙ inv.same;
       share = ok.kept.share ∙ inv.share;
+      told = loop_tells g.G.SlipLog (record { nothing = g.met.G.SlipLog.logged_nothing; joins = g.met.G.SlipLog.logged_join; breaks = g.met.G.SlipLog.broken_join }) (λ (m : Meaning). m.slips plan) m _ inv.same i _ _ inv.told _ (ok.told i 0 inv.placed).all;
     }
+
+pub returns-in_err-arrive-clause-told : goal.returns-in_err-arrive-clause-told
+returns-in_err-arrive-clause-told g c =
+    let inv = c.loop-taken.invariant in
+    let i : ℕ = c.loop-taken._taken in
+    let plan = plan_in c.args.clock.now g.G.SlipLog.takes in
+    let m : Meaning = g.C.Tx.meaning c.args.self.now.child in
+    let stop = c.in_err-arrive.field-0.0 in
+    let e : c.from_residual.result ≡ Err stop = search rules in
+    tells_err c.from_residual.result stop e
+    (loop_tells_front g.G.SlipLog (record { nothing = g.met.G.SlipLog.logged_nothing; joins = g.met.G.SlipLog.logged_join; breaks = g.met.G.SlipLog.broken_join }) (λ (m : Meaning). m.slips plan) m _ inv.same i _ _ inv.told lead stop _ (omega (arith, c.loop-taken-test.true)) (c.in_err-arrive.ensures.told i 0 inv.placed).front)
+
+pub returns-clause-told : goal.returns-clause-told
+returns-clause-told g c =
+    let inv = c.loop-taken.invariant in
+    let m : Meaning = g.C.Tx.meaning c.args.self.now.child in
+    let end : c.loop-taken._taken ≡ lead = (let a = c.loop-taken-test.false in let b = c.loop-taken.auto in omega arith) in
+    tells_ok tt (loop_tells_all g.G.SlipLog (record { nothing = g.met.G.SlipLog.logged_nothing; joins = g.met.G.SlipLog.logged_join; breaks = g.met.G.SlipLog.broken_join }) (λ (m : Meaning). m.slips (plan_in c.args.clock.now g.G.SlipLog.takes)) m _ inv.same c.loop-taken._taken _ _ inv.told lead lead end refl)
