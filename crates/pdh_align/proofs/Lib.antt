@@ -7,3 +7,4 @@ pub mod Turns
 pub mod ReadyFrames
 mod Waiting
 mod Passing
+pub mod PieceGrowth

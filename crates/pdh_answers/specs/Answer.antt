@@ -4,8 +4,6 @@ use Rattle.pdh_shape.specs.declared.place.Place.{Place}
 use Rattle.pdh_line.specs.Paths.{steps_of, path_text}
 use Rattle.pdh_clock.specs.declared.fault.ScheduleFault.{ScheduleFault}
 use Rattle.pdh_clock.specs.declared.fault.ScheduleFault.TheVariants.{TooLong as LongText, BadRow as RowIsBad, UnknownNode as NodeIsUnknown, CountOver as CountIsOver, Memory as NoMemory}
-use Rattle.pdh_e1.specs.declared.fault.PackFault.{PackFault}
-use Rattle.pdh_e1.specs.declared.fault.PackFault.TheVariants.{NotWhole as PayloadNotWhole, Memory as NoPackMemory}
 use Rattle.pdh_script.specs.declared.fault.ScriptFault.{ScriptFault}
 use Rattle.pdh_script.specs.declared.fault.ScriptFault.TheVariants.{TooLong as LongScriptText, BadRow as ScriptRowIsBad, PastEnd as EndIsPast, Memory as NoScriptMemory}
 use Rattle.pdh_words.specs.Commands.{usage_text}
@@ -33,11 +31,6 @@ stop_of_script (LongScriptText len) = LongScript
 stop_of_script (ScriptRowIsBad line) = BadScriptRow line
 stop_of_script (EndIsPast line) = PastEnd line
 stop_of_script NoScriptMemory = Memory
-
--- how a fault of the payload ends the command
-abbrev pub stop_of_pack : PackFault → Stop
-stop_of_pack (PayloadNotWhole len) = NotWhole len
-stop_of_pack NoPackMemory = Memory
 
 -- the next step, unless an earlier one refused
 abbrev pub and_then : {A B : Type 0} → Result A Stop → (A → Result B Stop) → Result B Stop

@@ -1,7 +1,7 @@
 -- The names of the files.
 use Rattle.std.specs.Prelude.{ℕ, ◌+◌, ◌/◌, ◌%◌, List, [], ◌∷◌, ◌++◌, codes}
 use Rattle.pdh_answers.specs.declared.file.File.{File}
-use Rattle.pdh_answers.specs.declared.file.File.TheVariants.{Line, Bent, Schedule, Script, Leaf, Output, Payload, E1Line, PayloadOut}
+use Rattle.pdh_answers.specs.declared.file.File.TheVariants.{Line, Bent, Schedule, Script, Leaf, Output, Payload, E1Line, Ds1Line, PayloadOut}
 use Rattle.pdh_words.specs.declared.commands.Bits.{Bits}
 use Rattle.pdh_words.specs.declared.commands.Bits.TheVariants.{Line as Recorded, Bent as Disturbed}
 
@@ -37,15 +37,19 @@ leaf_name leaf = numbered_name (codes "t") leaf
 abbrev pub output_name : ℕ → List ℕ
 output_name leaf = numbered_name (codes "o") leaf
 
--- the octets that are packed into a framed 2048 kbit/s line
+-- the octets that are packed into a framed line
 unfoldable pub payload_name : List ℕ
 payload_name = codes "payload.bin"
 
--- that line
+-- a framed 2048 kbit/s line
 unfoldable pub e1_name : List ℕ
 e1_name = codes "e1.bits"
 
--- what such a line gives
+-- a DS1 line
+unfoldable pub ds1_name : List ℕ
+ds1_name = codes "ds1.bits"
+
+-- the octets that a framed line gives
 unfoldable pub payload_out_name : List ℕ
 payload_out_name = codes "payload.out"
 
@@ -58,6 +62,7 @@ name_of (Leaf leaf) = leaf_name leaf
 name_of (Output leaf) = output_name leaf
 name_of Payload = payload_name
 name_of E1Line = e1_name
+name_of Ds1Line = ds1_name
 name_of PayloadOut = payload_out_name
 
 -- the file that a line is read from

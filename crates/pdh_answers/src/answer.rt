@@ -2,7 +2,6 @@
 
 use crate::file::File;
 use pdh_clock::ScheduleFault;
-use pdh_e1::PackFault;
 use pdh_script::ScriptFault;
 use pdh_shape::{Path, Place};
 use pdh_words::Text;
@@ -83,9 +82,9 @@ pub enum Stop {
     Underflow(Place),
     /// There are more frames than a line, a schedule or a drill may have.
     ManyFrames(u64),
-    /// No frame, or in `e1unpack` no multiframe, of the line was delivered: its bits.
+    /// No frame, or in `e1unpack` and `ds1unpack` no multiframe or superframe, of the line was delivered: its bits.
     NoAlignment(u64),
-    /// The payload doesn't fill whole multiframes: its octets.
+    /// The payload doesn't fill whole multiframes, or 24 frames once or more times: its octets.
     NotWhole(u64),
     /// The script's text is longer than 1,048,576 bytes.
     LongScript,
@@ -167,20 +166,6 @@ impl From<ScriptFault> for Stop {
             ScriptFault::BadRow { line } => Stop::BadScriptRow(line),
             ScriptFault::PastEnd { line } => Stop::PastEnd(line),
             ScriptFault::Memory => Stop::Memory,
-        }
-    }
-}
-
-impl From<PackFault> for Stop {
-    ghost use Rattle.std.specs.Prelude.{◌≡◌};
-    ghost use Rattle.pdh_answers.specs.Answer.{stop_of_pack};
-
-    ghost from_gives = { λ fault e. e ≡ stop_of_pack fault };
-
-    fn from(fault: PackFault) -> Self {
-        match fault {
-            PackFault::NotWhole { len } => Stop::NotWhole(len),
-            PackFault::Memory => Stop::Memory,
         }
     }
 }

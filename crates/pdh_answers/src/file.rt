@@ -1,7 +1,7 @@
 //! The files of the commands, and how each is called.
 
 ghost use Rattle.std.specs.Prelude.{◌≡◌, ◌+◌, ◌%◌, ◌≤◌, length};
-ghost use Rattle.pdh_answers.specs.Names.{line_name as name_of_line, bent_name as name_of_bent, script_name as name_of_script, schedule_name as name_of_schedule, payload_name as name_of_payload, e1_name as name_of_e1, payload_out_name as name_of_payload_out, numbered_name as name_of_numbered};
+ghost use Rattle.pdh_answers.specs.Names.{line_name as name_of_line, bent_name as name_of_bent, script_name as name_of_script, schedule_name as name_of_schedule, payload_name as name_of_payload, e1_name as name_of_e1, ds1_name as name_of_ds1, payload_out_name as name_of_payload_out, numbered_name as name_of_numbered};
 
 use arrayvec::ArrayString;
 use pdh_words::Bits;
@@ -21,11 +21,13 @@ pub enum File {
     Leaf(u8),
     /// What a leaf received, counted from 0.
     Output(u8),
-    /// The octets that are packed into a framed 2048 kbit/s line.
+    /// The octets that are packed into a framed line.
     Payload,
-    /// That line.
+    /// A framed 2048 kbit/s line.
     E1Line,
-    /// What such a line gives.
+    /// A DS1 line.
+    Ds1Line,
+    /// The octets that a framed line gives.
     PayloadOut,
 }
 
@@ -121,7 +123,18 @@ fn e1_name() -> Name
     name
 }
 
-// The name of the octets that a framed 2048 kbit/s line gives.
+// The name of the DS1 line.
+#[tactic(auto, unfolding(crate::specs::Names::ds1_name))]
+fn ds1_name() -> Name
+    ensures value { result.bytes ≡ name_of_ds1 }
+    ensures short { length result.bytes ≡ 8 }
+{
+    let mut name = Name::new();
+    name.push_str("ds1.bits");
+    name
+}
+
+// The name of the octets that a framed line gives.
 #[tactic(auto, unfolding(crate::specs::Names::payload_out_name))]
 fn payload_out_name() -> Name
     ensures value { result.bytes ≡ name_of_payload_out }
@@ -160,6 +173,7 @@ impl File {
             File::Output(leaf) => numbered_name("o", leaf),
             File::Payload => payload_name(),
             File::E1Line => e1_name(),
+            File::Ds1Line => ds1_name(),
             File::PayloadOut => payload_out_name(),
         }
     }

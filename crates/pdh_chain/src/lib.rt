@@ -21,6 +21,7 @@ pub use laws::{
     demux_puts_no_more_than_the_shares, leaf_receives_no_more_than_its_share,
     mux_puts_no_more_than_its_frames, no_event_within_tolerance,
 };
+pub use receiving::receive;
 pub use stages::{
     DS2_LEVEL, DS2_LOCKED_LEVEL, DS3_LEVEL, DS3_LOCKED_LEVEL, E2_LEVEL, E3_LEVEL, E4_LEVEL,
 };

@@ -1,4 +1,4 @@
-//! `demux` of a chain by the types of its nodes. Its receiver gets the line many bits at a time.
+//! A line given to a receiver many bits at a time, and `demux` of a chain by the types of its nodes.
 
 ghost use Rattle.std.specs.Prelude.{◌≡◌, ◌<◌, ◌≤◌, ◌^◌, [], IfOk, IfErr, IsErrOf, ◌∷◌, Err};
 ghost use Rattle.pdh_nesting.specs.Chains.{width};
@@ -29,9 +29,9 @@ fn part(left: u64, room: usize) -> usize
     left.min(room as u64) as usize
 }
 
-// Gives a receiver that has got no bit so many bits of the port's list 0, and shows the watch the events that they bring;
-// `buffer` holds those that are taken at once.
-fn receive<R: Rx, P: Port, W: Watch>(
+/// Gives a receiver that has got no bit so many bits of the port's list 0, and shows the watch the events that they bring;
+/// `buffer` holds those that are taken at once.
+pub fn receive<R: Rx, P: Port, W: Watch>(
     receiver: &mut R,
     bits: u64,
     buffer: &mut Packed,

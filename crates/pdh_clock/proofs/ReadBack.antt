@@ -229,9 +229,14 @@ not_version (step ∷ path) rest = refl
 -- ---- a row
 
 -- counts of a frame
-record IsFrame (level : Level) (counts : List ℕ) : Type 0 where
-  number : length counts ≡ level_stores level
-  most : All (λ count. count ≤ level.len) counts
+pub record IsFrame (level : Level) (counts : List ℕ) : Type 0 where
+  pub number : length counts ≡ level_stores level
+  pub most : All (λ count. count ≤ level.len) counts
+
+-- frames of each node, no more than one row can say
+pub record AreWritable (levels : List Level) (frames : List ℕ → List (List ℕ)) : Type 0 where
+  pub each : (path : List ℕ) (level : Level) → level_at levels path ≡ Some level → All (IsFrame level) (frames path)
+  pub few : (path : List ℕ) → IsSome (level_at levels path) → length (frames path) ≤ 999999999
 
 -- a row of counts of a node with a repeat that a text may have
 record IsWritable (levels : List Level) (most : ℕ) (row : Form) : Type 0 where
@@ -433,23 +438,22 @@ frames_are levels level path (row ∷ rows) is h =
     ]
 
 -- what is written of a node can be read
-node_writable : (levels : List Level) (rows : List Row) (path : List ℕ) → All (IsRowOf levels) rows → IsSome (level_at levels path)
-    → length (frames_of rows path) ≤ 999999999 → All (IsWritable levels 999999999) (longest_rows path (frames_of rows path))
-node_writable levels rows path h some few =
+node_writable : (levels : List Level) (frames : List ℕ → List (List ℕ)) (path : List ℕ) → AreWritable levels frames → IsSome (level_at levels path)
+    → All (IsWritable levels 999999999) (longest_rows path (frames path))
+node_writable levels frames path fit some =
     let has = has_level (level_at levels path) some in
-    All-weaker (IsWritable levels (length (frames_of rows path))) (IsWritable levels 999999999)
-    (λ row w. record { says = w.says; some = w.some; repeat = omega (arith, w.repeat); level = w.level; known = w.known; frame = w.frame }) (longest_rows path (frames_of rows path))
-    (writable_longest levels has.level path (frames_of rows path) has.is (frames_are levels has.level path rows has.is h))
+    let few = fit.few path some in
+    All-weaker (IsWritable levels (length (frames path))) (IsWritable levels 999999999)
+    (λ row w. record { says = w.says; some = w.some; repeat = omega (arith, w.repeat); level = w.level; known = w.known; frame = w.frame }) (longest_rows path (frames path))
+    (writable_longest levels has.level path (frames path) has.is (fit.each path has.level has.is))
 
-nodes_writable : (levels : List Level) (rows : List Row) (nodes : List (List ℕ)) → All (IsRowOf levels) rows
-    → ((path : List ℕ) → IsSome (level_at levels path) → length (frames_of rows path) ≤ 999999999) → All (λ path. IsSome (level_at levels path)) nodes
-    → All (IsWritable levels 999999999) (flat_map (λ path. longest_rows path (frames_of rows path)) nodes)
-nodes_writable levels rows [] h few known = All-nil (IsWritable levels 999999999)
-nodes_writable levels rows (path ∷ nodes) h few known =
-    let some = All-head (λ path. IsSome (level_at levels path)) path nodes known in
-    All-append (IsWritable levels 999999999) (longest_rows path (frames_of rows path)) (flat_map (λ path. longest_rows path (frames_of rows path)) nodes)
-    (node_writable levels rows path h some (few path some))
-    (nodes_writable levels rows nodes h few (All-tail (λ path. IsSome (level_at levels path)) path nodes known))
+nodes_writable : (levels : List Level) (frames : List ℕ → List (List ℕ)) (nodes : List (List ℕ)) → AreWritable levels frames → All (λ path. IsSome (level_at levels path)) nodes
+    → All (IsWritable levels 999999999) (flat_map (λ path. longest_rows path (frames path)) nodes)
+nodes_writable levels frames [] fit known = All-nil (IsWritable levels 999999999)
+nodes_writable levels frames (path ∷ nodes) fit known =
+    All-append (IsWritable levels 999999999) (longest_rows path (frames path)) (flat_map (λ path. longest_rows path (frames path)) nodes)
+    (node_writable levels frames path fit (All-head (λ path. IsSome (level_at levels path)) path nodes known))
+    (nodes_writable levels frames nodes fit (All-tail (λ path. IsSome (level_at levels path)) path nodes known))
 
 -- the frames of what is written
 frames_written : (levels : List Level) (frames : List ℕ → List (List ℕ)) (path : List ℕ) → IsSome (level_at levels path)
@@ -472,16 +476,22 @@ frames_written levels frames path some =
     ∙ rows_at_all path (written path) (written_at path) in
     ap (flat_map frames_of_row) rows ∙ joined_meant levels path (longest path) (counts_longest path (frames path)) ∙ joined_longest path (frames path)
 
-pub reads_back : (levels : List Level) (rows : List Row) (text : List ℕ) → AreLevels levels → All (IsRowOf levels) rows
-    → text ≡ text_of (record { levels = levels; rows = rows }) → ReadsBack (record { levels = levels; rows = rows }) text
+-- whatever counts of the levels are written
+pub frames_read_back : (levels : List Level) (frames : List ℕ → List (List ℕ)) (text : List ℕ) → AreLevels levels → AreWritable levels frames → text ≡ text_with levels frames → length text ≤ most_bytes
+    → (rows : List Row) × (schedule_of levels text ≡ Ok rows) × ((path : List ℕ) → IsSome (level_at levels path) → frames_of rows path ≡ frames path)
 unfolding schedule_of text_with
-reads_back levels rows text l h e = λ short few.
-    let written = rows_written levels (frames_of rows) in
+frames_read_back levels frames text l fit e short =
+    let written = rows_written levels frames in
     let meant = map (row_in levels) written in
-    let writable = nodes_writable levels rows (nodes_in levels) h few (nodes_known levels) in
+    let writable = nodes_writable levels frames (nodes_in levels) fit (nodes_known levels) in
     let long : nat_lt most_bytes (length text) ≡ false = le-ltb most_bytes (length text) short in
     let read = ap (λ b. cond b (Err (TooLong (length text))) (lines_judged levels (lines_of text))) long
     ∙ ap (λ text. lines_judged levels (lines_of text)) e
     ∙ ap (lines_judged levels) (lines_of_rows levels written l writable)
     ∙ ap (λ read. read >>= λ rows. Ok (by_nodes levels rows)) (versions_judged_rows levels written l writable) in
-    (by_nodes levels meant, read, λ path some. frames_of-by_nodes levels meant path some ∙ frames_written levels (frames_of rows) path some)
+    (by_nodes levels meant, read, λ path some. frames_of-by_nodes levels meant path some ∙ frames_written levels frames path some)
+
+pub reads_back : (levels : List Level) (rows : List Row) (text : List ℕ) → AreLevels levels → All (IsRowOf levels) rows
+    → text ≡ text_of (record { levels = levels; rows = rows }) → ReadsBack (record { levels = levels; rows = rows }) text
+reads_back levels rows text l h e = λ short few.
+    frames_read_back levels (frames_of rows) text l (record { each = λ path level is. frames_are levels level path rows is h; few = few }) e short

@@ -84,7 +84,7 @@ impl Schedule {
         self.tree.table_of(node).count(frame, usize::from(trib))
     }
 
-    /// How many bits of each tributary that has a store arrive in a frame; what stands behind the last one is 0.
+    /// How many bits of each tributary that has a store arrive in a frame.
     pub fn counts(&self, node: &Path, frame: u64) -> [u32; MOST_TRIBUTARIES]
         requires node { IsSome (level_at self.now.levels (steps_of node.now)) }
         requires scheduled { frame < frame_count self.now.rows (steps_of node.now) }

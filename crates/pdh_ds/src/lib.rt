@@ -11,6 +11,6 @@ mod plans;
 
 pub use block_frame::{BlockFrame, Ds2, Ds3, Ds3C};
 pub use block_plan::{BlockPlan, InBlocks};
-pub use loss::LossRule;
+pub use loss::{LossRule, window_wrong};
 pub use ones::parity;
 pub use plans::{DS2_PLAN, DS3_PLAN, DS3C_PLAN, Ds2Plan, Ds3Plan, Ds3cPlan};

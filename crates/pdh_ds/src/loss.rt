@@ -69,7 +69,7 @@ fn ends_wrong(rule: &LossRule, before: &Marks, here: &Marks, last: u32) -> bool
 }
 
 /// Whether too many are wrong of some framing slots in a row that end in the second frame.
-fn window_wrong(rule: &LossRule, before: &Marks, here: &Marks) -> bool
+pub fn window_wrong(rule: &LossRule, before: &Marks, here: &Marks) -> bool
     requires rule { IsLossRule rule.now }
     ensures { result ≡ window_wrong_in rule.now before.now here.now }
 {

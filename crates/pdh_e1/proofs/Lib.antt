@@ -1,4 +1,3 @@
-pub mod Below
 pub mod CrcLaws
 pub mod OctetLaws
 pub mod WordLaws

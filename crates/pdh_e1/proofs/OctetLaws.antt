@@ -5,7 +5,7 @@ use Rattle.std.specs.Bool.{beq}
 use Rattle.std.specs.Int.RustNames.{bit_xor, bit_and, bit_or}
 use Rattle.std.proofs.lemmas.Bool.{eqb-true, eq-eqb}
 use Rattle.pdh_e1.specs.Multiframe.{octet_right, packed_octet}
-use Rattle.pdh_e1.proofs.Below.{all_below, at_below}
+use Rattle.pdh_framed.proofs.Below.{all_below, at_below}
 
 abbrev pub first_octets : List ℕ
 first_octets = 27 ∷ 95 ∷ 27 ∷ 95 ∷ 27 ∷ 223 ∷ 27 ∷ 95 ∷ 27 ∷ 223 ∷ 27 ∷ 223 ∷ 27 ∷ 223 ∷ 27 ∷ 223 ∷ []

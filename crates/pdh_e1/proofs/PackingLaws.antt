@@ -1,7 +1,7 @@
 -- A line that is packed frame by frame, and frames that are right one after another.
 use Rattle.std.proofs.Common.{◌≡◌, ℕ, zero, suc, ◌+◌, ◌-◌, ◌*◌, ◌/◌, ◌%◌, ◌<◌, ◌≤◌, Bool, true, false, List, [], ◌∷◌, ◌++◌, length, get_or, take, drop, append_assoc, inl, inr, subst, refl, sym, ap, ◌∙◌, add-one, arith, length-append, length-take, length-drop}
 use Rattle.std.specs.List.{slice_range}
-use Rattle.std.proofs.lemmas.Bool.{false≢true, cases_lt}
+use Rattle.std.proofs.lemmas.Bool.{cases_lt}
 use Rattle.std.proofs.lemmas.List.{get_or_append_left, take_all}
 use Rattle.std.proofs.Math.Seq.{take-add, drop-append-add, get_or-append_seam}
 use Rattle.pdh_e1.specs.declared.fault.UnpackFault.{UnpackFault}
@@ -9,7 +9,9 @@ use Rattle.pdh_e1.specs.declared.fault.UnpackFault.TheVariants as unpack_faults
 use Rattle.pdh_e1.specs.Multiframe.{octet_right, packed_octet, sent_word, frame_right, FramePacked, frame_payload, frames_payload}
 use Rattle.pdh_e1.specs.Codec.{frames_of, RightUpTo, IsMultiframes, IsPacked, IsPackedUpTo, IsFirstWrong, IsNotUnpacked, PackedIsGivenBack}
 use Rattle.pdh_e1.proofs.OctetLaws.{packed_right}
-use Rattle.pdh_e1.proofs.WordLaws.{sent_word_lt, sent_word-append, slice_range-append}
+use Rattle.pdh_e1.proofs.WordLaws.{sent_word_lt, sent_word-append}
+use Rattle.pdh_framed.proofs.Parts.{slice_range-append}
+use Rattle.pdh_framed.proofs.RightLaws.{are_right-push, none_wrong}
 
 -- a packed frame stays so as more octets follow
 packed-append : (line more : List ℕ) (frame : ℕ) → 32 * frame + 32 ≤ length line → FramePacked line frame → FramePacked (line ++ more) frame
@@ -135,10 +137,7 @@ right_is line frame number word right within sends is =
 
 -- one more frame is right
 pub right_more : (line : List ℕ) (frame number word : ℕ) (right : Bool) → RightUpTo line frame → frame / 8 ≡ number → word ≡ sent_word line number → right ≡ octet_right (frame % 16) word (get_or line (32 * frame) 0) → right ≡ true → RightUpTo line (frame + 1)
-right_more line frame number word right before within sends is holds = λ k below. elim (cases_lt k frame) [
-  | inl less ↦ before k less
-  | inr least ↦ let same : frame ≡ k = omega arith in subst (λ (n : ℕ). frame_right line n ≡ true) same (right_is line frame number word right within sends is ∙ holds)
-]
+right_more line frame number word right before within sends is holds = are_right-push (frame_right line) frame before (right_is line frame number word right within sends is ∙ holds)
 
 -- or it is the first wrong one
 pub first_wrong_is : (line : List ℕ) (frame number word : ℕ) (right : Bool) → RightUpTo line frame → 32 * frame + 32 ≤ length line → frame / 8 ≡ number → word ≡ sent_word line number → right ≡ octet_right (frame % 16) word (get_or line (32 * frame) 0) → right ≡ false → IsFirstWrong line frame
@@ -151,8 +150,7 @@ first_wrong_is line frame number word right before room within sends is fails = 
 -- multiframes have no fault but want of memory
 only_memory : (line : List ℕ) (fault : UnpackFault) → IsMultiframes line → IsNotUnpacked line fault → fault ≡ unpack_faults.Memory
 only_memory line (unpack_faults.NotWhole len) framed why = absurd (why.1 framed.whole)
-only_memory line (unpack_faults.Wrong frame) framed why =
-    absurd (false≢true (sym why.1.wrong ∙ framed.right frame why.1.within))
+only_memory line (unpack_faults.Wrong frame) framed why = absurd (none_wrong (frame_right line) (frames_of line) frame framed.right why.1)
 only_memory line unpack_faults.Memory framed why = refl
 
 -- what was packed is unpacked to the same payload

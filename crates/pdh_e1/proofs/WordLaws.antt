@@ -1,11 +1,12 @@
 -- The word that a sub-multiframe sends: its C bits cleared octet by octet, and what more octets leave of it.
-use Rattle.std.proofs.Common.{◌≡◌, ℕ, zero, suc, ◌+◌, ◌-◌, ◌*◌, ◌/◌, ◌%◌, ◌^◌, ◌<◌, ◌≤◌, Bool, false, eqb, List, [], ◌∷◌, ◌++◌, length, get_or, set, take, drop, refl, sym, ap, ◌∙◌, arith, length-drop, length-set}
+use Rattle.std.proofs.Common.{◌≡◌, ℕ, zero, suc, ◌+◌, ◌-◌, ◌*◌, ◌/◌, ◌%◌, ◌^◌, ◌<◌, ◌≤◌, Bool, false, eqb, List, [], ◌∷◌, ◌++◌, length, get_or, set, refl, sym, ap, ◌∙◌, arith, length-set}
 use Rattle.std.specs.List.{slice_range}
-use Rattle.std.proofs.lemmas.List.{set-append_right, take-append-le, drop-append-le}
+use Rattle.std.proofs.lemmas.List.{set-append_right}
 use Rattle.pdh_bits.specs.Bits.{bit, bits_of_byte, bits_of}
 use Rattle.pdh_e1.specs.Crc4.{crc4, cleared}
 use Rattle.pdh_e1.specs.Multiframe.{sent_word}
 use Rattle.pdh_e1.proofs.CrcLaws.{crc4_lt}
+use Rattle.pdh_framed.proofs.Parts.{slice_range-append}
 
 -- an octet without its first bit
 first_cleared : (octet : ℕ) → bits_of_byte (octet % 128) ≡ false ∷ bit octet 6 ∷ bit octet 5 ∷ bit octet 4 ∷ bit octet 3 ∷ bit octet 2 ∷ bit octet 1 ∷ bit octet 0 ∷ []
@@ -85,12 +86,7 @@ unfolding sent_word
 sent_word_lt line zero = omega arith
 sent_word_lt line (suc before) = crc4_lt (cleared (bits_of (slice_range line (256 * before) (256 * before + 256))))
 
--- a range of octets stays as more follow
-pub slice_range-append : (xs ys : List ℕ) (i j : ℕ) → i ≤ j → j ≤ length xs → slice_range (xs ++ ys) i j ≡ slice_range xs i j
-slice_range-append xs ys i j order within =
-    ap (take (j - i)) (drop-append-le i xs ys (omega arith)) ∙ take-append-le (j - i) (drop i xs) ys (omega (arith, length-drop i xs))
-
--- so does the word that a sub-multiframe sends
+-- it stays as more octets follow
 pub sent_word-append : (line more : List ℕ) (number : ℕ) → 256 * number ≤ length line → sent_word (line ++ more) number ≡ sent_word line number
 unfolding sent_word
 sent_word-append line more zero within = refl

@@ -1,9 +1,10 @@
 -- Lines that are whole multiframes, and what packing and unpacking answer.
-use Rattle.std.specs.Prelude.{◌≡◌, ◌≢◌, ℕ, ◌*◌, ◌/◌, ◌%◌, ◌<◌, true, false, List, length, take}
+use Rattle.std.specs.Prelude.{◌≡◌, ◌≢◌, ℕ, ◌*◌, ◌/◌, ◌%◌, ◌<◌, List, length, take}
 use Rattle.pdh_e1.specs.declared.fault.PackFault.{PackFault}
 use Rattle.pdh_e1.specs.declared.fault.PackFault.TheVariants as pack_faults
 use Rattle.pdh_e1.specs.declared.fault.UnpackFault.{UnpackFault}
 use Rattle.pdh_e1.specs.declared.fault.UnpackFault.TheVariants as unpack_faults
+use Rattle.pdh_framed.specs.RightFrames.{AreRight, FirstWrong}
 use Rattle.pdh_e1.specs.Multiframe.{frame_right, FramePacked, frames_payload}
 
 -- the number of whole frames of a line
@@ -12,7 +13,7 @@ frames_of line = length line / 32
 
 -- the frames before this one are right
 abbrev pub RightUpTo : List ℕ → ℕ → Type 0
-RightUpTo line frames = (frame : ℕ) → frame < frames → frame_right line frame ≡ true
+RightUpTo line = AreRight (frame_right line)
 
 -- a line of whole multiframes, each frame of which is right
 pub record IsMultiframes (line : List ℕ) : Type 0 where
@@ -46,10 +47,8 @@ pub record IsUnpacked (line : List ℕ) (payload : List ℕ) : Type 0 where
   pub carried : payload ≡ payload_of line
 
 -- this frame is the first wrong one of a line
-pub record IsFirstWrong (line : List ℕ) (frame : ℕ) : Type 0 where
-  pub within : frame < frames_of line
-  pub wrong : frame_right line frame ≡ false
-  pub before : RightUpTo line frame
+abbrev pub IsFirstWrong : List ℕ → ℕ → Type 0
+IsFirstWrong line = FirstWrong (frame_right line) (frames_of line)
 
 -- why a line isn't unpacked. Want of memory is told of right lines only
 abbrev pub IsNotUnpacked : List ℕ → UnpackFault → Type 0

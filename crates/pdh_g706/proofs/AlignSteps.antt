@@ -3,7 +3,7 @@ use Rattle.std.proofs.Common.{◌≡◌, ◌≢◌, ℕ, ◌+◌, ◌-◌, ◌*�
 use Rattle.std.specs.Prelude.{◌==◌, ◌^◌, min, Result, Ok, Err, OnOk, OnErr}
 use Rattle.std.proofs.lemmas.Bool.{cases_Bool, lt-ltb, le-ltb, eq-eqb, ne_eqb}
 use Rattle.std.proofs.lemmas.List.{append-nil, map-append, length_push, length-take-le, append_assoc, take_more, take-append-drop}
-use Rattle.pdh_edge.proofs.Runs.{puts_begin, puts_then, puts_part}
+use Rattle.pdh_edge.proofs.Runs.{puts_begin}
 use Rattle.pdh_bits.specs.Bits.{bit_value}
 use Rattle.pdh_edge.specs.Ports.{Outputs, Puts, PutsPart, IsPrefix, for_leaf}
 use Rattle.pdh_g706.specs.declared.align.E1Align.{E1Align}
@@ -455,28 +455,6 @@ search_gains bits = elim (cases_Bool (ltb (length bits) 768)) [
 ]
 
 -- ---- many bits
-
-pub gains_same : (line : List Bool) (o : Outputs) → Gains line (line ++ []) o o
-gains_same line o = record {
-  more = [];
-  gained = ap e1_far (append-nil line) ∙ sym (append-nil (e1_far line));
-  puts = puts_begin 0 o;
-}
-
-pub gains_join : (a b c : List Bool) (o p q : Outputs) → Gains a b o p → Gains b c p q → Gains a c o q
-gains_join a b c o p q g h = record {
-  more = g.more ++ h.more;
-  gained = h.gained ∙ ap (λ (x : List Bool). x ++ h.more) g.gained ∙ append_assoc (e1_far a) g.more h.more;
-  puts = puts_then 0 g.more h.more o p q g.puts h.puts;
-}
-
-pub part_join : (a b c d : List Bool) (o p q : Outputs) → IsPrefix (e1_far c) (e1_far d) → Gains a b o p → GainsPart b c p q → GainsPart a d o q
-part_join a b c d o p q grows g h = record {
-  more = g.more ++ (h.more ++ grows.0);
-  gained = grows.1 ∙ ap (λ (x : List Bool). x ++ grows.0) (h.gained ∙ ap (λ (x : List Bool). x ++ h.more) g.gained)
-      ∙ append_assoc (e1_far a ++ g.more) h.more grows.0 ∙ append_assoc (e1_far a) g.more (h.more ++ grows.0);
-  puts = puts_part 0 g.more h.more (g.more ++ (h.more ++ grows.0)) o p q g.puts h.puts (grows.0, sym (append_assoc g.more h.more grows.0));
-}
 
 -- a line with the bits so far, and one more
 pub line_more : (line bits : List Bool) (i : ℕ) → i < length bits → line ++ take i bits ++ get_or bits i false ∷ [] ≡ line ++ take (i + 1) bits

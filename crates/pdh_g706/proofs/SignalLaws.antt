@@ -10,7 +10,7 @@ use Rattle.std.proofs.lemmas.List.Sums.{prefix_len_passes, prefix_len-le-length}
 use Rattle.pdh_packed.specs.Words.{low_bits}
 use Rattle.pdh_packed.specs.Places.{both}
 use Rattle.pdh_packed.proofs.PackedLaws.{two_parts}
-use Rattle.pdh_e1.proofs.Below.{all_below, at_below}
+use Rattle.pdh_framed.proofs.Below.{all_below, at_below}
 use Rattle.pdh_line.proofs.Ranges.{map-range_same_on, range_push}
 use Rattle.pdh_g706.specs.Frames.{bit_of, alignment_signal, has_signal, is_confirmed, frame_of}
 use Rattle.pdh_g706.proofs.HeldLaws.{signal_test, has_signal_is, confirmed_is, bit_in_frame}

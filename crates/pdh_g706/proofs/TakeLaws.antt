@@ -11,7 +11,8 @@ use Rattle.pdh_g706.specs.declared.align.E1Align.{E1Align}
 use Rattle.pdh_g706.specs.Tracking.{e1_far}
 use Rattle.pdh_g706.specs.Events.{e1_bit_events, e1_events}
 use Rattle.pdh_g706.specs.View.{StandsFor, Gains, GainsPart}
-use Rattle.pdh_g706.proofs.AlignSteps.{gains_join, part_join, line_grows}
+use Rattle.pdh_framed.proofs.TakeLaws.{gains_join, part_join}
+use Rattle.pdh_g706.proofs.AlignSteps.{line_grows}
 
 -- ---- the events of more bits
 
@@ -57,7 +58,7 @@ module _ {W : Type 0} (saw : W → List Event → W → Type 0) (join : (a b c :
       let both : (line : List Bool) → (line ++ a) ++ b ≡ line ++ all = λ line. append_assoc line a b ∙ ap (λ (x : List Bool). line ++ x) (sym e) in
       record {
         stands = λ line h. subst (StandsFor new) (both line) (g.stands (line ++ a) (f.stands line h));
-        puts = λ line h. subst (λ (x : List Bool). Gains line x o q) (both line) (gains_join line (line ++ a) ((line ++ a) ++ b) o p q (f.puts line h) (g.puts (line ++ a) (f.stands line h)));
+        puts = λ line h. subst (λ (x : List Bool). Gains line x o q) (both line) (gains_join e1_far line (line ++ a) ((line ++ a) ++ b) o p q (f.puts line h) (g.puts (line ++ a) (f.stands line h)));
         seen = λ line h. subst (λ (x : List Event). saw u x w) (sym (ap (bits_events e1_bit_events line) e ∙ events_join e1_bit_events line a b)) (join u v w _ _ (f.seen line h) (g.seen (line ++ a) (f.stands line h)));
       }
 
@@ -66,7 +67,7 @@ module _ {W : Type 0} (saw : W → List Event → W → Type 0) (join : (a b c :
     pub fails_puts : ((line : List Bool) → StandsFor mid line → GainsPart line (line ++ get_or bits n false ∷ []) p q) → (line : List Bool) → StandsFor old line → GainsPart line (line ++ bits) o q
     fails_puts part line h =
         let at : List Bool = line ++ take n bits in
-        part_join line at (at ++ get_or bits n false ∷ []) (line ++ bits) o p q (line_grows line bits n inside) (before.puts line h) (part at (before.stands line h))
+        part_join e1_far line at (at ++ get_or bits n false ∷ []) (line ++ bits) o p q (line_grows line bits n inside) (before.puts line h) (part at (before.stands line h))
 
     pub fails_seen : ((line : List Bool) → StandsFor mid line → SawPart saw v (e1_bit_events line (get_or bits n false)) w) → (line : List Bool) → StandsFor old line → SawPart saw u (bits_events e1_bit_events line bits) w
     fails_seen part line h =

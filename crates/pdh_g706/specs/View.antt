@@ -1,6 +1,7 @@
 -- What the fields of an alignment machine stand for.
-use Rattle.std.specs.Prelude.{◌≡◌, ◌+◌, ℕ, Bool, true, false, List, [], ◌++◌, Result, OnOk, OnErr}
+use Rattle.std.specs.Prelude.{◌≡◌, ◌+◌, ℕ, Bool, true, false, List, [], Result, OnOk, OnErr}
 use Rattle.pdh_edge.specs.Ports.{Outputs, Puts, PutsPart, HasCause, for_leaf}
+use Rattle.pdh_framed.specs.Taking.{Gains as GainsOf, GainsPart as GainsPartOf}
 use Rattle.pdh_g706.specs.declared.align.E1Align.{E1Align}
 use Rattle.pdh_g706.specs.declared.counts.Counts.{Counts}
 use Rattle.pdh_g706.specs.declared.counts.Group.{Group}
@@ -88,13 +89,9 @@ pub record Turned {D W T E : Type 0} (outputs : D → Outputs) (faults : D → �
   pub drains : drained before after
 
 -- what a line gives has grown, and what came was put to leaf 0
-pub record Gains (line now : List Bool) (old new : Outputs) : Type 0 where
-  pub more : List Bool
-  pub gained : e1_far now ≡ e1_far line ++ more
-  pub puts : Puts (for_leaf 0 more) old new
+abbrev pub Gains : List Bool → List Bool → Outputs → Outputs → Type 0
+Gains = GainsOf e1_far
 
 -- the same where a call failed: a prefix of what came was put
-pub record GainsPart (line now : List Bool) (old new : Outputs) : Type 0 where
-  pub more : List Bool
-  pub gained : e1_far now ≡ e1_far line ++ more
-  pub puts : PutsPart (for_leaf 0 more) old new
+abbrev pub GainsPart : List Bool → List Bool → Outputs → Outputs → Type 0
+GainsPart = GainsPartOf e1_far

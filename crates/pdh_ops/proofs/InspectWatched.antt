@@ -1,10 +1,9 @@
 -- What an inspection comes to.
-use Rattle.std.proofs.Common.{◌≡◌, ℕ, ◌/◌, ◌≤◌, nat_lt, List, [], ◌∷◌, Bool, false, Ok, refl, ap, subst, ◌∙◌, arith}
-use Rattle.std.proofs.lemmas.Bool.Decides.{nat_tests}
+use Rattle.std.proofs.Common.{◌≡◌, ℕ, List, [], ◌∷◌, Bool, Ok, refl, ap, ◌∙◌}
 use Rattle.std.proofs.lemmas.Option.{same_Some}
 use Rattle.pdh_bits.specs.Bits.{bits_of}
 use Rattle.pdh_edge.specs.Files.{ShelfState}
-use Rattle.pdh_chain.specs.Chains.{frame_bytes_of, shapes_of}
+use Rattle.pdh_chain.specs.Chains.{shapes_of}
 use Rattle.pdh_chain.specs.Demuxes.{top_delivered}
 use Rattle.pdh_chain.specs.declared.chain.Chain.{Chain}
 use Rattle.pdh_g706.specs.Tracking.{multiframes_in, counted}
@@ -13,27 +12,20 @@ use Rattle.pdh_inspect.specs.Seen.{line_bits_events, events_counted, SeesLine, S
 use Rattle.pdh_inspect.specs.declared.line.LineSeen.{LineSeen}
 use Rattle.pdh_inspect.specs.declared.framed.FramedSeen.{FramedSeen}
 use Rattle.pdh_watch.specs.Monitors.{State}
-use Rattle.pdh_words.specs.declared.commands.Bits.{Bits}
-use Rattle.pdh_answers.specs.Names.{name_of, line_file}
-use Rattle.pdh_runner.specs.Lines.{frames_of, line_of}
 use Rattle.pdh_ops.specs.Commands.Demux.{frames_received}
-use Rattle.pdh_ops.specs.Commands.E1.{framed_of}
-use Rattle.pdh_ops.specs.E1Steps.{IsFramedLine}
-use Rattle.pdh_ops.specs.Commands.Inspect.{inspected, e1_inspected, inspecting, inspecting_e1, inspect_says, inspect_e1_says}
+use Rattle.pdh_streams.specs.Codecs.{framed_of}
+use Rattle.pdh_streams.specs.E1.{e1_codec}
+use Rattle.pdh_streams.specs.Steps.{IsFramedLine}
+use Rattle.pdh_ops.specs.Commands.Inspect.{inspected, e1_inspected, inspecting_e1, inspect_says, inspect_e1_says}
 use Rattle.pdh_runner.specs.LineSteps.{CanRead, IsLinePort}
 use Rattle.pdh_runner.specs.Operation.{View}
-use Rattle.pdh_runner.specs.Reading.{HasLength}
 use Rattle.pdh_runner.specs.Running.{ArePrepared}
-use Rattle.pdh_runner.specs.Lines.{IsLine}
 use Rattle.pdh_answers.specs.declared.file.File.{File}
 use Rattle.pdh_answers.specs.declared.file.File.TheVariants.{E1Line}
 use Rattle.pdh_runner.specs.declared.port.Input.{Input}
-use Rattle.pdh_ops.proofs.E1Files.{whole_framed}
+use Rattle.pdh_streams.proofs.UnpackingLaws.{whole_framed}
 use Rattle.pdh_ops.proofs.InspectFiles.{framed_begins}
-use Rattle.pdh_runner.proofs.LineComes.{few_bits}
 use Rattle.pdh_runner.proofs.LineRun.{ReadsWhole, line_prepared}
-use Rattle.pdh_runner.proofs.OneInput.{ServesAll}
-use Rattle.pdh_shape.specs.OwnNumbers.{most_frames}
 
 -- ---- a chain's line
 
@@ -46,7 +38,7 @@ line_comes chain bytes given old new seen same sees =
 
 -- ---- a framed line
 
-framed_reads : (line : Input) (b : ShelfState) → IsFramedLine line b → ReadsWhole inspecting_e1 E1Line framed_of e1_inspected line b
+framed_reads : (line : Input) (b : ShelfState) → IsFramedLine e1_codec line b → ReadsWhole inspecting_e1 E1Line (framed_of e1_codec) e1_inspected line b
 framed_reads line b is = record {
   begins = framed_begins;
   in_run = refl;
@@ -55,14 +47,14 @@ framed_reads line b is = record {
   file_is = is.file_is;
   bytes = is.octets;
   bits_are = is.bits_are;
-  few = let bits = is.bits_are in let few = is.few in omega arith;
+  few = is.short;
   long = is.long;
-  serves = whole_framed is.octets is.few;
+  serves = whole_framed e1_codec is.octets is.few;
 }
 
-pub framed_prepared : (line : Input) (reads : List Input) → reads ≡ line ∷ [] → (writes : List File) → writes ≡ [] → (b : ShelfState) → IsFramedLine line b
+pub framed_prepared : (line : Input) (reads : List Input) → reads ≡ line ∷ [] → (writes : List File) → writes ≡ [] → (b : ShelfState) → IsFramedLine e1_codec line b
     → ArePrepared inspecting_e1 (CanRead line.bits) (IsLinePort inspecting_e1 E1Line e1_inspected line) b reads writes
-framed_prepared line reads one writes none b is = line_prepared inspecting_e1 E1Line framed_of e1_inspected line b (framed_reads line b is) reads one writes none
+framed_prepared line reads one writes none b is = line_prepared inspecting_e1 E1Line (framed_of e1_codec) e1_inspected line b (framed_reads line b is) reads one writes none
 
 pub framed_comes : (octets : List ℕ) (given : List Bool) (old new : List State) (seen : FramedSeen) → given ≡ bits_of octets → SeesFramed given old new seen → Ok (inspect_e1_says seen.multiframes seen.events) ≡ e1_inspected octets
 unfolding e1_inspected

@@ -21,9 +21,7 @@ pub mod BentRejoins
 pub mod DemuxRejoins
 pub mod FilesComeBack
 pub mod MuxTolerated
-pub mod E1Packing
-pub mod E1Files
-pub mod E1Unpacking
+pub mod StreamsPacked
 pub mod InspectFiles
 pub mod DisturbComes
 pub mod DisturbFiles

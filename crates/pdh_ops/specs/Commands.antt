@@ -1,18 +1,19 @@
--- The commands, each as a record that stands in a file of its own.
+-- The commands, each as a record that stands in a file of its own, here or in `pdh_streams`.
 pub mod Demux
 pub mod Mux
 pub mod Clock
-pub mod E1
 pub mod Inspect
 pub mod Disturb
 pub mod Drill
 use Rattle.pdh_words.specs.declared.commands.Command.{Command}
-use Rattle.pdh_words.specs.declared.commands.Command.TheVariants.{Demux as DemuxWords, Mux as MuxWords, ClockCheck, ClockMake, Inspect as InspectWords, InspectE1, Show, E1Pack, E1Unpack, Disturb as DisturbWords, Drill as DrillWords}
+use Rattle.pdh_words.specs.declared.commands.Command.TheVariants.{Demux as DemuxWords, Mux as MuxWords, ClockCheck, ClockMake, Inspect as InspectWords, InspectE1, Show, E1Pack, E1Unpack, Ds1Pack, Ds1Unpack, Disturb as DisturbWords, Drill as DrillWords}
 use Rattle.pdh_runner.specs.Operation.{Operation}
+use Rattle.pdh_streams.specs.Codecs.{packing, unpacking}
+use Rattle.pdh_streams.specs.E1.{e1_codec}
+use Rattle.pdh_streams.specs.Ds1.{ds1_codec}
 use Rattle.pdh_ops.specs.Commands.Demux.{demuxing}
 use Rattle.pdh_ops.specs.Commands.Mux.{muxing}
 use Rattle.pdh_ops.specs.Commands.Clock.{checking, making}
-use Rattle.pdh_ops.specs.Commands.E1.{packing, unpacking}
 use Rattle.pdh_ops.specs.Commands.Inspect.{inspecting, inspecting_e1, showing}
 use Rattle.pdh_ops.specs.Commands.Disturb.{disturbing}
 use Rattle.pdh_ops.specs.Commands.Drill.{drilling}
@@ -25,7 +26,9 @@ operation_of (ClockMake chain frames bias) = making chain frames bias
 operation_of (InspectWords chain bits) = inspecting chain bits
 operation_of InspectE1 = inspecting_e1
 operation_of (Show chain frame) = showing chain frame
-operation_of E1Pack = packing
-operation_of E1Unpack = unpacking
+operation_of E1Pack = packing e1_codec
+operation_of E1Unpack = unpacking e1_codec
+operation_of (Ds1Pack form) = packing (ds1_codec form)
+operation_of (Ds1Unpack form) = unpacking (ds1_codec form)
 operation_of (DisturbWords chain) = disturbing chain
 operation_of (DrillWords chain seed frames) = drilling chain seed frames

@@ -4,7 +4,6 @@ pub mod Run
 pub mod Steps
 pub mod ScheduleSteps
 pub mod MuxSteps
-pub mod E1Steps
 pub mod DisturbSteps
 pub mod GivesBack
 pub mod Rejoined

@@ -4,7 +4,6 @@ mod clock;
 mod demux;
 mod disturb;
 mod drill;
-mod e1;
 mod inspect;
 mod mux;
 mod show;
@@ -17,6 +16,7 @@ ghost use Rattle.pdh_ops.specs.Run.{Does, Watches};
 use pdh_answers::Stop;
 use pdh_edge::Shelf;
 use pdh_runner::Ended;
+use pdh_streams::{Ds1, E1, pack_file, unpack_file};
 use pdh_watch::Monitor;
 use pdh_words::{Command, command_for};
 use std::alloc::Global;
@@ -54,11 +54,19 @@ pub fn answer<S: Shelf>(
             Ended::new(shelf, answer)
         }
         Command::E1Pack => {
-            let answer = e1::e1pack(alloc, &mut shelf);
+            let answer = pack_file(alloc, &E1, &mut shelf);
             Ended::new(shelf, answer)
         }
         Command::E1Unpack => {
-            let answer = e1::e1unpack(alloc, &mut shelf);
+            let answer = unpack_file(alloc, &E1, &mut shelf);
+            Ended::new(shelf, answer)
+        }
+        Command::Ds1Pack { frame } => {
+            let answer = pack_file(alloc, &Ds1 { form: frame }, &mut shelf);
+            Ended::new(shelf, answer)
+        }
+        Command::Ds1Unpack { frame } => {
+            let answer = unpack_file(alloc, &Ds1 { form: frame }, &mut shelf);
             Ended::new(shelf, answer)
         }
         Command::Drill {

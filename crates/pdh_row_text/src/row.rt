@@ -41,7 +41,7 @@ impl Version {
 pub struct Numbers {
     /// How many there are.
     pub number: usize,
-    /// The first ones, and behind them 0.
+    /// The first ones.
     pub first: [u32; MOST_TRIBUTARIES],
 }
 

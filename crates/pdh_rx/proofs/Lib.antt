@@ -5,11 +5,11 @@ pub mod Keeping
 pub mod Playing
 pub mod Acting
 pub mod SlotActs
-mod GapSteps
+pub mod GapSteps
 pub mod StepActs
 pub mod NodeSteps
 pub mod NodePlays
-mod Shares
+pub mod Shares
 pub mod Ahead
 pub mod Places
 pub mod QuietNode

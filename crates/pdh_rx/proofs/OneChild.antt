@@ -15,7 +15,7 @@ none_there : {X : Type 0} (t : ℕ) (x : X) → slice_get [] t ≡ Some x → �
 none_there t x e = cc
 
 -- what lies at j after a write at i
-slice_get_set : {C : Type 0} (xs : List C) (i j : ℕ) (y c : C) → slice_get (slice_set xs i y) j ≡ Some c → ((j ≡ i) × (y ≡ c)) ⊎ ((j ≡ i → ⊥) × (slice_get xs j ≡ Some c))
+pub slice_get_set : {C : Type 0} (xs : List C) (i j : ℕ) (y c : C) → slice_get (slice_set xs i y) j ≡ Some c → ((j ≡ i) × (y ≡ c)) ⊎ ((j ≡ i → ⊥) × (slice_get xs j ≡ Some c))
 slice_get_set [] i j y c e = absurd (none_there j c e)
 slice_get_set (x ∷ xs) zero zero y c e = inl (refl, cc)
 slice_get_set (x ∷ xs) zero (suc j) y c e = inr ((λ h. omega arith), e)

@@ -14,6 +14,7 @@ mod strip;
 mod tail;
 
 pub use giving::take_watched;
-pub use node::RxNode;
+pub use node::{RxNode, frames_after, gap_after};
 pub use rx::Rx;
+pub use strip::Strip;
 pub use tail::Tail;

@@ -20,8 +20,9 @@ use std::alloc::{AllocError, Global};
 use std::marker::PhantomData;
 use std::rc::Rc;
 
-// How many positions of a gap are passed over after a step, since the last whole frame's length.
-fn gap_after<S: Shape>(step: Step, gap: u32) -> u32
+/// How many positions of a gap are passed over after a step of the aligner, since the last whole frame's length of it, where so
+/// many were before. At 0 after `Step::Rejected` a whole frame's length has been passed over.
+pub fn gap_after<S: Shape>(step: Step, gap: u32) -> u32
     requires { gap < S.LEN }
     ensures { result ≡ gap_after_step S.shape step gap }
 {
@@ -32,8 +33,8 @@ fn gap_after<S: Shape>(step: Step, gap: u32) -> u32
     }
 }
 
-// How many frames are delivered after a step.
-fn frames_after(step: Step, frames: u64) -> u64
+/// How many frames are delivered after a step of the aligner, where so many were before. At `u64::MAX` the count stands.
+pub fn frames_after(step: Step, frames: u64) -> u64
     ensures { result ≡ frames_after_step step frames }
 {
     match step {

@@ -1,4 +1,4 @@
-//! A ready frame taken apart, for those who read it tributary by tributary.
+//! A ready frame, or the ones of a gap, taken apart, for those who read it tributary by tributary.
 
 ghost use Rattle.std.specs.Prelude.{◌≡◌, ◌<◌, ◌≤◌, true, false, length};
 ghost use Rattle.pdh_align.specs.Aligning.{frame_back};
@@ -14,7 +14,8 @@ use std::alloc::{AllocError, Global};
 use std::marker::Model;
 use std::rc::Rc;
 
-/// Takes ready frames apart. Only `open` takes memory.
+/// Takes ready frames of an aligner apart, and gaps as long as a frame: first one is loaded, and then the bits of one tributary
+/// after another are read of it. Only `open` takes memory.
 #[derive(Drop)]
 pub struct Strip<S: Shape> {
     // room for a frame

@@ -49,9 +49,9 @@ pub trait Shape: Drop {
         requires { slot < LEN }
         ensures { result ≡ shape.mark slot };
 
-    /// Whether the bits of a tributary are inverted on the line.
+    /// Whether the bits of a tributary are inverted on the line. It may be asked of any number, so that
+    /// it has a meaning for a shape without tributaries too.
     fn inverted(trib: u8) -> bool
-        requires { trib < TRIBS }
         ensures { result ≡ shape.inverted trib };
 
     /// What the service bit of a number tells the receiver; Other for a number that the shape

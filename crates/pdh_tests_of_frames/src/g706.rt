@@ -1,25 +1,17 @@
 //! Worked lines.
 
-ghost use Rattle.std.specs.Prelude.{◌≡◌, ◌<◌, ◌+◌, Bool, List, IsTrue, IfOk, OnOk};
+ghost use Rattle.std.specs.Prelude.{◌≡◌, ◌<◌, ◌+◌, Bool, List, IsTrue, OnOk};
 ghost use Rattle.pdh_g706.specs.View.{StandsFor};
 
+use crate::framed::{are_zeros, port_for};
 use pdh_e1::pack;
-use pdh_edge::{Drain, Failed, MemPort};
+use pdh_edge::{Drain, Failed};
 use pdh_g706::E1Align;
 use pdh_packed::Packed;
 use pdh_shape::TOP;
 use pdh_watch::{Event, Kind, Quiet, Watch};
 use std::alloc::{AllocError, Global};
 use std::test::Fail;
-
-// A port with room for so many bits in its only list.
-fn port_for(alloc: Global, bits: usize) -> Result<MemPort, AllocError>
-    ensures { IfOk result (λ port. IsTrue ((⟦<MemPort as Drain>⟧.outputs port).holds 0)) }
-{
-    let mut port = MemPort::open(alloc, Vec::new(alloc), 1)?;
-    port.room(0, bits)?;
-    Ok(port)
-}
 
 // Takes bits all at once.
 fn take_all<D: Drain, W: Watch>(
@@ -56,11 +48,6 @@ fn zeros(alloc: Global, multiframes: usize) -> Result<Vec<u8>, Fail>
     let payload = vec![in alloc; 0u8; 496 * multiframes]?;
     let line = pack(alloc, &payload)?;
     Ok(line)
-}
-
-// Whether these are so many zeros.
-fn are_zeros(octets: &[u8], count: usize) -> bool {
-    octets.len() == count && octets.iter().all(|octet| *octet == 0)
 }
 
 #[test]

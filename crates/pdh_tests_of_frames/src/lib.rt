@@ -5,7 +5,11 @@
 #[cfg(test)]
 mod align;
 #[cfg(test)]
+mod ds1;
+#[cfg(test)]
 mod events;
+#[cfg(test)]
+mod framed;
 #[cfg(test)]
 mod g706;
 #[cfg(test)]

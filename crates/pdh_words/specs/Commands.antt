@@ -4,17 +4,26 @@ use Rattle.std.specs.Str.{bytes_eq}
 use Rattle.pdh_row_text.specs.Text.{◌>>=◌, number_of}
 use Rattle.pdh_clock.specs.declared.bias.Bias.{Bias}
 use Rattle.pdh_clock.specs.declared.bias.Bias.TheVariants.{Nominal, Fast, Slow, Mixed}
+use Rattle.pdh_ds1.specs.declared.form.Frame1.{Frame1}
+use Rattle.pdh_ds1.specs.declared.form.Frame1.TheVariants.{Super, Extended}
+use Rattle.pdh_ds1.specs.Forms.{name_of as name_of_form}
 use Rattle.pdh_chain.specs.declared.chain.Chain.{Chain}
 use Rattle.pdh_chain.specs.declared.chain.Chain.TheVariants.{C13}
 use Rattle.pdh_chain.specs.Chains.{chains, name_of}
 use Rattle.pdh_words.specs.declared.commands.Command.{Command}
-use Rattle.pdh_words.specs.declared.commands.Command.TheVariants.{Demux, Mux, ClockCheck, ClockMake, Inspect, InspectE1, Show, E1Pack, E1Unpack, Disturb, Drill}
+use Rattle.pdh_words.specs.declared.commands.Command.TheVariants.{Demux, Mux, ClockCheck, ClockMake, Inspect, InspectE1, Show, E1Pack, E1Unpack, Ds1Pack, Ds1Unpack, Disturb, Drill}
 use Rattle.pdh_words.specs.declared.commands.Bits.{Bits}
 use Rattle.pdh_words.specs.declared.commands.Bits.TheVariants.{Line, Bent}
 
 -- the chain of a word
 abbrev pub chain_of : List ℕ → Option Chain
 chain_of word = find (λ chain. bytes_eq word (name_of chain)) chains
+
+-- the form of a DS1 line of a word
+abbrev pub form_of : List ℕ → Option Frame1
+form_of word =
+    (if bytes_eq word (name_of_form Super) then Some Super
+    else (if bytes_eq word (name_of_form Extended) then Some Extended else None))
 
 -- the clock offsets of a word
 abbrev pub bias_of : List ℕ → Option Bias
@@ -77,14 +86,28 @@ drilling_of chain_word seed_word frames_word = do
   frames ← number_of frames_word
   Some (Drill chain seed frames)
 
+-- `ds1pack` of a form
+abbrev pub ds1_packing_of : List ℕ → Option Command
+ds1_packing_of form_word = do
+  form ← form_of form_word
+  Some (Ds1Pack form)
+
+-- `ds1unpack` of a form
+abbrev pub ds1_unpacking_of : List ℕ → Option Command
+ds1_unpacking_of form_word = do
+  form ← form_of form_word
+  Some (Ds1Unpack form)
+
 -- ---- by the number of the words
 
--- `inspect e1`, or a word and a chain
+-- `inspect e1`, `ds1pack` or `ds1unpack` and a form, or a word and a chain
 abbrev pub of_two : List ℕ → List ℕ → Option Command
 of_two first second =
-    if bytes_eq first (codes "inspect") && bytes_eq second (codes "e1") then Some InspectE1 else (do
+    if bytes_eq first (codes "inspect") && bytes_eq second (codes "e1") then Some InspectE1
+    else (if bytes_eq first (codes "ds1pack") then ds1_packing_of second
+    else (if bytes_eq first (codes "ds1unpack") then ds1_unpacking_of second else (do
       chain ← chain_of second
-      conversion_of first chain)
+      conversion_of first chain)))
 
 -- `show CHAIN NUMBER`, `clock check CHAIN`, or a word, a chain and `bent`
 abbrev pub of_three : List ℕ → List ℕ → List ℕ → Option Command
@@ -108,7 +131,7 @@ of_five first second third fourth fifth =
 
 -- the command of these words, if they are a row of the table: `mux CHAIN`, `demux CHAIN`, `demux CHAIN bent`,
 -- `clock check CHAIN`, `mux c13 feac CODE`, `clock make CHAIN FRAMES BIAS`, `inspect CHAIN`, `inspect CHAIN bent`, `inspect e1`,
--- `show CHAIN NUMBER`, `e1pack`, `e1unpack`, `disturb CHAIN`, and `drill CHAIN SEED FRAMES`
+-- `show CHAIN NUMBER`, `e1pack`, `e1unpack`, `disturb CHAIN`, `drill CHAIN SEED FRAMES`, `ds1pack FORM`, and `ds1unpack FORM`
 abbrev pub command_of : List (List ℕ) → Option Command
 command_of (a ∷ []) = framing_of a
 command_of (a ∷ b ∷ []) = of_two a b
@@ -127,4 +150,4 @@ HasSmallNumbers _ = ⊤
 
 -- what is told of words that are no row of the table
 abbrev pub usage_text : List ℕ
-usage_text = codes "usage: pdh mux demux clock inspect show e1pack e1unpack disturb drill"
+usage_text = codes "usage: pdh mux demux clock inspect show e1pack e1unpack disturb drill ds1pack ds1unpack"

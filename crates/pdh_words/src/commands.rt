@@ -2,10 +2,11 @@
 
 ghost use Rattle.std.specs.Prelude.{◌≡◌, ◌≤◌, length, map, IfSome};
 ghost use Rattle.std.specs.String.{string_bytes};
-ghost use Rattle.pdh_words.specs.Commands.{chain_of, bias_of, framing_of, reading_of, conversion_of, showing_of, checking_of, sending_of, making_of, drilling_of, of_two as by_two, of_three as by_three, of_four as by_four, of_five as by_five, command_of, usage_text, HasSmallNumbers};
+ghost use Rattle.pdh_words.specs.Commands.{chain_of, bias_of, framing_of, reading_of, conversion_of, showing_of, checking_of, sending_of, making_of, drilling_of, form_of, ds1_packing_of, ds1_unpacking_of, of_two as by_two, of_three as by_three, of_four as by_four, of_five as by_five, command_of, usage_text, HasSmallNumbers};
 
 use pdh_chain::{Chain, all_chains};
 use pdh_clock::Bias;
+use pdh_ds1::Frame1;
 use pdh_row_text::number;
 
 /// Which file a line is read from.
@@ -68,6 +69,16 @@ pub enum Command {
     E1Pack,
     /// `e1unpack`: takes the payload out of a line of CRC-4 multiframes (G.706, 4).
     E1Unpack,
+    /// `ds1pack sf` or `ds1pack esf`: puts a payload into a line of superframes (T1.107).
+    Ds1Pack {
+        /// The form of the line.
+        frame: Frame1,
+    },
+    /// `ds1unpack sf` or `ds1unpack esf`: takes the payload out of a line of superframes (T1.107).
+    Ds1Unpack {
+        /// The form of the line.
+        frame: Frame1,
+    },
     /// `disturb CHAIN`: changes bits of a line by a script.
     Disturb {
         /// The chain of the line.
@@ -89,7 +100,7 @@ pub fn usage() -> &'static str
     ensures text { result.now ≡ usage_text }
     ensures short { length result.now ≤ 100 }
 {
-    "usage: pdh mux demux clock inspect show e1pack e1unpack disturb drill"
+    "usage: pdh mux demux clock inspect show e1pack e1unpack disturb drill ds1pack ds1unpack"
 }
 
 // The chain that a word names.
@@ -100,6 +111,17 @@ fn chain(word: &str) -> Option<Chain>
         .iter()
         .copied()
         .find(|chain| word == chain.name())
+}
+
+// The form of a DS1 line that a word names.
+fn form(word: &str) -> Option<Frame1>
+    ensures { result ≡ form_of word.now }
+{
+    match word {
+        "sf" => Some(Frame1::Super),
+        "esf" => Some(Frame1::Extended),
+        _ => None,
+    }
 }
 
 // The clock offsets that a word names.
@@ -211,6 +233,22 @@ fn drilling(chain_word: &str, seed: &str, frames: &str) -> Option<Command>
     })
 }
 
+// The packing of a payload into superframes, by their form.
+fn ds1_packing(form_word: &str) -> Option<Command>
+    ensures { result ≡ ds1_packing_of form_word.now }
+{
+    let frame = form(form_word)?;
+    Some(Command::Ds1Pack { frame })
+}
+
+// The unpacking of superframes, by their form.
+fn ds1_unpacking(form_word: &str) -> Option<Command>
+    ensures { result ≡ ds1_unpacking_of form_word.now }
+{
+    let frame = form(form_word)?;
+    Some(Command::Ds1Unpack { frame })
+}
+
 // The command of two words.
 fn of_two(first: &str, second: &str) -> Option<Command>
     ensures is { result ≡ by_two first.now second.now }
@@ -218,6 +256,12 @@ fn of_two(first: &str, second: &str) -> Option<Command>
 {
     if first == "inspect" && second == "e1" {
         return Some(Command::InspectE1);
+    }
+    if first == "ds1pack" {
+        return ds1_packing(second);
+    }
+    if first == "ds1unpack" {
+        return ds1_unpacking(second);
     }
     conversion(first, chain(second)?)
 }
@@ -267,8 +311,8 @@ fn of_five(first: &str, second: &str, third: &str, fourth: &str, fifth: &str) ->
 /// The command of the words, without the program's own name, if they are a row of the table: `mux CHAIN`, `demux CHAIN`,
 /// `demux CHAIN bent`, `mux c13 feac CODE` with a number of at most 63, `clock check CHAIN`, `clock make CHAIN FRAMES BIAS`
 /// with a number and `nominal`, `fast`, `slow` or `mixed`, `inspect CHAIN`, `inspect CHAIN bent`, `inspect e1`,
-/// `show CHAIN NUMBER`, `e1pack`, `e1unpack`, `disturb CHAIN`, or `drill CHAIN SEED FRAMES` with two numbers. CHAIN is the name
-/// of a chain, and a number is `0`, or a digit 1 to 9 and at most eight digits.
+/// `show CHAIN NUMBER`, `e1pack`, `e1unpack`, `disturb CHAIN`, `drill CHAIN SEED FRAMES` with two numbers, or `ds1pack` or
+/// `ds1unpack` with `sf` or `esf`. CHAIN is the name of a chain, and a number is `0`, or a digit 1 to 9 and at most eight digits.
 pub fn command_for(words: &[String]) -> Option<Command>
     ensures is { result ≡ command_of (map string_bytes words.now) }
     ensures numbers { IfSome result HasSmallNumbers }

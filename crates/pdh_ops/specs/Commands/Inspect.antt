@@ -15,7 +15,8 @@ use Rattle.pdh_answers.specs.declared.answer.Stop.TheVariants.{Short}
 use Rattle.pdh_answers.specs.Names.{name_of, line_file, line_name, e1_name}
 use Rattle.pdh_g706.specs.Events.{e1_events}
 use Rattle.pdh_words.specs.declared.commands.Bits.{Bits}
-use Rattle.pdh_ops.specs.Commands.E1.{framed_of}
+use Rattle.pdh_streams.specs.Codecs.{framed_of}
+use Rattle.pdh_streams.specs.E1.{e1_codec}
 use Rattle.pdh_runner.specs.Operation.{Operation, no_names, one_name, no_bytes, all_in_run, due_at_outputs, Files}
 use Rattle.pdh_answers.specs.declared.answer.Done.TheVariants.{Watched, Frame}
 use Rattle.pdh_answers.specs.declared.answer.Done.{Done}
@@ -54,7 +55,7 @@ inspecting chain bits = record {
 }
 
 abbrev pub inspect_e1_comes : Files → Answer
-inspect_e1_comes files = and_then (framed_of (files e1_name)) e1_inspected
+inspect_e1_comes files = and_then (framed_of e1_codec (files e1_name)) e1_inspected
 
 -- `inspect e1`
 abbrev pub inspecting_e1 : Operation

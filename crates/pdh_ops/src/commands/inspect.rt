@@ -6,10 +6,10 @@ ghost use Rattle.pdh_answers.specs.declared.file.File.TheVariants.{E1Line};
 ghost use Rattle.pdh_ops.specs.Commands.Inspect.{inspect_says, inspect_e1_says, inspecting, inspecting_e1, inspected, e1_inspected};
 ghost use Rattle.pdh_runner.specs.Performing.{Performs, IsWatched};
 ghost use Rattle.pdh_ops.specs.laws.InspectLaws.{inspect_reads};
-ghost use Rattle.pdh_ops.specs.E1Steps.{IsFramedLine};
+ghost use Rattle.pdh_streams.specs.E1.{e1_codec};
+ghost use Rattle.pdh_streams.specs.Steps.{IsFramedLine};
 ghost use Rattle.pdh_runner.specs.LineSteps.{CanRead, IsLinePort};
 
-use crate::commands::e1::framed_line;
 use crate::line_work::{LineWork, run_line};
 use pdh_answers::{Done, File, Stop};
 use pdh_blocks::ShelfPort;
@@ -17,6 +17,7 @@ use pdh_chain::Chain;
 use pdh_edge::Shelf;
 use pdh_inspect::{LineStop, inspect_framed, inspect_line};
 use pdh_runner::{Ended, Input, Outcome, PortFiles, Work, Worked, run_over};
+use pdh_streams::{E1, framed_line};
 use pdh_watch::Monitor;
 use pdh_words::{Bits, Text};
 use std::alloc::{AllocError, Global};
@@ -123,7 +124,7 @@ pub fn inspect<S: Shelf>(
 impl Work for FramedPlan {
     ghost operation = { λ p. inspecting_e1 };
 
-    ghost planned = { λ p state. IsFramedLine p.line state };
+    ghost planned = { λ p state. IsFramedLine e1_codec p.line state };
 
     ghost opened = { λ p port. CanRead p.line.bits port };
 
@@ -165,7 +166,7 @@ pub fn inspect_e1<S: Shelf>(
     ensures performs { Performs inspecting_e1 (S.state shelf) (S.state result.shelf) result.answer }
     ensures watches { IsWatched inspecting_e1 (S.state shelf) (S.state result.shelf) result.answer (map ⟦<Box<dyn Monitor> as Monitor>⟧.state monitors.old.items) (map ⟦<Box<dyn Monitor> as Monitor>⟧.state monitors.new.items) }
 {
-    match framed_line(&mut shelf) {
+    match framed_line(&E1, &mut shelf) {
         Ok(line) => run_over(alloc, &FramedPlan { line }, shelf, monitors),
         Err(stop) => Ended::new(shelf, Err(stop)),
     }

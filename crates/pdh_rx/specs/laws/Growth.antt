@@ -1,143 +1,28 @@
 -- What a longer received line gives begins with what the shorter one gave.
-use Rattle.std.proofs.Common.{◌≡◌, ℕ, zero, suc, ◌+◌, ◌-◌, ◌*◌, ◌/◌, ◌<◌, ◌≤◌, Bool, true, List, [], ◌∷◌, ◌++◌, length, map, drop, sym, ap, ◌∙◌, inl, inr, arith, append_assoc, replicate, length-append}
-use Rattle.std.specs.Prelude.{flat_map}
-use Rattle.std.specs.List.{range_with_len}
-use Rattle.std.proofs.lemmas.List.{append-nil, replicate-append-replicate, map-append}
-use Rattle.std.proofs.lemmas.Bool.{cases_Bool}
-use Rattle.std.proofs.lemmas.Grind.{flat_map-append}
+use Rattle.std.proofs.Common.{◌≡◌, ℕ, ◌+◌, ◌-◌, ◌*◌, ◌/◌, ◌≤◌, Bool, true, List, ◌++◌, sym, ap, ◌∙◌, arith, replicate}
+use Rattle.std.proofs.lemmas.List.{replicate-append-replicate}
 use Rattle.std.proofs.lemmas.Nat.{le-div}
 use Rattle.std.proofs.Math.Nat.{mul-le-mul_right, div-mul-le_self}
 use Rattle.pdh_edge.specs.Ports.{IsPrefix}
 use Rattle.pdh_shape.specs.Frame.{FrameShape, IsFrame}
-use Rattle.pdh_line.specs.Least.{least_below}
-use Rattle.pdh_line.specs.Tracking.{frame_of, is_confirmed, positions, gap_of, is_found, aligned, completes_loss, frames_in, delivered, is_lost, after_loss, Piece, one_search, track}
-use Rattle.pdh_line.specs.Tracking.Piece.{Gap, Delivered}
+use Rattle.pdh_line.specs.Tracking.Piece.{Gap}
 use Rattle.pdh_line.specs.Receiving.{piece_bits, received}
-use Rattle.pdh_line.proofs.Ranges.{range_append}
-use Rattle.pdh_line.proofs.LeastLaws.{least_below-le, least_below_before, least_below_past}
-use Rattle.pdh_line.proofs.TrackingLaws.{is_confirmed-drop-append, gap_of_is, gap_of-append, aligned-append, is_found-append, completes_loss-append, frames_in-append, delivered_is, delivered_none, delivered_within, after_loss_shorter, one_search_is, frames-append, track_lost, track_open, track_lost-append}
+use Rattle.pdh_align.proofs.PieceGrowth.{pieces_grow}
 
-pub prefix_same : (xs : List Bool) → IsPrefix xs xs
-prefix_same xs = ([], sym (append-nil xs))
-
-pub prefix_ones : (a b : ℕ) → a ≤ b → IsPrefix (replicate a true) (replicate b true)
+prefix_ones : (a b : ℕ) → a ≤ b → IsPrefix (replicate a true) (replicate b true)
 prefix_ones a b le =
     let e : b ≡ a + (b - a) = omega arith in
     (replicate (b - a) true, ap (λ k. replicate k true) e ∙ sym (replicate-append-replicate a (b - a) true))
 
 -- a longer gap gives at least as many ones
-pub gap_gives : (s : FrameShape) (j n m : ℕ) → IsFrame s → n ≤ m → IsPrefix (piece_bits s j (Gap n)) (piece_bits s j (Gap m))
+gap_gives : (s : FrameShape) (j n m : ℕ) → IsFrame s → n ≤ m → IsPrefix (piece_bits s j (Gap n)) (piece_bits s j (Gap m))
 unfolding piece_bits
 gap_gives s j n m shape le =
     let quotient : n / s.len ≤ m / s.len = le-div (n / s.len) m s.len shape.some_slots (omega (arith, div-mul-le_self n s.len)) in
     let fewer : n / s.len * s.low ≤ m / s.len * s.low = mul-le-mul_right s.low quotient in
     prefix_ones (n / s.len * s.low) (m / s.len * s.low) fewer
 
--- a search that hasn't ended, or ended the same, passes over no fewer positions in a longer line
-gap_grows : (s : FrameShape) (l m : List Bool) → gap_of s l ≤ gap_of s (l ++ m)
-gap_grows s l m =
-    let test : ℕ → Bool = λ p. is_confirmed s (drop p l) in
-    let is : gap_of s l ≡ least_below (positions s l) test = gap_of_is s l in
-    let le : least_below (positions s l) test ≤ positions s l = least_below-le (positions s l) test in
-    let more : positions s l ≤ positions s (l ++ m) = omega (arith, length-append l m) in
-    let past : least_below (positions s l) test ≤ least_below (positions s (l ++ m)) (λ p. is_confirmed s (drop p (l ++ m))) =
-    least_below_past (positions s (l ++ m)) (λ p. is_confirmed s (drop p (l ++ m))) (least_below (positions s l) test) (omega arith)
-    (λ i lt. is_confirmed-drop-append s l m i (omega arith) ∙ least_below_before (positions s l) test i lt) in
-    omega (arith, is, gap_of_is s (l ++ m), past)
-
--- an alignment delivers no fewer frames in a longer line
-delivered_grows : (s : FrameShape) (l m : List Bool) → IsFrame s → is_found s l ≡ true → delivered s l ≤ delivered s (l ++ m)
-delivered_grows s l m shape found =
-    let a : List Bool = aligned s l in
-    let test : ℕ → Bool = completes_loss s a in
-    let is : delivered s l ≡ least_below (frames_in s a) test = delivered_is s l found in
-    let le : least_below (frames_in s a) test ≤ frames_in s a = least_below-le (frames_in s a) test in
-    let more : frames_in s a ≤ frames_in s (a ++ m) = frames_in-append s a m shape in
-    let past : least_below (frames_in s a) test ≤ least_below (frames_in s (a ++ m)) (completes_loss s (a ++ m)) =
-    least_below_past (frames_in s (a ++ m)) (completes_loss s (a ++ m)) (least_below (frames_in s a) test) (omega arith)
-    (λ i lt. completes_loss-append s a m i shape (omega arith) ∙ least_below_before (frames_in s a) test i lt) in
-    let longer : delivered s (l ++ m) ≡ least_below (frames_in s (a ++ m)) (completes_loss s (a ++ m)) =
-    delivered_is s (l ++ m) (is_found-append s l m found) ∙ ap (λ x. least_below (frames_in s x) (completes_loss s x)) (aligned-append s l m found) in
-    omega (arith, is, longer, past)
-
--- the frames of an alignment and those that come in a longer line
-frames_grow : (s : FrameShape) (l m : List Bool) → IsFrame s → is_found s l ≡ true
-    → (rest : List Piece) × (map (λ k. Delivered (frame_of s (aligned s (l ++ m)) k)) (range_with_len 0 (delivered s (l ++ m))) ≡ map (λ k. Delivered (frame_of s (aligned s l) k)) (range_with_len 0 (delivered s l)) ++ rest)
-frames_grow s l m shape found =
-    let d : ℕ = delivered s l in
-    let e : ℕ = delivered s (l ++ m) - d in
-    let f : ℕ → Piece = λ k. Delivered (frame_of s (aligned s l ++ m) k) in
-    let all : delivered s (l ++ m) ≡ d + e = omega (arith, delivered_grows s l m shape found) in (
-      map f (range_with_len (0 + d) e),
-      ap (λ x. map (λ k. Delivered (frame_of s x k)) (range_with_len 0 (delivered s (l ++ m)))) (aligned-append s l m found)
-          ∙ ap (λ n. map f (range_with_len 0 n)) all ∙ ap (map f) (range_append 0 d e)
-          ∙ map-append f (range_with_len 0 d) (range_with_len (0 + d) e)
-          ∙ ap (λ x. x ++ map f (range_with_len (0 + d) e)) (frames-append s (aligned s l) m d (delivered_within s l shape found)),
-    )
-
--- the pieces of a search that isn't lost
-search_grows : (s : FrameShape) (j : ℕ) (l m : List Bool) → IsFrame s → IsPrefix (flat_map (piece_bits s j) (one_search s l)) (flat_map (piece_bits s j) (one_search s (l ++ m)))
-search_grows s j l m shape =
-    elim (cases_Bool (is_found s l)) [
-      | inl found ↦
-          let frames = frames_grow s l m shape found in
-          let f : Piece → List Bool = piece_bits s j in
-          let before : List Piece = map (λ k. Delivered (frame_of s (aligned s l) k)) (range_with_len 0 (delivered s l)) in
-          let same : one_search s (l ++ m) ≡ Gap (gap_of s l) ∷ (before ++ frames.0) =
-          one_search_is s (l ++ m) ∙ ap (λ n. Gap n ∷ map (λ k. Delivered (frame_of s (aligned s (l ++ m)) k)) (range_with_len 0 (delivered s (l ++ m)))) (gap_of-append s l m found)
-          ∙ ap (λ x. Gap (gap_of s l) ∷ x) frames.1 in (
-            flat_map f frames.0,
-            ap (flat_map f) same ∙ ap (λ x. f (Gap (gap_of s l)) ++ x) (flat_map-append f before frames.0)
-                ∙ sym (append_assoc (f (Gap (gap_of s l))) (flat_map f before) (flat_map f frames.0))
-                ∙ ap (λ x. flat_map f x ++ flat_map f frames.0) (sym (one_search_is s l)),
-          )
-      | inr none ↦
-          let f : Piece → List Bool = piece_bits s j in
-          let later : List Piece = map (λ k. Delivered (frame_of s (aligned s (l ++ m)) k)) (range_with_len 0 (delivered s (l ++ m))) in
-          let more = gap_gives s j (gap_of s l) (gap_of s (l ++ m)) shape (gap_grows s l m) in
-          let alone : flat_map f (one_search s l) ≡ f (Gap (gap_of s l)) =
-          ap (flat_map f) (one_search_is s l) ∙ ap (λ n. f (Gap (gap_of s l)) ++ flat_map f (map (λ k. Delivered (frame_of s (aligned s l) k)) (range_with_len 0 n))) (delivered_none s l none) ∙ append-nil (f (Gap (gap_of s l))) in (
-            more.0 ++ flat_map f later,
-            ap (flat_map f) (one_search_is s (l ++ m)) ∙ ap (λ x. x ++ flat_map f later) more.1
-                ∙ append_assoc (f (Gap (gap_of s l))) more.0 (flat_map f later)
-                ∙ ap (λ x. x ++ (more.0 ++ flat_map f later)) (sym alone),
-          )
-    ]
-
--- the pieces of a line begin with those of its first search
-track_begins : (s : FrameShape) (l : List Bool) → IsFrame s → (rest : List Piece) × (track s l ≡ one_search s l ++ rest)
-track_begins s l shape =
-    elim (cases_Bool (is_lost s l)) [
-      | inl lost ↦ (track s (after_loss s l), track_lost s l shape lost)
-      | inr kept ↦ ([], track_open s l kept ∙ sym (append-nil (one_search s l)))
-    ]
-
-pieces_grow : (s : FrameShape) (j n : ℕ) (l m : List Bool) → IsFrame s → length l < n → IsPrefix (flat_map (piece_bits s j) (track s l)) (flat_map (piece_bits s j) (track s (l ++ m)))
-pieces_grow s j zero l m shape h = absurd (omega arith)
-pieces_grow s j (suc n) l m shape h =
-    elim (cases_Bool (is_lost s l)) [
-      | inl lost ↦
-          let f : Piece → List Bool = piece_bits s j in
-          let first : List Bool = flat_map f (one_search s l) in
-          let shorter : length (after_loss s l) < length l = after_loss_shorter s l shape lost in
-          let rest = pieces_grow s j n (after_loss s l) m shape (omega arith) in (
-            rest.0,
-            ap (flat_map f) (track_lost-append s l m shape lost) ∙ flat_map-append f (one_search s l) (track s (after_loss s l ++ m))
-                ∙ ap (λ x. first ++ x) rest.1 ∙ sym (append_assoc first (flat_map f (track s (after_loss s l))) rest.0)
-                ∙ ap (λ x. x ++ rest.0) (sym (ap (flat_map f) (track_lost s l shape lost) ∙ flat_map-append f (one_search s l) (track s (after_loss s l)))),
-          )
-      | inr kept ↦
-          let f : Piece → List Bool = piece_bits s j in
-          let search = search_grows s j l m shape in
-          let begins = track_begins s (l ++ m) shape in (
-            search.0 ++ flat_map f begins.0,
-            ap (flat_map f) begins.1 ∙ flat_map-append f (one_search s (l ++ m)) begins.0 ∙ ap (λ x. x ++ flat_map f begins.0) search.1
-                ∙ append_assoc (flat_map f (one_search s l)) search.0 (flat_map f begins.0)
-                ∙ ap (λ x. flat_map f x ++ (search.0 ++ flat_map f begins.0)) (sym (track_open s l kept)),
-          )
-    ]
-
 -- the received line of a tributary grows with its node's
 pub received_grows : (s : FrameShape) (j : ℕ) (line more : List Bool) → IsFrame s → IsPrefix (received s j line) (received s j (line ++ more))
 unfolding received
-received_grows s j line more shape = pieces_grow s j (suc (length line)) line more shape (omega arith)
+received_grows s j line more shape = pieces_grow (piece_bits s j) s line more (λ n m le. gap_gives s j n m shape le) shape

@@ -1,0 +1,8 @@
+mod PlanLaws
+mod CrcLaws
+mod WordLaws
+pub mod PackingLaws
+mod MachineLaws
+pub mod FitLaws
+mod Worked
+mod WorkedFar

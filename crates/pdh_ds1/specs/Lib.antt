@@ -1,0 +1,10 @@
+pub mod Superframe
+pub mod Plans
+pub mod Forms
+pub mod Crc6
+pub mod Packing
+pub mod Codec
+pub mod Receiving
+pub mod Machine
+pub mod View
+pub mod laws
