@@ -14,6 +14,7 @@ use Rattle.pdh_shape.specs.declared.place.Level.{Level}
 use Rattle.pdh_shape.specs.declared.role.Service.{Service}
 use Rattle.pdh_shape.specs.Frame.{FrameShape, IsFrame}
 use Rattle.pdh_shape.specs.Tributary.{reads_below}
+use Rattle.pdh_line.specs.Sending.Mode.{Plain}
 use Rattle.pdh_line.specs.Sending.{front, given}
 use Rattle.pdh_line.specs.Events.{Event, Kind}
 use Rattle.pdh_line.specs.Events.Kind.{Overflow as OverflowKind, Underflow as UnderflowKind}
@@ -119,10 +120,10 @@ first_of_range f a (suc n) x e l h none here = elim (cases_eq a x) [
       ∙ first_of_range f (a + 1) n x e (omega arith) (omega arith) (λ y l' h'. none y (omega arith) h') here
 ]
 
-first_event-at : (shapes : List FrameShape) (counts : Counts) (frames x : ℕ) (e : Event) → x < frames * top_len shapes → ((y : ℕ) → y < x → events_in shapes counts [] y ≡ [])
-    → slice_get (events_in shapes counts [] x) 0 ≡ Some e → first_event shapes counts frames ≡ Some e
+first_event-at : (shapes : List FrameShape) (counts : Counts) (frames x : ℕ) (e : Event) → x < frames * top_len shapes → ((y : ℕ) → y < x → events_in Plain shapes counts [] y ≡ [])
+    → slice_get (events_in Plain shapes counts [] x) 0 ≡ Some e → first_event shapes counts frames ≡ Some e
 unfolding events_below
-first_event-at shapes counts frames x e h none here = first_of_range (events_in shapes counts []) 0 (frames * top_len shapes) x e (omega arith) (omega arith) (λ y l lt. none y lt) here
+first_event-at shapes counts frames x e h none here = first_of_range (events_in Plain shapes counts []) 0 (frames * top_len shapes) x e (omega arith) (omega arith) (λ y l lt. none y lt) here
 
 -- ---- what it sends
 
@@ -189,10 +190,10 @@ module _ (shapes : List FrameShape) (counts : Counts) (says : ℕ → Service) (
           let here : i ≡ m.given plan 0 k + i = omega (arith, given-none k known) in
           begin k i known h ∙ ap (λ n. slice_index_or (lists k) n false) here
 
-  tells : (size : ℕ → ℕ) (x : ℕ) (o : Option TxStop) → m.obstacle plan size x ≡ o → Tells (Other shapes counts scheduled size [] 0 (suc x)) o (events_in shapes counts [] x)
-  tells size x o is = subst (λ o. Tells (Other shapes counts scheduled size [] 0 (suc x)) o (events_in shapes counts [] x)) is (chain_tells shapes counts scheduled size top [] 0 x are at)
+  tells : (size : ℕ → ℕ) (x : ℕ) (o : Option TxStop) → m.obstacle plan size x ≡ o → Tells (Other shapes counts scheduled size [] 0 (suc x)) o (events_in Plain shapes counts [] x)
+  tells size x o is = subst (λ o. Tells (Other shapes counts scheduled size [] 0 (suc x)) o (events_in Plain shapes counts [] x)) is (chain_tells shapes counts scheduled size top [] 0 x are at)
 
-  quiet : (inputs : Inputs) (to y : ℕ) → IsFree m plan 0 to inputs → y < to → events_in shapes counts [] y ≡ []
+  quiet : (inputs : Inputs) (to y : ℕ) → IsFree m plan 0 to inputs → y < to → events_in Plain shapes counts [] y ≡ []
   quiet inputs to y free h = tells inputs.left y None (free inputs.left (fits inputs) y (omega arith) h)
 
   -- nothing stands in the way of the first of bits that are free
@@ -266,7 +267,7 @@ module _ (shapes : List FrameShape) (counts : Counts) (says : ℕ → Service) (
     }
 
     -- an event that the sender met is the first
-    at_event : (over : Bool) (place : Place) (first : IsFirst (events_in shapes counts [] stops.made) stop) → stop ≡ stop_at over place → is_failed stop ≡ false → (over ≡ is_overflow first.event.kind) × (place ≡ place_of first.event)
+    at_event : (over : Bool) (place : Place) (first : IsFirst (events_in Plain shapes counts [] stops.made) stop) → stop ≡ stop_at over place → is_failed stop ≡ false → (over ≡ is_overflow first.event.kind) × (place ≡ place_of first.event)
         → StopsAtEvent shapes counts says scheduled frames over place inputs inputs_now outputs outputs_now
     at_event over place first same none is = record {
       event = first.event;
@@ -284,7 +285,7 @@ module _ (shapes : List FrameShape) (counts : Counts) (says : ℕ → Service) (
     }
 
     -- what stood in its way
-    met : is_failed stop ≡ false → IsFirst (events_in shapes counts [] stops.made) stop ⊎ Other shapes counts scheduled inputs.left [] 0 (suc stops.made) stop
+    met : is_failed stop ≡ false → IsFirst (events_in Plain shapes counts [] stops.made) stop ⊎ Other shapes counts scheduled inputs.left [] 0 (suc stops.made) stop
     met none = tells inputs.left stops.made (Some stop) (stops.at.met.is_first none inputs.left (fits inputs))
 
   pub stops_muxes : (old : Supply → ℕ → Type 0) (frames : ℕ) (stop : TxStop) (inputs inputs_now : Inputs) (outputs outputs_now : Outputs) (faults now writes writes_now : ℕ) → frames ≤ scheduled [] → ((supply : Supply) → old supply 0)

@@ -39,7 +39,7 @@ put_of shapes line outputs outputs_now leaf known put before told =
 
 abbrev pub source_of : FrameShape → List FrameShape → Counts → (ℕ → List Bool) → (ℕ → Service) → Source
 source_of s below counts lists says =
-    record { mode = Plain; counts = counts []; inputs = λ j. chain_line below counts (content_of lists says).bits (λ n. idle) (child [] j) (0 + j * width below); says = says }
+    record { mode = Plain; counts = counts []; inputs = λ j. chain_line Plain below counts (content_of lists says).bits (λ n. idle) (child [] j) (0 + j * width below); says = says }
 
 top_comes_back : (shapes : List FrameShape) (line : List Bool) → AreFrames shapes → KeepRight shapes → TopComesBack shapes line
 unfolding chain_line
@@ -51,7 +51,7 @@ top_comes_back (s ∷ below) line are keep =
       λ trib known.
           let down = downwards s source line e u m trib refl are.0 are.1 keep.0 known same quiet long in
           let first : 0 + trib * width below ≡ trib * width below = omega arith in
-          (down.0, down.1, down.2, subst (λ n. Rejoins (received s trib line) (chain_line below counts (content_of lists says).bits (λ n. idle) (child [] trib) n) down.0 down.1) first down.3),
+          (down.0, down.1, down.2, subst (λ n. Rejoins (received s trib line) (chain_line Plain below counts (content_of lists says).bits (λ n. idle) (child [] trib) n) down.0 down.1) first down.3),
     )
 
 contained_top : (shapes : List FrameShape) (line : List Bool) → AreFrames shapes → ErrorsAreContained shapes line

@@ -130,7 +130,7 @@ first_is len x some = elim (cases_eq x 0) [
     differ (inl h) (inl q) other = absurd (other (sym (div-add-mod' x len) ∙ ap (λ v. v * len + x % len) h ∙ ap (λ v. 0 * len + v) q ∙ omega arith))
 
 module _ (s : FrameShape) (below : List FrameShape) (counts : Counts) (scheduled : List ℕ → ℕ) (size : ℕ → ℕ) (path : Path) (first x : ℕ) (are : AreFrames (s ∷ below)) (canonical : path ≡ path_of (steps_of path))
-    (inner : (j k : ℕ) → j < s.tribs → Tells (Other below counts scheduled size (child (steps_of path) j) (first + j * width below) (suc k)) ((tributary senders below path first j).obstacle (plan_with scheduled counts) size k) (events_in below counts (child (steps_of path) j) k)) where
+    (inner : (j k : ℕ) → j < s.tribs → Tells (Other below counts scheduled size (child (steps_of path) j) (first + j * width below) (suc k)) ((tributary senders below path first j).obstacle (plan_with scheduled counts) size k) (events_in Plain below counts (child (steps_of path) j) k)) where
   abbrev steps : List ℕ
   steps = steps_of path
 
@@ -144,12 +144,12 @@ module _ (s : FrameShape) (below : List FrameShape) (counts : Counts) (scheduled
   other = Other (s ∷ below) counts scheduled size steps first (suc x)
 
   -- a bit of a tributary that is taken for the node's bit
-  child_tells : (j k : ℕ) → j < s.tribs → k < given s j (counts steps j) (suc x) → Tells other (obstacle_of (slice_get ms j) plan size k) (events_in below counts (child steps j) k)
+  child_tells : (j k : ℕ) → j < s.tribs → k < given s j (counts steps j) (suc x) → Tells other (obstacle_of (slice_get ms j) plan size k) (events_in Plain below counts (child steps j) k)
   child_tells j k known h =
       let here : 0 + j ≡ j = omega arith in
       let found : slice_get ms j ≡ Some (tributary senders below path first j) = stands_at (tributary senders below path first) 0 s.tribs j known ∙ ap (λ i. Some (tributary senders below path first i)) here in
-      subst (λ o. Tells other (obstacle_of o plan size k) (events_in below counts (child steps j) k)) (sym found)
-      (tells-weaker (Other below counts scheduled size (child steps j) (first + j * width below) (suc k)) other _ (events_in below counts (child steps j) k)
+      subst (λ o. Tells other (obstacle_of o plan size k) (events_in Plain below counts (child steps j) k)) (sym found)
+      (tells-weaker (Other below counts scheduled size (child steps j) (first + j * width below) (suc k)) other _ (events_in Plain below counts (child steps j) k)
       (λ stop why. lift s below counts scheduled size steps first j (suc k) (suc x) stop are known h why) (inner j k known))
 
   place_is : (j n t : ℕ) → place_at path j n t ≡ record { path = path_of steps; trib = j + 1; frame = n; slot = t }
@@ -163,8 +163,8 @@ module _ (s : FrameShape) (below : List FrameShape) (counts : Counts) (scheduled
   module _ (stores : HasStores s) where
     leads_tell : Tells other (first_some (leads s plan ms size)) (leads_of s below counts steps)
     leads_tell =
-        tells-flat other (lead_at plan ms size) (λ j. flat_map (events_in below counts (child steps j)) (range_with_len 0 lead)) 0 s.tribs
-        (λ j l h. tells-map other (obstacle_of (slice_get ms j) plan size) (events_in below counts (child steps j)) 0 lead
+        tells-flat other (lead_at plan ms size) (λ j. flat_map (events_in Plain below counts (child steps j)) (range_with_len 0 lead)) 0 s.tribs
+        (λ j l h. tells-map other (obstacle_of (slice_get ms j) plan size) (events_in Plain below counts (child steps j)) 0 lead
         (λ k l' h'. child_tells j k (omega (arith, h)) (lead_given s j (counts steps j) (suc x) k are.0 stores (omega arith) (omega (arith, h')))))
 
     begins_tell : Tells other (first_some (beginning s path plan ms size (x / s.len) (x % s.len))) (cond (eqb x 0) (leads_of s below counts steps) [])
@@ -175,7 +175,7 @@ module _ (s : FrameShape) (below : List FrameShape) (counts : Counts) (scheduled
     arrivals_tell : (n t : ℕ) → n ≡ x / s.len → t ≡ x % s.len → Tells other (first_some (arrivals s path plan ms size n t)) (arrivals_of s below counts steps n t)
     arrivals_tell n t frame slot =
         tells-flat other (arrival_at s path plan ms size n t) (λ j. arrival_of s below counts steps n t j ++ overflow_at Plain s steps j (counts steps j) n t) 0 s.tribs
-        (λ j l h. tells-arrival other (arrives_at s (counts steps j n) t) (leb (read_before s j (counts steps j) n t + store_size) (came_before s (counts steps j) n t)) (obstacle_of (slice_get ms j) plan size (came_before s (counts steps j) n t)) (events_in below counts (child steps j) (came_before s (counts steps j) n t)) (Overflow (place_at path j n t))
+        (λ j l h. tells-arrival other (arrives_at s (counts steps j n) t) (leb (read_before s j (counts steps j) n t + store_size) (came_before s (counts steps j) n t)) (obstacle_of (slice_get ms j) plan size (came_before s (counts steps j) n t)) (events_in Plain below counts (child steps j) (came_before s (counts steps j) n t)) (Overflow (place_at path j n t))
         (record { kind = OverflowKind; path = steps; trib = j; frame = n; slot = t })
         (λ arrives. child_tells j (came_before s (counts steps j) n t) (omega (arith, h)) (arrived j n t frame slot arrives)) (ap Overflow (place_is j n t)))
       where
@@ -190,7 +190,7 @@ module _ (s : FrameShape) (below : List FrameShape) (counts : Counts) (scheduled
         tells-map other (λ j. some_if (underflows s j (counts steps j) n t) (Underflow (place_at path j n t))) (λ j. underflow_at Plain s steps j (counts steps j) n t) 0 s.tribs
         (λ j l h. tells-event other (underflows s j (counts steps j) n t) (Underflow (place_at path j n t)) (record { kind = UnderflowKind; path = steps; trib = j; frame = n; slot = t }) (ap Underflow (place_is j n t)))
 
-    stores_tell : Tells other (first_some (beginning s path plan ms size (x / s.len) (x % s.len) ++ (arrivals s path plan ms size (x / s.len) (x % s.len) ++ reads s path plan (x / s.len) (x % s.len)))) (events_in (s ∷ below) counts steps x)
+    stores_tell : Tells other (first_some (beginning s path plan ms size (x / s.len) (x % s.len) ++ (arrivals s path plan ms size (x / s.len) (x % s.len) ++ reads s path plan (x / s.len) (x % s.len)))) (events_in Plain (s ∷ below) counts steps x)
     stores_tell =
         let n : ℕ = x / s.len in
         let t : ℕ = x % s.len in
@@ -211,19 +211,19 @@ module _ (s : FrameShape) (below : List FrameShape) (counts : Counts) (scheduled
         (λ j l h.
         let known : j < s.tribs = omega (arith, h) in
         let next : ℕ = n * s.low + reads_below s j false t in
-        tells-read other (reads_from j false (s.role t)) (obstacle_of (slice_get ms j) plan size next) (events_in below counts (child steps j) next)
+        tells-read other (reads_from j false (s.role t)) (obstacle_of (slice_get ms j) plan size next) (events_in Plain below counts (child steps j) next)
         (λ reads. child_tells j next known (read_given s j (counts steps j) are.0 are.1 known locked (suc x) x (omega arith) reads)))
 
-    locked_tell : Tells other (first_some (locked_steps s path plan ms size (x / s.len) (x % s.len))) (events_in (s ∷ below) counts steps x)
+    locked_tell : Tells other (first_some (locked_steps s path plan ms size (x / s.len) (x % s.len))) (events_in Plain (s ∷ below) counts steps x)
     locked_tell =
         subst (Tells other (first_some (locked_steps s path plan ms size (x / s.len) (x % s.len)))) (sym (events_in-locked s below counts steps x locked))
         (tells-cons other (locked_beginning path plan (x / s.len) (x % s.len)) (map (locked_read s plan ms size (x / s.len) (x % s.len)) (range_with_len 0 s.tribs)) []
         (flat_map (read_of s below counts steps (x / s.len) (x % s.len)) (range_with_len 0 s.tribs)) begins_alone slot_tells)
 
-  node_tells : Tells other ((sender_of (s ∷ below) path first).obstacle plan size x) (events_in (s ∷ below) counts steps x)
+  node_tells : Tells other ((sender_of (s ∷ below) path first).obstacle plan size x) (events_in Plain (s ∷ below) counts steps x)
   node_tells = elim (cases_Bool (eqb s.copies 0)) [
-    | inl locked ↦ subst (λ (m : Meaning). Tells other (m.obstacle plan size x) (events_in (s ∷ below) counts steps x)) (sym (node-locked s below path first locked)) (locked_tell locked)
-    | inr stores ↦ subst (λ (m : Meaning). Tells other (m.obstacle plan size x) (events_in (s ∷ below) counts steps x)) (sym (node-stores s below path first stores)) (stores_tell stores)
+    | inl locked ↦ subst (λ (m : Meaning). Tells other (m.obstacle plan size x) (events_in Plain (s ∷ below) counts steps x)) (sym (node-locked s below path first locked)) (locked_tell locked)
+    | inr stores ↦ subst (λ (m : Meaning). Tells other (m.obstacle plan size x) (events_in Plain (s ∷ below) counts steps x)) (sym (node-stores s below path first stores)) (stores_tell stores)
   ]
 
 -- ---- the whole chain
@@ -235,11 +235,11 @@ leaf_tells counts scheduled size steps first x true over = inr (0, omega arith, 
 leaf_tells counts scheduled size steps first x false over = refl
 
 pub chain_tells : (shapes : List FrameShape) (counts : Counts) (scheduled : List ℕ → ℕ) (size : ℕ → ℕ) (path : Path) (steps : List ℕ) (first x : ℕ) → AreFrames shapes → IsAt shapes path steps
-    → Tells (Other shapes counts scheduled size steps first (suc x)) ((sender_of shapes path first).obstacle (plan_with scheduled counts) size x) (events_in shapes counts steps x)
+    → Tells (Other shapes counts scheduled size steps first (suc x)) ((sender_of shapes path first).obstacle (plan_with scheduled counts) size x) (events_in Plain shapes counts steps x)
 unfolding sender_of events_in
 chain_tells [] counts scheduled size path steps first x are at = leaf_tells counts scheduled size steps first x (leb (size first) x) refl
 chain_tells (s ∷ below) counts scheduled size path steps first x are at =
-    subst (λ st. Tells (Other (s ∷ below) counts scheduled size st first (suc x)) ((sender_of (s ∷ below) path first).obstacle (plan_with scheduled counts) size x) (events_in (s ∷ below) counts st x)) at.0
+    subst (λ st. Tells (Other (s ∷ below) counts scheduled size st first (suc x)) ((sender_of (s ∷ below) path first).obstacle (plan_with scheduled counts) size x) (events_in Plain (s ∷ below) counts st x)) at.0
     (node_tells s below counts scheduled size path first x are (at.1 ∙ ap path_of (sym at.0))
     (λ j k known. chain_tells below counts scheduled size (child_path path j) (child (steps_of path) j) (first + j * width below) k are.2
     (subst (λ st. IsAt below (child_path path j) (child st j)) (sym at.0) (child_at s below path steps j at))))

@@ -101,7 +101,7 @@ placed below path first n few j m node at is = go below (found_at (tributary sen
 module _ (scheduled : List ℕ → ℕ) (counts : Counts) (lists : ℕ → ℕ → Bool) where
   -- whatever its own service bits say
   pub line_is : (shapes : List FrameShape) (path : Path) (steps : List ℕ) (first : ℕ) (says : ℕ → Service) (x : ℕ) → AreFrames shapes → IsAt shapes path steps
-      → (sender_of shapes path first).line (record { plan = plan_with scheduled counts; lists = lists; says = says }) x ≡ chain_line shapes counts lists says steps first x
+      → (sender_of shapes path first).line (record { plan = plan_with scheduled counts; lists = lists; says = says }) x ≡ chain_line Plain shapes counts lists says steps first x
   unfolding sender_of chain_line
   line_is [] path steps first says x are at = refl
   line_is (s ∷ below) path steps first says x are at =
@@ -110,7 +110,7 @@ module _ (scheduled : List ℕ → ℕ) (counts : Counts) (lists : ℕ → ℕ �
       let idles : Supply = record { plan = plan_with scheduled counts; lists = lists; says = λ n. idle } in
       ap (λ (m : Meaning). m.line supply x) (node-means s below path first)
       ∙ line_bit-same s (source_of path (senders_below below path first s.tribs) supply)
-      (record { mode = Plain; counts = counts steps; inputs = λ j. chain_line below counts lists (λ n. idle) (child steps j) (first + j * w); says = says }) x are.0 are.1 refl refl (ap counts at.0) refl
+      (record { mode = Plain; counts = counts steps; inputs = λ j. chain_line Plain below counts lists (λ n. idle) (child steps j) (first + j * w); says = says }) x are.0 are.1 refl refl (ap counts at.0) refl
       (λ j i known.
       let here : 0 + j ≡ j = omega arith in
       ap (λ o. line_of o idles i) (stands_at (tributary senders below path first) 0 s.tribs j known ∙ ap (λ i. Some (tributary senders below path first i)) here)

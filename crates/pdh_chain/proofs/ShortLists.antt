@@ -21,6 +21,7 @@ use Rattle.pdh_edge.specs.Ports.{Inputs, Outputs, PrefixOf}
 use Rattle.pdh_edge.specs.MemLists.{length_of, bits_held}
 use Rattle.pdh_line.proofs.SentFrames.{length-front}
 use Rattle.pdh_line.specs.Nodes.{Counts}
+use Rattle.pdh_line.specs.Sending.Mode.{Plain}
 use Rattle.pdh_nesting.specs.Sending.{chain_line}
 use Rattle.std.proofs.lemmas.Nat.{le-div}
 use Rattle.pdh_chain.specs.Muxing.{as_line}
@@ -220,7 +221,7 @@ pub mux_short : (shapes : List FrameShape) (counts : Counts) (says : ℕ → Ser
 mux_short shapes counts says scheduled frames inputs inputs_now outputs outputs_now put k =
     let line : List Bool = frames_of_line shapes counts says put.given put.made in
     let part = put.puts put.given (λ k i known less. refl) k in
-    omega (arith, prefix_short (as_line line k) (outputs.told k) (outputs_now.told k) part, line_short line k, length-front (chain_line shapes counts (bits_of put.given) says [] 0) (put.made * top_len shapes), mul-le-mul_right (top_len shapes) put.upto)
+    omega (arith, prefix_short (as_line line k) (outputs.told k) (outputs_now.told k) part, line_short line k, length-front (chain_line Plain shapes counts (bits_of put.given) says [] 0) (put.made * top_len shapes), mul-le-mul_right (top_len shapes) put.upto)
 
 received_few : (shapes : List FrameShape) (line : List Bool) (bits k : ℕ) → AreFrames shapes → length line ≤ bits → length (received_of shapes line k) ≤ bits / width shapes
 received_few shapes line bits k are few = elim (cases_lt k (width shapes)) [

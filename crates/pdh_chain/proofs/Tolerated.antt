@@ -3,6 +3,7 @@ use Rattle.std.proofs.Common.{◌≡◌, ℕ, ◌<◌, ◌≤◌, suc, List, [],
 use Rattle.pdh_shape.specs.Frame.{FrameShape}
 use Rattle.pdh_line.specs.Events.{Event}
 use Rattle.pdh_line.specs.Nodes.{Counts}
+use Rattle.pdh_line.specs.Sending.Mode.{Plain}
 use Rattle.pdh_nesting.specs.Events.{events_in}
 use Rattle.pdh_nesting.proofs.NoEvents.{no_events}
 use Rattle.pdh_tx.specs.declared.tx.TxStop.{TxStop}
@@ -34,5 +35,5 @@ module _ (shapes : List FrameShape) (counts : Counts) (scheduled : List ℕ → 
 
 pub no_event : (shapes : List FrameShape) (counts : Counts) (bits : ℕ) → IsTolerated shapes counts bits → (scheduled : List ℕ → ℕ) (size : ℕ → ℕ) (x : ℕ) → x < bits → IsNoEvent (obstacle_at shapes counts scheduled size x)
 no_event shapes counts bits is scheduled size x less =
-    without shapes counts scheduled size x (obstacle_at shapes counts scheduled size x) (events_in shapes counts [] x) (no_events shapes counts [] bits x is.frames is.even is.within less)
+    without shapes counts scheduled size x (obstacle_at shapes counts scheduled size x) (events_in Plain shapes counts [] x) (no_events shapes counts [] bits x is.frames is.even is.within less)
     (chain_tells shapes counts scheduled size top [] 0 x is.frames (at_top shapes is.levels))

@@ -33,7 +33,7 @@ bits_of lists k i = slice_index_or (lists k) i false
 
 -- so many frames of a chain's line, whose top's frames say this
 abbrev pub frames_of_line : List FrameShape → Counts → (ℕ → Service) → (ℕ → List Bool) → ℕ → List Bool
-frames_of_line shapes counts says lists frames = front (chain_line shapes counts (bits_of lists) says [] 0) (frames * top_len shapes)
+frames_of_line shapes counts says lists frames = front (chain_line Plain shapes counts (bits_of lists) says [] 0) (frames * top_len shapes)
 
 -- the leaves' lists begin with the bits that were given
 abbrev pub BeginWith : ℕ → (ℕ → List Bool) → (ℕ → List Bool) → Type 0
@@ -137,8 +137,8 @@ pub record StopsAtEvent (shapes : List FrameShape) (counts : Counts) (says : ℕ
   pub kind : over ≡ is_overflow event.kind
   pub place_is : place ≡ place_of event
   pub made : ℕ
-  pub met : slice_get (events_in shapes counts [] made) 0 ≡ Some event
-  pub quiet : (x : ℕ) → x < made → events_in shapes counts [] x ≡ []
+  pub met : slice_get (events_in Plain shapes counts [] made) 0 ≡ Some event
+  pub quiet : (x : ℕ) → x < made → events_in Plain shapes counts [] x ≡ []
   pub whole : ℕ
   pub begun : whole * top_len shapes ≤ made
   pub within : made < suc whole * top_len shapes

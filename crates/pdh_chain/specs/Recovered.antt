@@ -4,6 +4,7 @@ use Rattle.pdh_edge.specs.Ports.{Inputs, Outputs}
 use Rattle.pdh_shape.specs.declared.role.Service.{Service}
 use Rattle.pdh_shape.specs.Frame.{FrameShape, idle}
 use Rattle.pdh_line.specs.Receiving.{received}
+use Rattle.pdh_line.specs.Sending.Mode.{Plain}
 use Rattle.pdh_line.specs.Sending.{front}
 use Rattle.pdh_line.specs.Nodes.{child, Counts}
 use Rattle.pdh_nesting.specs.Chains.{width}
@@ -23,7 +24,7 @@ LeavesComeBack shapes line outputs outputs_now =
 
 -- the line of a tributary of the top, or its leaf's bits
 abbrev pub line_of_tributary : List FrameShape → Counts → Content → ℕ → ℕ → Bool
-line_of_tributary below counts content trib = chain_line below counts content.bits (λ n. idle) (child [] trib) (trib * width below)
+line_of_tributary below counts content trib = chain_line Plain below counts content.bits (λ n. idle) (child [] trib) (trib * width below)
 
 -- Whatever the chain sent: where this line rejoins it, at bit e and bit u, and is quiet from there with m frames, the tracking of the
 -- top comes back to it, and each of the top's tributaries rejoins its own line.

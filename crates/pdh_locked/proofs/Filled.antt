@@ -11,7 +11,6 @@ use Rattle.pdh_clock.specs.Contents.{Contents}
 use Rattle.pdh_shape.specs.declared.role.Service.{Service}
 use Rattle.pdh_shape.specs.Frame.{FrameShape}
 use Rattle.pdh_shape.specs.Tributary.{HasTributaries, reads_from, reads_below}
-use Rattle.pdh_line.specs.Sending.Mode.{Plain}
 use Rattle.pdh_line.specs.Sending.{Source, odd_before}
 use Rattle.pdh_runs.specs.Pieces.{FillsColumn, Assembled}
 use Rattle.pdh_runs.proofs.Counts.{before_grows}
@@ -37,7 +36,7 @@ use Rattle.pdh_locked.proofs.OneSlot.{overhead_is}
 pub fill_gains : {C : Type 0} (tx : Ghosts C) (old new : C) (plan : Plan) (s : FrameShape) (j first len made : ℕ) (bits column : List Bool) (to : ℕ) (a b : Inputs) → Stands tx old plan made → length bits ≡ carried_in s j false first len
     → MakesAll (tx.meaning old) (tx.says old) (tx.stands_at new plan) (tx.stands_for old) (tx.stands_for new) plan made to bits a b
     → FillsColumn s j false first len bits column
-    → Gains (tx.meaning old) plan (held_in tx old) (filled_in tx s j first len made old new column) made to made a b
+    → Gains (tx.meaning old) plan (held_in tx old) (filled_in tx s j first len made old new column) made to made made a b
 fill_gains tx old new plan s j first len made bits column to a b was long makes fills = record {
   given = makes.given;
   takes = makes.gives.takes;
@@ -94,11 +93,11 @@ module _ {C : Type 0} (tx : Ghosts C) (s : FrameShape) (has : HasTributaries s) 
   f' = locked_to s n u
 
   -- each slot holds its bit
-  slots_line : (source : Source) (say : Service) (odd : Bool) (len : ℕ) (overhead bits : List Bool) (columns : List (List Bool)) → length bits ≡ len → t + len ≤ s.len → source.mode ≡ Plain → source.says n ≡ say → odd ≡ odd_before s source n
+  slots_line : (source : Source) (say : Service) (odd : Bool) (len : ℕ) (overhead bits : List Bool) (columns : List (List Bool)) → length bits ≡ len → t + len ≤ s.len → source.says n ≡ say → odd ≡ odd_before s source n
       → HoldsOverhead s say odd [] t len overhead → Assembled s t len overhead columns bits → HoldsBits s source n t len columns s.tribs → HoldsLine s source n t bits
-  slots_line source say odd len overhead bits columns long most plain said parity over assembled holds =
+  slots_line source say odd len overhead bits columns long most said parity over assembled holds =
       line_from s has source n t len overhead bits columns (overhead_bit s say odd []) long most assembled holds over
-      (λ x r within role none. overhead_is s locked source n x say odd r plain (not_carried [] r none) said parity)
+      (λ x r within role none. overhead_is s locked source n x say odd r (not_carried [] r none) said parity)
 
   -- all children filled their columns
   pub filled_gives : (say : Service) (odd : Bool) (len : ℕ) (overhead bits : List Bool) (columns : List (List Bool)) (a b : Inputs) → length old ≡ s.tribs → length new ≡ s.tribs → length bits ≡ len → t + len ≤ s.len → n < plan.frames path → suc n < 2 ^ 64
@@ -122,7 +121,7 @@ module _ {C : Type 0} (tx : Ghosts C) (s : FrameShape) (has : HasTributaries s) 
         onward = λ supply is each said parity agrees.
             let P : (ℕ → ℕ) → Type 0 = λ v. EachHeld (held_in tx) old (below supply) v v in
             let both = passes.onward supply is (subst P (sym (upto_none f f')) each) (λ k leaf i h. agrees k leaf i h ∙ ap (λ v. supply.lists k (v + i)) (sym (start k))) in (
-              slots_line (source_of path ms supply) say odd len overhead bits columns long most refl said parity over assembled both.1,
+              slots_line (source_of path ms supply) say odd len overhead bits columns long most said parity over assembled both.1,
               λ j c e. subst (StandsFor tx c (below supply)) (upto_below f f' s.tribs j (let i = inside new j c e in omega arith)) (both.0 j c e),
             );
       }

@@ -48,7 +48,7 @@ module _ {C : Type 0} (tx : Ghosts C) (s : FrameShape) (path : Path) (plan : Pla
       bounded = bounded;
       onward = λ supply is each said parity agrees.
           let both = made.onward (below supply) is each agrees in (
-            one_line s (source_of path ms supply) n t bit (both.0 ∙ sym (read_is s locked (source_of path ms supply) n t i (s.role t) refl reads)),
+            one_line s (source_of path ms supply) n t bit (both.0 ∙ sym (read_is s locked (source_of path ms supply) n t i (s.role t) reads)),
             λ j c e. subst (λ v. StandsFor tx c (below supply) v) (next_is j) (both.1 j c e),
           );
     }
@@ -88,7 +88,7 @@ module _ {C : Type 0} (tx : Ghosts C) (s : FrameShape) (path : Path) (plan : Pla
         place = record { made = λ j c e. subst (λ v. Stands tx c plan v) (same j) (each j c e); scheduled = scheduled; bounded = bounded };
         bounded = bounded;
         onward = λ supply plan_is held said parity agrees. (
-          one_line s (source_of path ms supply) n t bit (is ∙ overhead_is s locked (source_of path ms supply) n t say odd (s.role t) refl none said parity),
+          one_line s (source_of path ms supply) n t bit (is ∙ overhead_is s locked (source_of path ms supply) n t say odd (s.role t) none said parity),
           λ j c e. subst (λ v. StandsFor tx c (below supply) v) (same j) (held j c e),
         );
       }

@@ -1,19 +1,19 @@
 -- A slot of a node without stores.
-use Rattle.std.proofs.Common.{◌≡◌, inl, inr, ℕ, zero, suc, ◌+◌, ◌<◌, ◌≤◌, Bool, true, false, ◌&&◌, not, List, [], ◌∷◌, ◌++◌, map, cond, eqb, refl, sym, ap, ◌∙◌, subst, arith, Option, Some, None, slice_get, eq-eqb}
+use Rattle.std.proofs.Common.{◌≡◌, inl, inr, ℕ, zero, suc, ◌+◌, ◌*◌, ◌<◌, Bool, true, false, ◌&&◌, ◌||◌, not, List, [], ◌∷◌, ◌++◌, map, cond, eqb, ltb, refl, sym, ap, ◌∙◌, subst, arith, Option, Some, None, slice_get, eq-eqb}
 use Rattle.std.specs.Bool.{beq}
-use Rattle.std.specs.Prelude.{flat_map}
 use Rattle.std.specs.List.{range_with_len}
 use Rattle.std.proofs.lemmas.Bool.{cases_eq, ne_eqb}
-use Rattle.std.proofs.lemmas.List.{append-nil}
 use Rattle.pdh_shape.specs.declared.role.Role.{Role}
 use Rattle.pdh_shape.specs.declared.role.Role.TheVariants.{Align, Service as ServiceSlot, Control, Just, Info}
 use Rattle.pdh_shape.specs.declared.role.Service.{Service}
 use Rattle.pdh_shape.specs.declared.place.Path.{Path}
 use Rattle.pdh_shape.specs.Frame.{FrameShape}
 use Rattle.pdh_shape.specs.Tributary.{reads_from, reads_below, turned, HasTributaries}
-use Rattle.pdh_line.specs.Sending.Mode.{Plain}
+use Rattle.pdh_line.specs.Sending.Mode.{Plain, Slipping}
+use Rattle.pdh_shape.specs.OwnNumbers.{lead, threshold}
 use Rattle.pdh_line.specs.Edits.{edited}
-use Rattle.pdh_line.specs.Sending.{sent, read_before, carriage, Source, more_in, input_bit, slot_bit, odd_before}
+use Rattle.pdh_line.specs.Progress.{arrived}
+use Rattle.pdh_line.specs.Sending.{sent, read_before, Mode, carried, Start, carries_at, start_of, edits_in, edits_to, carriage, Source, more_in, input_bit, slot_bit, odd_before}
 use Rattle.pdh_line.proofs.SendingLaws.{reads_below-suc, sends_more-locked, sent-locked}
 use Rattle.pdh_slips.specs.declared.slip.Slip.{Slip}
 use Rattle.pdh_tx.specs.declared.tx.TxStop.{TxStop}
@@ -22,7 +22,7 @@ use Rattle.pdh_tx.specs.Held.{first_some}
 use Rattle.pdh_tx.specs.Node.{obstacle_of, slips_below, set_at, carried_by, overhead_bit}
 use Rattle.pdh_tx.specs.Locked.{locked_to, locked_beginning, locked_read, locked_steps, locked_read_slips, locked_slot_slips}
 use Rattle.pdh_tx.proofs.Firsts.{map_none, map_some}
-use Rattle.pdh_tx.proofs.Lists.{some_same}
+use Rattle.pdh_tx.proofs.Lists.{some_same, flat_nothing, flat_one}
 use Rattle.pdh_tx.proofs.Moving.{set_here, set_other}
 
 -- ---- what it carries
@@ -72,20 +72,47 @@ module _ (s : FrameShape) (locked : eqb s.copies 0 ≡ true) where
   pub read_locked : (counts : ℕ → ℕ) (n t j : ℕ) → read_before s j counts n t ≡ locked_to s n t j
   read_locked counts n t j = ap (λ more. sent s counts n + reads_below s j more t) (sends_more-locked s counts n locked) ∙ ap (λ k. k + reads_below s j false t) (sent-locked s counts n locked)
 
-  more_locked : (source : Source) (k n : ℕ) → source.mode ≡ Plain → more_in s source k n ≡ false
-  more_locked source k n plain = ap (λ mode. (carriage mode s k (source.counts k)).more n) plain ∙ sends_more-locked s (source.counts k) n locked
+  -- no frame carries an additional bit, and nothing slips
+  slip_more : (counts : ℕ → ℕ) (n : ℕ) (at : Start) → carries_at s counts n at ≡ false
+  slip_more counts n at = ap (λ b. not (b || ltb (lead + arrived counts n + at.added) (at.sent + at.dropped + threshold))) locked
 
-  pub overhead_is : (source : Source) (n t : ℕ) (say : Service) (odd : Bool) (r : Role) → source.mode ≡ Plain → carried_by [] r ≡ None → source.says n ≡ say → odd ≡ odd_before s source n → overhead_bit s say odd [] r ≡ slot_bit s source n t r
-  overhead_is source n t say odd (Align b) plain none said parity = refl
-  overhead_is source n t say odd (ServiceSlot k) plain none said parity = ap (λ v. s.service k v odd) (sym said) ∙ ap (s.service k (source.says n)) parity
-  overhead_is source n t say odd (Control k copy) plain none said parity = ap not (sym (more_locked source k n plain))
-  overhead_is source n t say odd (Just k) plain none said parity = sym (ap (λ b. cond b (input_bit s source n t k) true) (more_locked source k n plain))
-  overhead_is source n t say odd (Info k) plain none said parity = absurd (cc none)
+  slip_sent : (j : ℕ) (counts : ℕ → ℕ) (n : ℕ) → (start_of s j counts n).sent ≡ n * s.low
+  unfolding start_of
+  slip_sent j counts zero = omega arith
+  slip_sent j counts (suc n) =
+      ap (λ more. (start_of s j counts n).sent + carried s more) (slip_more counts n (start_of s j counts n)) ∙ ap (λ k. k + s.low) (slip_sent j counts n) ∙ omega arith
 
-  pub read_is : (source : Source) (n t i : ℕ) (r : Role) → source.mode ≡ Plain → carried_by [] r ≡ Some i → slot_bit s source n t r ≡ turned (s.inverted i) (source.inputs i (locked_to s n t i))
-  read_is source n t i r plain h = reads_is s source n t i r h
-      ∙ ap (λ mode. let c = carriage mode s i (source.counts i) in turned (s.inverted i) (edited (c.edits n (suc t)) (source.inputs i) (c.sent n + reads_below s i (c.more n) t))) plain
-      ∙ ap (λ v. turned (s.inverted i) (source.inputs i v)) (read_locked (source.counts i) n t i)
+  none_edited : (j : ℕ) (counts : ℕ → ℕ) (n t : ℕ) → edits_in s j counts n t ≡ []
+  none_edited j counts n t = rw locked refl
+
+  slip_edits : (j : ℕ) (counts : ℕ → ℕ) (n t : ℕ) → edits_to s j counts n t ≡ []
+  slip_edits j counts n t =
+      ap (λ l. l ++ edits_in s j counts n t) (flat_nothing (λ m. edits_in s j counts m s.len) 0 n (λ m l h. none_edited j counts m s.len)) ∙ none_edited j counts n t
+
+  more_by : (mode : Mode) (j : ℕ) (counts : ℕ → ℕ) (n : ℕ) → (carriage mode s j counts).more n ≡ false
+  more_by Plain j counts n = sends_more-locked s counts n locked
+  more_by Slipping j counts n = slip_more counts n (start_of s j counts n)
+
+  bit_by : (mode : Mode) (j : ℕ) (counts : ℕ → ℕ) (inputs : ℕ → Bool) (n t : ℕ)
+      → edited ((carriage mode s j counts).edits n (suc t)) inputs ((carriage mode s j counts).sent n + reads_below s j ((carriage mode s j counts).more n) t) ≡ inputs (locked_to s n t j)
+  bit_by Plain j counts inputs n t = ap inputs (read_locked counts n t j)
+  bit_by Slipping j counts inputs n t =
+      let start = start_of s j counts n in
+      ap (λ l. edited l inputs (start.sent + reads_below s j (carries_at s counts n start) t)) (slip_edits j counts n (suc t))
+      ∙ ap inputs (ap (λ more. start.sent + reads_below s j more t) (slip_more counts n start) ∙ ap (λ k. k + reads_below s j false t) (slip_sent j counts n))
+
+  more_locked : (source : Source) (k n : ℕ) → more_in s source k n ≡ false
+  more_locked source k n = more_by source.mode k (source.counts k) n
+
+  pub overhead_is : (source : Source) (n t : ℕ) (say : Service) (odd : Bool) (r : Role) → carried_by [] r ≡ None → source.says n ≡ say → odd ≡ odd_before s source n → overhead_bit s say odd [] r ≡ slot_bit s source n t r
+  overhead_is source n t say odd (Align b) none said parity = refl
+  overhead_is source n t say odd (ServiceSlot k) none said parity = ap (λ v. s.service k v odd) (sym said) ∙ ap (s.service k (source.says n)) parity
+  overhead_is source n t say odd (Control k copy) none said parity = ap not (sym (more_locked source k n))
+  overhead_is source n t say odd (Just k) none said parity = sym (ap (λ b. cond b (input_bit s source n t k) true) (more_locked source k n))
+  overhead_is source n t say odd (Info k) none said parity = absurd (cc none)
+
+  pub read_is : (source : Source) (n t i : ℕ) (r : Role) → carried_by [] r ≡ Some i → slot_bit s source n t r ≡ turned (s.inverted i) (source.inputs i (locked_to s n t i))
+  read_is source n t i r h = reads_is s source n t i r h ∙ ap (turned (s.inverted i)) (bit_by source.mode i (source.counts i) (source.inputs i) n t)
 
 -- ---- how many bits are taken after it
 
@@ -142,24 +169,12 @@ module _ (s : FrameShape) (path : Path) (plan : Plan) (ms : List Meaning) (size 
 
 -- ---- the slips in making its bit
 
-flat_none : (f : ℕ → List Slip) (a n : ℕ) → ((j : ℕ) → a ≤ j → j < a + n → f j ≡ []) → flat_map f (range_with_len a n) ≡ []
-flat_none f a zero h = refl
-flat_none f a (suc n) h = ap (λ l. l ++ flat_map f (range_with_len (a + 1) n)) (h a (omega arith) (omega arith)) ∙ flat_none f (a + 1) n (λ j l m. h j (omega arith) (omega arith))
-
-flat_one : (f : ℕ → List Slip) (a n i : ℕ) → a ≤ i → i < a + n → ((j : ℕ) → (j ≡ i → ⊥) → f j ≡ []) → flat_map f (range_with_len a n) ≡ f i
-flat_one f a zero i l m h = absurd (omega arith)
-flat_one f a (suc n) i l m h = elim (cases_eq a i) [
-  | inl same ↦
-      ap (λ l. f a ++ l) (flat_none f (a + 1) n (λ j from to. h j (λ e. omega (arith, e, same, from)))) ∙ append-nil (f a) ∙ ap f same
-  | inr other ↦ ap (λ l. l ++ flat_map f (range_with_len (a + 1) n)) (h a other) ∙ flat_one f (a + 1) n i (omega arith) (omega arith) h
-]
-
 module _ (s : FrameShape) (plan : Plan) (ms : List Meaning) (n t : ℕ) where
   abbrev told_by : ℕ → List Slip
   told_by j = slips_below (slice_get ms j) plan (locked_to s n t j)
 
   pub none_tells : ((j : ℕ) → reads_from j false (s.role t) ≡ false) → locked_slot_slips s plan ms n t ≡ []
-  none_tells none = flat_none (locked_read_slips s plan ms n t) 0 s.tribs (λ j l h. ap (λ b. cond b (told_by j) []) (none j))
+  none_tells none = flat_nothing (locked_read_slips s plan ms n t) 0 s.tribs (λ j l h. ap (λ b. cond b (told_by j) []) (none j))
 
   pub one_tells : (i : ℕ) → i < s.tribs → ((j : ℕ) → reads_from j false (s.role t) ≡ eqb i j) → locked_slot_slips s plan ms n t ≡ told_by i
   one_tells i known one =

@@ -67,7 +67,7 @@ pub record FillsFreely {C : Type 0} (tx : Ghosts C) (child : C) (schedule : Cont
 -- its bits of a piece of a frame went into the column of child j
 pub record FillsBits {C : Type 0} (tx : Ghosts C) (s : FrameShape) (j first len : ℕ) (old new : C) (column : List Bool) (plan : Plan) (made : ℕ) (before after : Inputs) : Type 0 where
   pub placed : Stands tx new plan (made + carried_in s j false first len)
-  pub gains : Gains (tx.meaning old) plan (held_in tx old) (filled_in tx s j first len made old new column) made (made + carried_in s j false first len) made before after
+  pub gains : Gains (tx.meaning old) plan (held_in tx old) (filled_in tx s j first len made old new column) made (made + carried_in s j false first len) made made before after
 
 -- and the column is as long as the piece wants it
 pub record FillsOne {C : Type 0} (tx : Ghosts C) (s : FrameShape) (j first len : ℕ) (old new : C) (column : List Bool) (schedule : Contents) (before after : Inputs) : Type 0 where

@@ -8,6 +8,7 @@ use Rattle.std.proofs.lemmas.Nat.{div-mul-add, mod-mul-add}
 use Rattle.std.proofs.Math.Nat.{mul-le-mul_right}
 use Rattle.pdh_shape.specs.declared.role.Service.{Service as Say}
 use Rattle.pdh_shape.specs.Frame.{FrameShape}
+use Rattle.pdh_line.specs.Sending.Mode.{Plain}
 use Rattle.pdh_line.specs.Sending.{HasStores, shape_numbers, begun, given, front, given_back}
 use Rattle.pdh_line.specs.Events.{underflows}
 use Rattle.pdh_line.specs.Progress.{entered_by}
@@ -36,23 +37,23 @@ back_below-grows (s ∷ below) counts path x y k are h =
 
 -- where no bit before a node's bit x has an event, none of the bits has one that a tributary made for it
 none_taken : (s : FrameShape) (below : List FrameShape) (counts : Counts) (path : List ℕ) (x j i : ℕ) → AreFrames (s ∷ below) → j < s.tribs
-    → (HasStores s → (n : ℕ) → n < begun s x → counts path j n ≤ s.len) → ((y : ℕ) → y < x → events_in (s ∷ below) counts path y ≡ []) → i < given s j (counts path j) x
-    → events_in below counts (child path j) i ≡ []
+    → (HasStores s → (n : ℕ) → n < begun s x → counts path j n ≤ s.len) → ((y : ℕ) → y < x → events_in Plain (s ∷ below) counts path y ≡ []) → i < given s j (counts path j) x
+    → events_in Plain below counts (child path j) i ≡ []
 none_taken s below counts path x j i are known single none h =
     elim (cases_Bool (eqb s.copies 0)) [
       | inl locked ↦
           let read = given_once s j (counts path j) are.0 are.1 known locked x i h in
-          subst (λ i. events_in below counts (child path j) i ≡ []) read.3 (read_none s below counts path locked j read.0 (none read.0 read.1) known read.2)
+          subst (λ i. events_in Plain below counts (child path j) i ≡ []) read.3 (read_none s below counts path locked j read.0 (none read.0 read.1) known read.2)
       | inr stores ↦ elim (taken_once s (counts path j) x i are.0 (single stores) (subst (λ n. i < n) (given-stores s j (counts path j) x stores) h)) [
         | inl leads ↦ lead_none s below counts path stores j i (none 0 leads.0) known leads.1
         | inr arrived ↦
             let y : ℕ = arrived.0 in
-            subst (λ i. events_in below counts (child path j) i ≡ []) arrived.3 (arrival_none s below counts path stores j y (none y arrived.1) known arrived.2)
+            subst (λ i. events_in Plain below counts (child path j) i ≡ []) arrived.3 (arrival_none s below counts path stores j y (none y arrived.1) known arrived.2)
       ]
     ]
 
 -- and no tributary of the node underflows before its bit x
-none_underflows : (s : FrameShape) (below : List FrameShape) (counts : Counts) (path : List ℕ) (x j : ℕ) → j < s.tribs → ((y : ℕ) → y < x → events_in (s ∷ below) counts path y ≡ [])
+none_underflows : (s : FrameShape) (below : List FrameShape) (counts : Counts) (path : List ℕ) (x j : ℕ) → j < s.tribs → ((y : ℕ) → y < x → events_in Plain (s ∷ below) counts path y ≡ [])
     → HasStores s → (m u : ℕ) → u < s.len → m * s.len + u < x → underflows s j (counts path j) m u ≡ false
 none_underflows s below counts path x j known none stores m u inside h =
     ap (λ n. underflows s j (counts path j) n u) (sym (div-mul-add m s.len u inside))
@@ -62,7 +63,7 @@ none_underflows s below counts path x j known none stores m u inside h =
 -- Where no bit before a node's bit x has an event, no store at or below it underflows. A slot that brings two bits would
 -- list the events of the first alone, so at most one arrives in a slot.
 pub none-empty : (chain : List FrameShape) (counts : Counts) (path : List ℕ) (x : ℕ) → AreFrames chain → ArriveSingly chain counts path x
-    → ((y : ℕ) → y < x → events_in chain counts path y ≡ []) → NoneEmpty chain counts path x
+    → ((y : ℕ) → y < x → events_in Plain chain counts path y ≡ []) → NoneEmpty chain counts path x
 unfolding ArriveSingly NoneEmpty
 none-empty [] counts path x are singly none = tt
 none-empty (s ∷ below) counts path x are singly none =
@@ -118,8 +119,8 @@ far-given chain counts lists says x k are full known long =
 -- of whole frames each leaf receives a prefix of its list.
 pub far-prefix : (chain : List FrameShape) (counts : Counts) (bits : ℕ → ℕ → Bool) (lists : ℕ → List Bool) (says : ℕ → Say) (n m k : ℕ) → AreFrames chain
     → ((k i : ℕ) → bits k i ≡ slice_index_or (lists k) i false) → ArriveSingly chain counts [] (n * top_len chain)
-    → events_below chain counts (n * top_len chain) ≡ [] → entered_below chain counts [] (n * top_len chain) k ≤ length (lists k) → m ≤ n → k < width chain
-    → far chain (front (chain_line chain counts bits says [] 0) (m * top_len chain)) k ≡ take (back_below chain counts [] (m * top_len chain) k) (lists k)
+    → events_below Plain chain counts (n * top_len chain) ≡ [] → entered_below chain counts [] (n * top_len chain) k ≤ length (lists k) → m ≤ n → k < width chain
+    → far chain (front (chain_line Plain chain counts bits says [] 0) (m * top_len chain)) k ≡ take (back_below chain counts [] (m * top_len chain) k) (lists k)
 far-prefix chain counts bits lists says n m k are same singly none long h known =
     let whole : ℕ = n * top_len chain in
     let back : ℕ = back_below chain counts [] (m * top_len chain) k in

@@ -1,8 +1,9 @@
 -- Events whose lists begin with the same numbers, and the order of such lists.
 use Rattle.std.proofs.Common.{◌≡◌, ℕ, ◌<◌, Bool, true, false, cond, ltb, List, [], ◌∷◌, ◌++◌, refl, sym, ap, ◌∙◌, inl, inr, arith, append_assoc}
 use Rattle.std.proofs.lemmas.Bool.{eq-eqb, ne_eqb, lt-ltb, le-ltb, ltb-true, cases_eq}
-use Rattle.pdh_line.specs.Events.{Event, one_if}
+use Rattle.pdh_line.specs.Events.{Event}
 use Rattle.pdh_nesting.specs.StepOrder.{comes_before, Keyed, at_key, below_key, Before}
+use Rattle.pdh_nesting.proofs.SlipOnce.{AtMostOne}
 use Rattle.pdh_nesting.proofs.Orders.{Each, Ordered, Across, each-always, each-map, ordered-map, ordered-weaker, across-by}
 
 -- ---- lists of numbers
@@ -71,12 +72,17 @@ pub each-if : (P : Keyed → Type 0) (test : Bool) (keyed : List Keyed) → Each
 each-if P true keyed each = each
 each-if P false keyed each = tt
 
-pub ordered-one : (key : List ℕ) (test : Bool) (event : Event) → Ordered Before (at_key key (one_if test event))
-ordered-one key true event = (tt, tt)
-ordered-one key false event = tt
+pub ordered-one : (key : List ℕ) (events : List Event) → AtMostOne events → Ordered Before (at_key key events)
+ordered-one key [] few = tt
+ordered-one key (event ∷ []) few = (tt, tt)
+ordered-one key (event ∷ other ∷ events) few = absurd few
 
--- two events that cannot both be there
-pub across-one : (key : List ℕ) (a b : Bool) (x y : Event) → (a ≡ true → b ≡ true → ⊥) → Across Before (at_key key (one_if a x)) (at_key key (one_if b y))
-across-one key true true x y apart = absurd (apart refl refl)
-across-one key true false x y apart = (tt, tt)
-across-one key false b x y apart = tt
+-- two lists of events of which one is empty
+pub across-one : (key : List ℕ) (a b : List Event) → ((x y : Event) (xs ys : List Event) → a ≡ x ∷ xs → b ≡ y ∷ ys → ⊥) → Across Before (at_key key a) (at_key key b)
+across-one key [] b apart = tt
+across-one key (x ∷ xs) [] apart = nothing (at_key key (x ∷ xs))
+  where
+    nothing : (keyed : List Keyed) → Across Before keyed []
+    nothing [] = tt
+    nothing (first ∷ keyed) = (tt, nothing keyed)
+across-one key (x ∷ xs) (y ∷ ys) apart = absurd (apart x y xs ys refl refl)

@@ -2,6 +2,7 @@ pub mod Worked
 pub mod WorkedTracking
 pub mod WorkedLines
 pub mod WorkedSlips
+pub mod WorkedNestedSlips
 pub mod WorkedEvents
 pub mod KnownChains
 pub mod RoundTrip
@@ -11,6 +12,15 @@ pub mod NoEvents
 pub mod Given
 pub mod Delay
 pub mod Orders
+pub mod FrameSlips
+pub mod SlipOnce
+pub mod QuietSlips
+pub mod CarriedSlips
+pub mod EditedLists
+pub mod StoredSlips
+pub mod SlipParts
+pub mod SlippedLeaves
+pub mod WithoutSlips
 pub mod Keys
 pub mod KeyedEvents
 pub mod StepOrder

@@ -5,6 +5,7 @@ use Rattle.std.proofs.lemmas.Bool.{cases_Bool}
 use Rattle.std.proofs.lemmas.Nat.{mod_below}
 use Rattle.pdh_shape.specs.Frame.{FrameShape}
 use Rattle.pdh_shape.specs.Tributary.{reads_below}
+use Rattle.pdh_line.specs.Sending.Mode.{Plain}
 use Rattle.pdh_line.specs.Sending.{came_before, begun, given}
 use Rattle.pdh_line.proofs.WithinTolerance.{no_overflow, no_underflow, within-fewer}
 use Rattle.pdh_line.specs.Nodes.{child, Counts}
@@ -17,7 +18,7 @@ use Rattle.pdh_nesting.proofs.EventParts.{events_in-none, events_in-none_read, e
 
 -- Where each tributary at and below a node is within the tolerance, no bit before the node's bit x has an event.
 pub no_events : (chain : List FrameShape) (counts : Counts) (path : List ℕ) (x y : ℕ) → AreFrames chain → ReadEvenly chain → AllWithin chain counts path x → y < x
-    → events_in chain counts path y ≡ []
+    → events_in Plain chain counts path y ≡ []
 unfolding AllWithin events_in
 no_events [] counts path x y are even within h = refl
 no_events (s ∷ below) counts path x y are even within h =
@@ -25,7 +26,7 @@ no_events (s ∷ below) counts path x y are even within h =
     let t : ℕ = y % s.len in
     let inside : t < s.len = mod_below y s.len are.0.some_slots in
     let scheduled : n < begun s x = begun_more s x y are.0 h in
-    let none_below : (j k : ℕ) → j < s.tribs → k < given s j (counts path j) x → events_in below counts (child path j) k ≡ [] =
+    let none_below : (j k : ℕ) → j < s.tribs → k < given s j (counts path j) x → events_in Plain below counts (child path j) k ≡ [] =
     λ j k known lt. no_events below counts (child path j) (given s j (counts path j) x) k are.2 even.1 (within j known).1 lt in
     elim (cases_Bool (eqb s.copies 0)) [
       | inl locked ↦

@@ -14,7 +14,7 @@ use Rattle.pdh_nesting.specs.Receiving.{far, back_below}
 -- Of the first x bits of a node's line each leaf below it gets the first of its own bits, whatever events there are: a
 -- bit of the line is that at a place in the leaf's bits.
 pub far_front : (chain : List FrameShape) (counts : Counts) (bits : ℕ → ℕ → Bool) (says : ℕ → Say) (path : List ℕ) (first x k : ℕ) → AreFrames chain → k < width chain
-    → far chain (front (chain_line chain counts bits says path first) x) k ≡ front (bits (first + k)) (back_below chain counts path x k)
+    → far chain (front (chain_line Plain chain counts bits says path first) x) k ≡ front (bits (first + k)) (back_below chain counts path x k)
 unfolding far chain_line back_below
 far_front [] counts bits says path first x k are h =
     let e : first ≡ first + k = omega arith in
@@ -22,7 +22,7 @@ far_front [] counts bits says path first x k are h =
 far_front (s ∷ below) counts bits says path first x k are h =
     let w : ℕ = width below in
     let j : ℕ = k / w in
-    let inputs : ℕ → ℕ → Bool = λ j. chain_line below counts bits (λ n. idle) (child path j) (first + j * w) in
+    let inputs : ℕ → ℕ → Bool = λ j. chain_line Plain below counts bits (λ n. idle) (child path j) (first + j * w) in
     let source : Source = record { mode = Plain; counts = counts path; inputs = inputs; says = says } in
     let back : ℕ = given_back s (counts path j) (x / s.len) in
     ap (λ line. far below line (k % w)) (received-front s source j x refl are.0 are.1 (leaf-tributary s.tribs w k h))
@@ -31,6 +31,6 @@ far_front (s ∷ below) counts bits says path first x k are h =
 
 -- that many bits come back
 pub far-length : (chain : List FrameShape) (counts : Counts) (bits : ℕ → ℕ → Bool) (says : ℕ → Say) (path : List ℕ) (first x k : ℕ) → AreFrames chain → k < width chain
-    → length (far chain (front (chain_line chain counts bits says path first) x) k) ≡ back_below chain counts path x k
+    → length (far chain (front (chain_line Plain chain counts bits says path first) x) k) ≡ back_below chain counts path x k
 far-length chain counts bits says path first x k are h =
     ap length (far_front chain counts bits says path first x k are h) ∙ length-front (bits (first + k)) (back_below chain counts path x k)

@@ -50,7 +50,7 @@ read-given s counts x n t j frame has known fine inside made reads =
     ]
 
 -- so its line is the same for tributaries that agree on the bits that it has taken
-line_bit-same_given : (s : FrameShape) (counts : ℕ → ℕ → ℕ) (p q : ℕ → ℕ → Bool) (f g : ℕ → Say) (x y : ℕ) → IsFrame s → HasTributaries s
+pub line_bit-same_given : (s : FrameShape) (counts : ℕ → ℕ → ℕ) (p q : ℕ → ℕ → Bool) (f g : ℕ → Say) (x y : ℕ) → IsFrame s → HasTributaries s
     → ((j : ℕ) → j < s.tribs → HasStores s → (n t : ℕ) → t < s.len → n * s.len + t < x → underflows s j (counts j) n t ≡ false)
     → ((j i : ℕ) → j < s.tribs → i < given s j (counts j) x → p j i ≡ q j i) → ((n : ℕ) → n < begun s x → f n ≡ g n) → y < x
     → line_bit s (record { mode = Plain; counts = counts; inputs = p; says = f }) y ≡ line_bit s (record { mode = Plain; counts = counts; inputs = q; says = g }) y
@@ -81,14 +81,14 @@ below-given s below counts p q path first x j known same k i inside lt =
 
 pub made-same : (chain : List FrameShape) (counts : Counts) (p q : ℕ → ℕ → Bool) (f g : ℕ → Say) (path : List ℕ) (first x y : ℕ) → AreFrames chain → NoneEmpty chain counts path x
     → ((k i : ℕ) → k < width chain → i < given_below chain counts path x k → p (first + k) i ≡ q (first + k) i) → ((n : ℕ) → n < top_begun chain x → f n ≡ g n) → y < x
-    → chain_line chain counts p f path first y ≡ chain_line chain counts q g path first y
+    → chain_line Plain chain counts p f path first y ≡ chain_line Plain chain counts q g path first y
 unfolding chain_line given_at NoneEmpty
 made-same [] counts p q f g path first x y are full same says h =
     let e : first + 0 ≡ first = omega arith in
     subst (λ k. p k y ≡ q k y) e (same 0 y (omega arith) h)
 made-same (s ∷ below) counts p q f g path first x y are full same says h =
     let w : ℕ = width below in
-    let line : (ℕ → ℕ → Bool) → ℕ → ℕ → Bool = λ bits j. chain_line below counts bits (λ n. idle) (child path j) (first + j * w) in
+    let line : (ℕ → ℕ → Bool) → ℕ → ℕ → Bool = λ bits j. chain_line Plain below counts bits (λ n. idle) (child path j) (first + j * w) in
     line_bit-same_given s (counts path) (line p) (line q) f g x y are.0 are.1 (λ j known. (full j known).0)
     (λ j i known lt. made-same below counts p q (λ n. idle) (λ n. idle) (child path j) (first + j * w) (given s j (counts path j) x) i are.2 (full j known).1
     (below-given s below counts p q path first x j known same) (λ n begins. refl) lt) says h

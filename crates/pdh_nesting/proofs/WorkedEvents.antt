@@ -4,6 +4,7 @@ use Rattle.std.specs.Prelude.{◌==◌, ◌&&◌, if◌then◌else◌}
 use Rattle.pdh_eframes.specs.Sets.{set_role}
 use Rattle.pdh_eframes.specs.Plans.{e2, e3}
 use Rattle.pdh_line.specs.Progress.{arrived}
+use Rattle.pdh_line.specs.Sending.Mode.{Plain}
 use Rattle.pdh_line.specs.Sending.{sent, begun, given}
 use Rattle.pdh_line.specs.Events.{Event}
 use Rattle.pdh_line.specs.Events.Kind.{Overflow, Underflow}
@@ -55,17 +56,17 @@ silent_underflow = record { kind = Underflow; path = 1 ∷ []; trib = 0; frame =
 
 -- Its 48 bits are used up at its 49th slot, slot 204 of the E2 node: bit 156 after the E3 node's lead. That bit arrives in
 -- slot 639 of the E3 frame: 157 times 1536 is more than 639 times 377, and no more than 640 times 377.
-pub silent_in : events_in (e3 ∷ e2 ∷ []) silent_first [] 639 ≡ silent_underflow ∷ []
+pub silent_in : events_in Plain (e3 ∷ e2 ∷ []) silent_first [] 639 ≡ silent_underflow ∷ []
 unfolding silent_first silent_underflow events_in sent arrived set_role
 silent_in = refl
 
 -- its list, below the top's bit: the arrival of bit 204 of the first E2 node, and the step after the four arrivals
-pub silent_keyed : keyed_in (e3 ∷ e2 ∷ []) silent_first [] 639 ≡ (1 ∷ 1 ∷ 204 ∷ 1 ∷ 5 ∷ [], silent_underflow) ∷ []
+pub silent_keyed : keyed_in Plain (e3 ∷ e2 ∷ []) silent_first [] 639 ≡ (1 ∷ 1 ∷ 204 ∷ 1 ∷ 5 ∷ [], silent_underflow) ∷ []
 unfolding silent_first silent_underflow keyed_in sent arrived set_role
 silent_keyed = refl
 
 -- the bit before has none
-pub silent_before : events_in (e3 ∷ e2 ∷ []) silent_first [] 638 ≡ []
+pub silent_before : events_in Plain (e3 ∷ e2 ∷ []) silent_first [] 638 ≡ []
 unfolding silent_first events_in sent arrived set_role
 silent_before = refl
 
@@ -77,23 +78,23 @@ unfolding set_role
 locked_gives = refl
 
 -- its first slot belongs to the alignment signal: it reads nothing, and no lead is taken
-pub locked_first : events_in (locked_e2 ∷ e2 ∷ []) silent_first [] 0 ≡ []
+pub locked_first : events_in Plain (locked_e2 ∷ e2 ∷ []) silent_first [] 0 ≡ []
 unfolding silent_first events_in set_role
 locked_first = refl
 
 -- the event of the first E2 node, in making its bit 204: the node above reads 205 bits of it in a frame, and so the last
 -- of its information slots reads this one
-pub locked_in : events_in (locked_e2 ∷ e2 ∷ []) silent_first [] 844 ≡ silent_underflow ∷ []
+pub locked_in : events_in Plain (locked_e2 ∷ e2 ∷ []) silent_first [] 844 ≡ silent_underflow ∷ []
 unfolding silent_first silent_underflow events_in sent arrived set_role
 locked_in = refl
 
 -- its list is that of a bit that arrives
-pub locked_keyed : keyed_in (locked_e2 ∷ e2 ∷ []) silent_first [] 844 ≡ (1 ∷ 1 ∷ 204 ∷ 1 ∷ 5 ∷ [], silent_underflow) ∷ []
+pub locked_keyed : keyed_in Plain (locked_e2 ∷ e2 ∷ []) silent_first [] 844 ≡ (1 ∷ 1 ∷ 204 ∷ 1 ∷ 5 ∷ [], silent_underflow) ∷ []
 unfolding silent_first silent_underflow keyed_in sent arrived set_role
 locked_keyed = refl
 
 -- it is the first event of the chain's first frame
-pub locked_before : events_below (locked_e2 ∷ e2 ∷ []) silent_first 844 ≡ []
+pub locked_before : events_below Plain (locked_e2 ∷ e2 ∷ []) silent_first 844 ≡ []
 unfolding silent_first events_below events_in sent arrived set_role
 locked_before = refl
 

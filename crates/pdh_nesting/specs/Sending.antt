@@ -1,10 +1,10 @@
 -- What a chain sends, and how far it has come.
 use Rattle.std.specs.Prelude.{◌≡◌, ℕ, ◌+◌, ◌*◌, ◌<◌, ◌≤◌, Bool, false, List, [], ◌∷◌, ◌++◌, All}
 use Rattle.std.specs.List.{slice_index_or}
-use Rattle.pdh_line.specs.Sending.Mode.{Plain}
 use Rattle.pdh_shape.specs.declared.role.Service.{Service as Say}
 use Rattle.pdh_shape.specs.Frame.{FrameShape, idle}
-use Rattle.pdh_line.specs.Sending.{HasStores, line_bit, begun, given}
+use Rattle.pdh_line.specs.Sending.Mode.{Plain}
+use Rattle.pdh_line.specs.Sending.{HasStores, Mode, line_bit, begun, given}
 use Rattle.pdh_line.specs.Tolerance.{IsWithin}
 use Rattle.pdh_line.specs.Nodes.{nodes_of, begun_at, Counts, child, given_at, entered_at, delay_of}
 use Rattle.pdh_nesting.specs.Chains.{numbers_of, width}
@@ -12,12 +12,12 @@ use Rattle.pdh_nesting.specs.Chains.{numbers_of, width}
 -- ---- the line
 
 -- Bit x of the line of the node at a path, of which the leaves are numbered from `first`: each tributary's bits are those
--- of the line below it, or of the leaf. `says` is what the service bits of its own frames say; those of the nodes below are
--- idle.
-unfoldable pub chain_line : List FrameShape → Counts → (ℕ → ℕ → Bool) → (ℕ → Say) → List ℕ → ℕ → ℕ → Bool
-chain_line [] counts bits says path first x = bits first x
-chain_line (s ∷ below) counts bits says path first x =
-    line_bit s (record { mode = Plain; counts = counts path; inputs = λ j. chain_line below counts bits (λ n. idle) (child path j) (first + j * width below); says = says }) x
+-- of the line below it, or of the leaf. All nodes are of one mode. `says` is what the service bits of its own frames say; those of
+-- the nodes below are idle.
+unfoldable pub chain_line : Mode → List FrameShape → Counts → (ℕ → ℕ → Bool) → (ℕ → Say) → List ℕ → ℕ → ℕ → Bool
+chain_line mode [] counts bits says path first x = bits first x
+chain_line mode (s ∷ below) counts bits says path first x =
+    line_bit s (record { mode = mode; counts = counts path; inputs = λ j. chain_line mode below counts bits (λ n. idle) (child path j) (first + j * width below); says = says }) x
 
 -- ---- how far a chain has come, where the node at a path has made x bits of its line
 
@@ -40,9 +40,13 @@ pub record Content : Type 0 where
 abbrev pub content_of : (ℕ → List Bool) → (ℕ → Say) → Content
 content_of lists says = record { bits = λ leaf i. slice_index_or (lists leaf) i false; says = says }
 
--- the top's line with this content
+-- the top's line of a mode with this content
+abbrev pub line_in : Mode → List FrameShape → Counts → Content → ℕ → Bool
+line_in mode chain counts content = chain_line mode chain counts content.bits content.says [] 0
+
+-- that of plain mode, which an event of a store ends
 abbrev pub line_with : List FrameShape → Counts → Content → ℕ → Bool
-line_with chain counts content = chain_line chain counts content.bits content.says [] 0
+line_with = line_in Plain
 
 -- how many frames of the top are begun where x bits of its line are made
 abbrev pub top_begun : List FrameShape → ℕ → ℕ

@@ -6,7 +6,7 @@ use Rattle.std.specs.Prelude.{◌≡◌, ℕ, suc, ◌*◌, ◌/◌, ◌%◌, Bo
 use Rattle.std.specs.List.{range_with_len}
 use Rattle.pdh_shape.specs.Frame.{FrameShape}
 use Rattle.pdh_shape.specs.OwnNumbers.{lead}
-use Rattle.pdh_line.specs.Sending.{arrives_at, came_before}
+use Rattle.pdh_line.specs.Sending.{Mode, arrives_at, came_before}
 use Rattle.pdh_line.specs.Nodes.{child, Counts}
 use Rattle.pdh_line.specs.Sending.Mode.{Plain}
 use Rattle.pdh_line.specs.Events.{Event, overflow_at, underflow_at}
@@ -34,30 +34,30 @@ below_key numbers events = map (λ event. (numbers ++ event.0, event.1)) events
 
 -- Those in making bit x of the line of the node at a path that has stores, each with the part of its list below that bit, by
 -- those after a mark in making each bit of a tributary.
-abbrev pub keyed_with_stores : FrameShape → Counts → List ℕ → (ℕ → ℕ → ℕ → List Keyed) → ℕ → List Keyed
-keyed_with_stores s counts path made x =
+abbrev pub keyed_with_stores : Mode → FrameShape → Counts → List ℕ → (ℕ → ℕ → ℕ → List Keyed) → ℕ → List Keyed
+keyed_with_stores mode s counts path made x =
     let n = x / s.len in
     let t = x % s.len in
     let tributaries = range_with_len 0 s.tribs in
     (if x == 0 then flat_map (λ j. flat_map (made 0 j) (range_with_len 0 lead)) tributaries else [])
-    ++ flat_map (λ j. (if arrives_at s (counts path j n) t then made 1 j (came_before s (counts path j) n t) else []) ++ at_key (1 ∷ suc j ∷ []) (overflow_at Plain s path j (counts path j) n t)) tributaries
-    ++ flat_map (λ j. at_key (1 ∷ suc s.tribs ∷ []) (underflow_at Plain s path j (counts path j) n t)) tributaries
+    ++ flat_map (λ j. (if arrives_at s (counts path j n) t then made 1 j (came_before s (counts path j) n t) else []) ++ at_key (1 ∷ suc j ∷ []) (overflow_at mode s path j (counts path j) n t)) tributaries
+    ++ flat_map (λ j. at_key (1 ∷ suc s.tribs ∷ []) (underflow_at mode s path j (counts path j) n t)) tributaries
 
 -- all events in making bit x of the line of the node at a path, in order, each with that part of its list; a bit that a node
 -- without stores reads has the mark of one that arrives
-unfoldable pub keyed_in : List FrameShape → Counts → List ℕ → ℕ → List Keyed
-keyed_in [] counts path x = []
-keyed_in (s ∷ below) counts path x =
-    let made = λ (mark j k : ℕ). below_key (mark ∷ suc j ∷ k ∷ []) (keyed_in below counts (child path j) k) in
-    (if s.copies == 0 then events_without_stores s (made 1) x else keyed_with_stores s counts path made x)
+unfoldable pub keyed_in : Mode → List FrameShape → Counts → List ℕ → ℕ → List Keyed
+keyed_in mode [] counts path x = []
+keyed_in mode (s ∷ below) counts path x =
+    let made = λ (mark j k : ℕ). below_key (mark ∷ suc j ∷ k ∷ []) (keyed_in mode below counts (child path j) k) in
+    (if s.copies == 0 then events_without_stores s (made 1) x else keyed_with_stores mode s counts path made x)
 
 -- all events in making the first x bits of the top's line, in order, each with its list
-unfoldable pub keyed_below : List FrameShape → Counts → ℕ → List Keyed
-keyed_below chain counts x = flat_map (λ bit. below_key (bit ∷ []) (keyed_in chain counts [] bit)) (range_with_len 0 x)
+unfoldable pub keyed_below : Mode → List FrameShape → Counts → ℕ → List Keyed
+keyed_below mode chain counts x = flat_map (λ bit. below_key (bit ∷ []) (keyed_in mode chain counts [] bit)) (range_with_len 0 x)
 
--- all events in so many frames of the top, each with its list
+-- all events of plain mode in so many frames of the top, each with its list
 abbrev pub keyed_events : List FrameShape → Counts → ℕ → List Keyed
-keyed_events chain counts frames = keyed_below chain counts (frames * top_len chain)
+keyed_events chain counts frames = keyed_below Plain chain counts (frames * top_len chain)
 
 -- an event's list comes before another's
 abbrev pub Before : Keyed → Keyed → Type 0

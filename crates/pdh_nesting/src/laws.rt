@@ -1,24 +1,30 @@
 //! The laws of chains of nested multiplexers, whatever the frames of their levels. Each function does
 //! nothing: what it ensures is the law.
-ghost use Rattle.std.specs.Prelude.{◌≡◌, ◌<◌, ◌≤◌, ℕ, ◌+◌, ◌*◌, Bool, List, [], length, map, take, Some, None};
+ghost use Rattle.std.specs.Prelude.{◌≡◌, ◌<◌, ◌≤◌, ℕ, ◌+◌, ◌*◌, Bool, List, [], length, map, take, AllPairs, Some, None};
 ghost use Rattle.pdh_shape.specs.declared.role.Service.{Service as Say};
 ghost use Rattle.pdh_shape.specs.Frame.{FrameShape, IsFrame};
 ghost use Rattle.pdh_shape.specs.Tributary.{HasTributaries};
 ghost use Rattle.pdh_line.specs.Events.{Event, IsQuiet};
 ghost use Rattle.pdh_shape.specs.OwnNumbers.{store_size};
-ghost use Rattle.pdh_line.specs.Sending.{came_before, read_before, front};
+ghost use Rattle.pdh_line.specs.Sending.{Mode, came_before, read_before, front};
+ghost use Rattle.pdh_line.specs.Sending.Mode.{Plain};
 ghost use Rattle.pdh_nesting.specs.Chains.{width, top_len, AreFrames, ReadEvenly};
 ghost use Rattle.pdh_nesting.specs.Events.{events_below, first_event, NoneEmpty};
 ghost use Rattle.pdh_line.specs.Nodes.{Counts};
 ghost use Rattle.pdh_nesting.specs.Receiving.{comes_back, back_below};
 ghost use Rattle.pdh_nesting.specs.Sending.{Content, Agree, content_of, line_with, given_below, entered_below, AllWithin, AllScheduled, AllTolerated, ArriveSingly, delay};
-ghost use Rattle.pdh_nesting.specs.StepOrder.{Keyed, IsLeast, keyed_below, keyed_events};
+ghost use Rattle.pdh_nesting.specs.StepOrder.{Keyed, Before, IsLeast, keyed_below, keyed_events};
 
-/// Every event has a list of numbers, and the first event of so many frames of the top is that with
-/// the least list.
+/// Every event has a list of numbers, and in either mode the events come in the order of their lists.
+pub fn events_come_in_step_order()
+    ensures listed { (mode : Mode) (chain : List FrameShape) (counts : Counts) (bits : ℕ) →
+        map (λ (keyed : Keyed). keyed.1) (keyed_below mode chain counts bits) ≡ events_below mode chain counts bits }
+    ensures ordered { (mode : Mode) (chain : List FrameShape) (counts : Counts) (bits : ℕ) →
+        AllPairs Before (keyed_below mode chain counts bits) }
+{}
+
+/// The first event of so many frames of the top is that with the least list.
 pub fn first_event_has_least_list()
-    ensures listed { (chain : List FrameShape) (counts : Counts) (bits : ℕ) →
-        map (λ (keyed : Keyed). keyed.1) (keyed_below chain counts bits) ≡ events_below chain counts bits }
     ensures least { (chain : List FrameShape) (counts : Counts) (frames : ℕ) (event : Event) →
         first_event chain counts frames ≡ Some event →
         (key : List ℕ) × IsLeast (keyed_events chain counts frames) (key, event) }
@@ -45,7 +51,7 @@ pub fn no_store_is_empty()
         AreFrames chain → ReadEvenly chain → AllWithin chain counts [] bits →
         NoneEmpty chain counts [] bits }
     ensures quiet { (chain : List FrameShape) (counts : Counts) (bits : ℕ) →
-        AreFrames chain → ArriveSingly chain counts [] bits → events_below chain counts bits ≡ [] →
+        AreFrames chain → ArriveSingly chain counts [] bits → events_below Plain chain counts bits ≡ [] →
         NoneEmpty chain counts [] bits }
 {}
 

@@ -12,6 +12,7 @@ use Rattle.pdh_line.specs.Events.{Event, Kind}
 use Rattle.pdh_line.specs.Events.Kind.{Overflow as StoreOverflow, Underflow as StoreUnderflow}
 use Rattle.pdh_line.proofs.LeastLaws.{least_below_none, least_below_past, least_below_before}
 use Rattle.pdh_line.proofs.SameLines.{frame-is}
+use Rattle.pdh_line.specs.Sending.Mode.{Plain}
 use Rattle.pdh_nesting.specs.Chains.{top_len}
 use Rattle.pdh_nesting.specs.Events.{events_in, first_event}
 use Rattle.pdh_nesting.proofs.EventParts.{events_below-none, events_below-each, events_below-none_first}
@@ -38,7 +39,7 @@ begins (Some rest) given bits told i h =
 -- ---- the whole frames before the first event
 
 -- no event stands in a bit that has no events
-no_event_in : (chain : Chain) (rows : List Row) (bit : ℕ) → events_in (shapes_of chain) (counts rows) [] bit ≡ [] → has_event chain rows bit ≡ false
+no_event_in : (chain : Chain) (rows : List Row) (bit : ℕ) → events_in Plain (shapes_of chain) (counts rows) [] bit ≡ [] → has_event chain rows bit ≡ false
 no_event_in chain rows bit none = ap (λ (es : List Event). is_some (slice_get es 0)) none
 
 -- all frames, where there is none
@@ -51,7 +52,7 @@ all_made chain rows none =
 
 -- an event that is first stands in a bit of the frames
 event_inside : (chain : Chain) (rows : List Row) (n made : ℕ) (event : Event) → first_event (shapes_of chain) (counts rows) n ≡ Some event
-    → ((x : ℕ) → x < made → events_in (shapes_of chain) (counts rows) [] x ≡ []) → made < n * top_len (shapes_of chain)
+    → ((x : ℕ) → x < made → events_in Plain (shapes_of chain) (counts rows) [] x ≡ []) → made < n * top_len (shapes_of chain)
 event_inside chain rows n made event first quiet = elim (cases_lt made (n * top_len (shapes_of chain))) [
   | inl inside ↦ inside
   | inr past ↦
@@ -62,7 +63,7 @@ event_inside chain rows n made event first quiet = elim (cases_lt made (n * top_
 
 -- those before the bit in whose making it stands
 pub frames_before : (chain : Chain) (rows : List Row) (made whole : ℕ) (event : Event) → first_event (shapes_of chain) (counts rows) (frames_in rows) ≡ Some event
-    → slice_get (events_in (shapes_of chain) (counts rows) [] made) 0 ≡ Some event → ((x : ℕ) → x < made → events_in (shapes_of chain) (counts rows) [] x ≡ [])
+    → slice_get (events_in Plain (shapes_of chain) (counts rows) [] made) 0 ≡ Some event → ((x : ℕ) → x < made → events_in Plain (shapes_of chain) (counts rows) [] x ≡ [])
     → whole * top_len (shapes_of chain) ≤ made → made < suc whole * top_len (shapes_of chain) → frames_made chain rows ≡ whole
 unfolding frames_made
 frames_before chain rows made whole event first met quiet begun within =
@@ -78,9 +79,9 @@ frames_before chain rows made whole event first met quiet begun within =
     ap (λ x. x / top_len (shapes_of chain)) least ∙ frame-is (top_len (shapes_of chain)) whole made begun within
 
 -- what stands in no bit's way is no event either
-pub clear_quiet : (chain : Chain) (rows : List Row) (size : ℕ → ℕ) (bits x : ℕ) → IsClear (shapes_of chain) (counts rows) (frame_count rows) size bits → x < bits → events_in (shapes_of chain) (counts rows) [] x ≡ []
+pub clear_quiet : (chain : Chain) (rows : List Row) (size : ℕ → ℕ) (bits x : ℕ) → IsClear (shapes_of chain) (counts rows) (frame_count rows) size bits → x < bits → events_in Plain (shapes_of chain) (counts rows) [] x ≡ []
 clear_quiet chain rows size bits x clear less =
-    subst (λ o. Tells (Other (shapes_of chain) (counts rows) (frame_count rows) size [] 0 (suc x)) o (events_in (shapes_of chain) (counts rows) [] x)) (clear x less)
+    subst (λ o. Tells (Other (shapes_of chain) (counts rows) (frame_count rows) size [] 0 (suc x)) o (events_in Plain (shapes_of chain) (counts rows) [] x)) (clear x less)
     (chain_tells (shapes_of chain) (counts rows) (frame_count rows) size top [] 0 x (are_frames chain) (at_top (shapes_of chain) (few_shapes chain)))
 
 -- whole frames in whose way nothing stands are before the first event

@@ -8,6 +8,7 @@ use Rattle.pdh_bits.specs.Bits.{bytes_of}
 use Rattle.pdh_edge.specs.Files.{ShelfState}
 use Rattle.pdh_edge.specs.Ports.{Takes, IsPrefix, before}
 use Rattle.pdh_line.proofs.SentFrames.{take-front}
+use Rattle.pdh_line.specs.Sending.Mode.{Plain}
 use Rattle.pdh_nesting.specs.Chains.{top_len, width}
 use Rattle.pdh_nesting.specs.Sending.{chain_line}
 use Rattle.pdh_nesting.specs.Events.{first_event}
@@ -62,7 +63,7 @@ module _ (chain : Chain) (feac : Option ℕ) (rows : List Row) (a : ShelfState) 
   -- fewer frames are a prefix of more
   fewer_frames : (files : Files) (n m : ℕ) → n ≤ m → IsPrefix (line_of_files files n) (line_of_files files m)
   fewer_frames files n m less =
-      let line = chain_line (shapes_of chain) (counts rows) (bits_of (leaf_bits files)) (says_of feac) [] 0 in
+      let line = chain_line Plain (shapes_of chain) (counts rows) (bits_of (leaf_bits files)) (says_of feac) [] 0 in
       let short : n * top_len (shapes_of chain) ≤ m * top_len (shapes_of chain) = mul-le-mul_right (top_len (shapes_of chain)) less in
       (drop (n * top_len (shapes_of chain)) (line_of_files files m), sym (take-append-drop (n * top_len (shapes_of chain)) (line_of_files files m)) ∙ ap (λ l. l ++ drop (n * top_len (shapes_of chain)) (line_of_files files m)) (take-front line (n * top_len (shapes_of chain)) (m * top_len (shapes_of chain)) short))
 

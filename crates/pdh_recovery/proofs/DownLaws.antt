@@ -237,7 +237,7 @@ taken_enough s counts j x last shape has known full three h =
 -- each node on the way down comes back to its line in turn, and the leaf at the end gets its own bits from the last rejoining
 -- place on: no more than it gave for the bits of the top that were made, if no store underflowed
 pub comes_back_in : (chain : List FrameShape) (counts : Counts) (bits : ℕ → ℕ → Bool) (says : ℕ → Say) (path : List ℕ) (first : ℕ) (line : List Bool) (e u k : ℕ) (ms : List ℕ) → AreFrames chain → KeepRight chain → k < width chain
-    → Rejoins line (chain_line chain counts bits says path first) e u → IsQuietDown chain counts path line e u k ms
+    → Rejoins line (chain_line Plain chain counts bits says path first) e u → IsQuietDown chain counts path line e u k ms
     → (e' : ℕ) × (u' : ℕ) × ComesBack chain counts bits path first line e u k ms e' u' × Rejoins (far chain line k) (bits (first + k)) e' u'
     × ((x : ℕ) → NoneEmpty chain counts path x → u + (length line - e) ≤ x → u' + (length (far chain line k) - e') ≤ given_below chain counts path x k)
 unfolding far chain_line IsQuietDown ComesBack NoneEmpty given_at
@@ -249,7 +249,7 @@ comes_back_in (s ∷ below) counts bits says path first line e u k (m ∷ ms) ar
     let w : ℕ = width below in
     let j : ℕ = k / w in
     let at : List ℕ = child path j in
-    let source : Source = record { mode = Plain; counts = counts path; inputs = λ j. chain_line below counts bits (λ n. idle) (child path j) (first + j * w); says = says } in
+    let source : Source = record { mode = Plain; counts = counts path; inputs = λ j. chain_line Plain below counts bits (λ n. idle) (child path j) (first + j * w); says = says } in
     let known : j < s.tribs = leaf-tributary s.tribs w k h in
     let here : RecoversAfter s line e u m = recovers s line (line_bit s source) e u m are.0 keep.0 same (sent_all_right s source (u + (length line - e))) quiet.0 quiet.1 in
     let down = downwards_to s source line e u m j refl are.0 are.1 keep.0 known same quiet.0 quiet.1 in
@@ -266,7 +266,7 @@ comes_back_in (s ∷ below) counts bits says path first line e u k (m ∷ ms) ar
     )
 
 pub comes_back : (chain : List FrameShape) (counts : Counts) (bits : ℕ → ℕ → Bool) (says : ℕ → Say) (path : List ℕ) (first : ℕ) (line : List Bool) (e u k : ℕ) (ms : List ℕ) → AreFrames chain → KeepRight chain → k < width chain
-    → Rejoins line (chain_line chain counts bits says path first) e u → IsQuietDown chain counts path line e u k ms
+    → Rejoins line (chain_line Plain chain counts bits says path first) e u → IsQuietDown chain counts path line e u k ms
     → (e' : ℕ) × (u' : ℕ) × ComesBack chain counts bits path first line e u k ms e' u' × Rejoins (far chain line k) (bits (first + k)) e' u'
 comes_back chain counts bits says path first line e u k ms are keep h same quiet =
     let back = comes_back_in chain counts bits says path first line e u k ms are keep h same quiet in

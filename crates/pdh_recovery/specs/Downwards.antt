@@ -5,6 +5,7 @@ use Rattle.pdh_shape.specs.Frame.{FrameShape, idle}
 use Rattle.pdh_line.specs.Tracking.{Piece, track}
 use Rattle.pdh_line.specs.Tracking.Piece.{Delivered}
 use Rattle.pdh_line.specs.Receiving.{piece_bits, received}
+use Rattle.pdh_line.specs.Sending.Mode.{Plain}
 use Rattle.pdh_line.specs.Sending.{sent}
 use Rattle.pdh_line.specs.Nodes.{child, Counts}
 use Rattle.pdh_nesting.specs.Chains.{width}
@@ -53,7 +54,7 @@ ComesBack (s ∷ below) counts bits path first line e u k (m ∷ ms) e' u' =
     let j = k / width below in
     let at = child path j in
     (e1 u1 : ℕ) × RecoversAfter s line e u m × ChildPlace s (counts path j) line e u j e1 u1
-    × Rejoins (received s j line) (chain_line below counts bits (λ n. idle) at (first + j * width below)) e1 u1
+    × Rejoins (received s j line) (chain_line Plain below counts bits (λ n. idle) at (first + j * width below)) e1 u1
     × ComesBack below counts bits at (first + j * width below) (received s j line) e1 u1 (k % width below) ms e' u'
 
 -- no right frame alone loses an alignment, at any level

@@ -21,4 +21,6 @@ mod script;
 #[cfg(test)]
 mod show;
 #[cfg(test)]
+mod slips;
+#[cfg(test)]
 mod tx;

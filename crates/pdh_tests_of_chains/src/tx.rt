@@ -2,7 +2,7 @@
 
 ghost use Rattle.std.specs.Prelude.{◌≡◌, ◌<◌, ℕ, false, IsTrue, All, map, IfOk};
 ghost use Rattle.pdh_eframes.specs.Plans.{e2};
-ghost use Rattle.pdh_tx.specs.Meaning.{plan_of, IsNodeOf, HoldsAll, IsFresh};
+ghost use Rattle.pdh_tx.specs.Meaning.{plan_in, IsNodeOf, HoldsAll, IsFresh};
 ghost use Rattle.pdh_tests_of_chains.specs.FourLeaves.{four_leaves};
 ghost use Rattle.pdh_tx.specs.Node.{node_meaning};
 
@@ -13,7 +13,7 @@ use pdh_eframes::E2;
 use pdh_packed::Packed;
 use pdh_runs::Layout;
 use pdh_shape::TOP;
-use pdh_slips::NoSlips;
+use pdh_slips::{NoSlips, SlipLog};
 use pdh_tx::{Leaf, Node, Tx, TxStop};
 use std::alloc::{AllocError, Global};
 use std::rc::Rc;
@@ -28,8 +28,8 @@ fn leaves(alloc: Global) -> Result<Vec<Leaf>, AllocError>
     Ok(vec![in alloc; Leaf::new(0), Leaf::new(1), Leaf::new(2), Leaf::new(3)]?)
 }
 
-// A multiplexer of the leaves 0 to 3.
-fn node(alloc: Global) -> Result<Node<E2, Leaf>, AllocError>
+/// A multiplexer of the leaves 0 to 3.
+pub fn node(alloc: Global) -> Result<Node<E2, Leaf>, AllocError>
     ensures meaning { IfOk result (λ node. ⟦<Node<E2, Leaf> as Tx>⟧.meaning node
         ≡ node_meaning e2 (record { depth = 0; first = 0; second = 0 })
         four_leaves) }
@@ -63,22 +63,23 @@ fn zeros(alloc: Global) -> Result<MemPort, AllocError>
     MemPort::open(alloc, lists, 0)
 }
 
-// Makes bits, up to so many or to the first stop.
-fn make_bits<T: Tx, F: Feed>(
+/// Makes bits, up to so many or to the first stop, with a log for slips.
+pub fn make_bits<T: Tx, F: Feed, G: SlipLog>(
     alloc: Global,
     tx: &mut T,
     clock: &Schedule,
     feed: &mut F,
+    log: &mut G,
     most: u32,
 ) -> Result<(Vec<bool>, Option<TxStop>), AllocError>
     requires running { T.is_stopped tx.old ≡ false }
     requires lists { HoldsAll (T.meaning tx.old).leaves (F.inputs feed.old) }
     requires nodes { All (IsNodeOf clock.now.levels) (T.meaning tx.old).nodes }
-    requires stands { (x : ℕ) × T.stands_at tx.old (plan_of clock.now) x }
+    requires stands { (x : ℕ) × T.stands_at tx.old (plan_in clock.now G.takes) x }
 {
     let mut line = Vec::new(alloc);
     for _made in 0..most {
-        match tx.next(clock, feed, &mut NoSlips) {
+        match tx.next(clock, feed, log) {
             Ok(bit) => line.push(bit)?,
             Err(stop) => return Ok((line, Some(stop))),
         }
@@ -93,7 +94,7 @@ fn frame_of_zeros(rt: HostRuntime) -> Result<(), Fail> {
     let mut feed = zeros(alloc)?;
     let mut node = node(alloc)?;
     assert_eq!(rt; node.fill(0), 0);
-    let (line, stop) = make_bits(alloc, &mut node, &clock, &mut feed, 1000)?;
+    let (line, stop) = make_bits(alloc, &mut node, &clock, &mut feed, &mut NoSlips, 1000)?;
     assert_eq!(rt; line.len(), 848);
     let ones = [0, 1, 2, 3, 5, 11];
     for (slot, bit) in line.iter().enumerate() {

@@ -1,5 +1,5 @@
 -- A piece of a frame, where the frame began.
-use Rattle.std.proofs.Common.{◌≡◌, inl, inr, ◌<◌, ◌≤◌, ◌+◌, ℕ, suc, List, sym, ap, ◌∙◌, subst, arith, Some, None, slice_get}
+use Rattle.std.proofs.Common.{◌≡◌, inl, inr, ◌<◌, ◌≤◌, ◌+◌, ℕ, suc, List, refl, sym, ap, ◌∙◌, subst, arith, Some, None, slice_get}
 use Rattle.std.proofs.lemmas.Bool.{cases_Bool}
 use Rattle.std.proofs.lemmas.List.{length-map}
 use Rattle.pdh_edge.specs.Counts.{one_more}
@@ -16,8 +16,9 @@ use Rattle.pdh_tx.specs.declared.tributary.Tributary.{Tributary}
 use Rattle.pdh_clock.specs.Contents.{Contents}
 use Rattle.pdh_tx.specs.Meaning.{Plan, plan_of, Meaning, Fits, is_failed}
 use Rattle.pdh_tx.specs.Held.{first_some}
-use Rattle.pdh_tx.specs.Tributary.{placed_in, held_in, meaning_in, share_in}
-use Rattle.pdh_tx.specs.Node.{EachPlaced, Stays, steps, came_at, came_to, read_to, taken_to}
+use Rattle.pdh_tx.specs.Tributary.{held_in, plain_placed_in, plain_held_in, meaning_in, share_in}
+use Rattle.pdh_tx.specs.Node.{EachPlaced, Advance, Stays, beginning, steps, came_at, came_to, read_at, taken_to}
+use Rattle.pdh_tx.specs.Slipping.{read_to}
 use Rattle.pdh_tx.specs.Passing.{made_through}
 use Rattle.pdh_tx.specs.Tributaries.{meanings, HaveDecided, beginning_stretch, GoThrough, StopIn, HavePassed, IsPassable, FailFrom, IsClearFor, FailIn}
 use Rattle.pdh_tx.specs.laws.Growing.{given_more}
@@ -48,7 +49,7 @@ module _ {S C : Type 0} {shape : shape.Ghosts S} {tx : Ghosts C} (frame : IsFram
   u = at.slot + at.len
 
   first : came_to s at.path plan n t 0 ≡ made_through s plan at 0
-  first = came_first (placed_in tx) (held_in tx) (meaning_in tx) (share_in {C = C}) s has at.path plan n t u
+  first = came_first (plain_placed_in tx) (plain_held_in tx) (meaning_in tx) (share_in {C = C}) s has at.path plan n t u
 
   at_first : (j : ℕ) → came_to s at.path plan n t 0 j ≡ came_at s at.path plan n t j
   at_first j = ap (λ made. made j) first ∙ upto_past (came_at s at.path plan n t) (came_at s at.path plan n u) 0 j (omega arith)
@@ -58,9 +59,18 @@ module _ {S C : Type 0} {shape : shape.Ghosts S} {tx : Ghosts C} (frame : IsFram
   module _ (mid : Tributaries S C shape tx) (same : meanings mid ≡ meanings ts) (begun : GoThrough ts mid (beginning_stretch ts at.path plan n t) a b) where
     pub begun_placed : HavePassed mid schedule at 0
     begun_placed =
-        let P : (ℕ → ℕ) → Type 0 = λ made. EachPlaced (placed_in tx) mid.list.items plan made (read_to s at.path plan n t) in
-        let Q : (ℕ → ℕ) → Type 0 = λ gone. EachPlaced (placed_in tx) mid.list.items plan (made_through s plan at 0) gone in
-        subst Q (read_first (placed_in tx) (held_in tx) (meaning_in tx) (share_in {C = C}) s has at.path plan n t u) (subst P first begun.place)
+        let P : (ℕ → ℕ) → Type 0 = λ made. EachPlaced (plain_placed_in tx) mid.list.items plan made (read_at s at.path plan n t) in
+        let Q : (ℕ → ℕ) → Type 0 = λ gone. EachPlaced (plain_placed_in tx) mid.list.items plan (made_through s plan at 0) gone in
+        subst Q (read_first (plain_placed_in tx) (plain_held_in tx) (meaning_in tx) (share_in {C = C}) s has at.path plan n t u) (subst P first begun.place)
+
+    -- in plain mode what is read is numbers
+    pub begun_plainly : Advance (plain_placed_in tx) (plain_held_in tx) (meanings ts) plan ts.list.items mid.list.items (taken_to s at.path plan n t) (came_to s at.path plan n t 0) (read_at s at.path plan n t) (read_at s at.path plan n t)
+        (λ size. beginning s at.path plan (meanings ts) size n t) a b
+    begun_plainly = record {
+      place = begun.place;
+      moves = record { given = begun.moves.given; takes = begun.moves.takes; others = begun.moves.others; exact = begun.moves.exact; onward = begun.moves.onward };
+      free = begun.free;
+    }
 
     pub begun_passable : HaveDecided mid at.path plan n → IsClearFor ts schedule at a → (j : ℕ) → IsPassable mid schedule at b j
     begun_passable decided clear j m here =
@@ -77,18 +87,18 @@ module _ {S C : Type 0} {shape : shape.Ghosts S} {tx : Ghosts C} (frame : IsFram
           clear = record {
             size = clear.size;
             fits = subst P (at_first j) (fit_one (held_in tx) (meaning_in tx) plan ms j m (came_to s at.path plan n t 0) b clear.size ts.disjoint maker
-                (moves_fit (held_in tx) (meaning_in tx) plan ms ws ws' (taken_to s at.path plan n t) (came_to s at.path plan n t 0) (read_to s at.path plan n t) a b clear.size begun.moves clear.fits));
-            clear = λ y from to. piece_clear s frame at.path plan ms clear.size n t j known fits m maker at.len clear.clear y from to;
+                (moves_fit (held_in tx) (meaning_in tx) plan ms ws ws' (taken_to s at.path plan n t) (came_to s at.path plan n t 0) (read_to s at.path plan n t) (read_to s at.path plan n t) a b clear.size begun.moves clear.fits));
+            clear = λ y from to. piece_clear s frame at.path plan refl ms clear.size n t j known fits m maker at.len clear.clear y from to;
           };
-          enough = piece_enough s frame at.path plan ms clear.size n t j known fits at.len clear.clear (omega (arith, was, at_first j));
-          few = piece_few s frame at.path plan ms clear.size n t j known fits at.len clear.clear;
+          enough = piece_enough s frame at.path plan refl ms clear.size n t j known fits at.len clear.clear (omega (arith, was, at_first j));
+          few = piece_few s frame at.path plan refl ms clear.size n t j known fits at.len clear.clear;
         }
 
     pub begun_halts : (c : Inputs) → FailFrom mid schedule at 0 b c → FailIn ts schedule at a c
     begun_halts c stays =
         let P : List Meaning → Type 0 = λ ms. Stays ms plan (made_through s plan at 0) (came_at s at.path plan n u) Failed b c in
         let Q : (ℕ → ℕ) → Type 0 = λ made. Stays (meanings ts) plan made (came_at s at.path plan n u) Failed b c in
-        stays_join (held_in tx) (meaning_in tx) plan (meanings ts) ts.list.items mid.list.items (taken_to s at.path plan n t) (came_to s at.path plan n t 0) (came_at s at.path plan n u) (read_to s at.path plan n t) Failed a b c begun.moves
+        stays_join (held_in tx) (meaning_in tx) plan (meanings ts) ts.list.items mid.list.items (taken_to s at.path plan n t) (came_to s at.path plan n t 0) (came_at s at.path plan n u) (read_to s at.path plan n t) (read_to s at.path plan n t) Failed a b c begun.moves
         (subst Q (sym first) (subst P same stays))
 
   -- ---- something stood in the way of its beginning

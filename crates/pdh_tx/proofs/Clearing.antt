@@ -13,7 +13,8 @@ use Rattle.pdh_line.proofs.SendingLaws.{came_before-suc, read_before-suc}
 use Rattle.pdh_tx.specs.declared.tx.TxStop.{TxStop}
 use Rattle.pdh_tx.specs.declared.tx.TxStop.TheVariants.{Overflow, Underflow}
 use Rattle.pdh_tx.specs.Meaning.{Meaning, Plan}
-use Rattle.pdh_tx.specs.Held.{first_some, some_if}
+use Rattle.pdh_line.specs.Sending.Mode.{Plain}
+use Rattle.pdh_tx.specs.Held.{first_some, some_if, stops}
 use Rattle.pdh_tx.specs.Node.{place_at, obstacle_of, beginning, arrival_at, arrivals, reads, steps}
 
 -- ---- nothing is there
@@ -71,29 +72,30 @@ module _ (s : FrameShape) (path : Path) (plan : Plan) (ms : List Meaning) (size 
   arrival_clear : (j : ℕ) → j < s.tribs → first_some (arrival_at s path plan ms size n t j) ≡ None
   arrival_clear j h = none_flat (arrival_at s path plan ms size n t) 0 s.tribs j (none_left (arrivals s path plan ms size n t) (reads s path plan n t) rest_clear) (omega arith) (omega arith)
 
-  two_clear : (j : ℕ) → j < s.tribs → arrives_at s (plan.counts path j n) t ≡ true → (obstacle_of (slice_get ms j) plan size (came_before s (plan.counts path j) n t) ≡ None) × (some_if (overflows s j (plan.counts path j) n t) (Overflow (place_at path j n t)) ≡ None)
+  two_clear : (j : ℕ) → j < s.tribs → arrives_at s (plan.counts path j n) t ≡ true → (obstacle_of (slice_get ms j) plan size (came_before s (plan.counts path j) n t) ≡ None) × (some_if (stops plan.mode (overflows s j (plan.counts path j) n t)) (Overflow (place_at path j n t)) ≡ None)
   two_clear j h is =
       let o : Option TxStop = obstacle_of (slice_get ms j) plan size (came_before s (plan.counts path j) n t) in
-      let q : Option TxStop = some_if (overflows s j (plan.counts path j) n t) (Overflow (place_at path j n t)) in
+      let q : Option TxStop = some_if (stops plan.mode (overflows s j (plan.counts path j) n t)) (Overflow (place_at path j n t)) in
       head_none o q (ap (λ b. first_some (cond b (o ∷ q ∷ []) [])) (sym is) ∙ arrival_clear j h)
 
   pub child_clear : (j : ℕ) (m : Meaning) → j < s.tribs → slice_get ms j ≡ Some m → arrives_at s (plan.counts path j n) t ≡ true → m.obstacle plan size (came_before s (plan.counts path j) n t) ≡ None
   child_clear j m h at is = ap (λ o. obstacle_of o plan size (came_before s (plan.counts path j) n t)) (sym at) ∙ (two_clear j h is).0
 
-  pub no_overflow : (j : ℕ) → j < s.tribs → overflows s j (plan.counts path j) n t ≡ false
-  no_overflow j h = elim (cases_Bool (arrives_at s (plan.counts path j n) t)) [
-    | inl is ↦ off (overflows s j (plan.counts path j) n t) (Overflow (place_at path j n t)) (two_clear j h is).1
+  pub no_overflow : plan.mode ≡ Plain → (j : ℕ) → j < s.tribs → overflows s j (plan.counts path j) n t ≡ false
+  no_overflow plain j h = elim (cases_Bool (arrives_at s (plan.counts path j n) t)) [
+    | inl is ↦ ap (λ mode. stops mode (overflows s j (plan.counts path j) n t)) (sym plain) ∙ off (stops plan.mode (overflows s j (plan.counts path j) n t)) (Overflow (place_at path j n t)) (two_clear j h is).1
     | inr none ↦ ap (λ b. b && leb (read_before s j (plan.counts path j) n t + store_size) (came_before s (plan.counts path j) n t)) none
   ]
 
-  pub no_underflow : (j : ℕ) → j < s.tribs → underflows s j (plan.counts path j) n t ≡ false
-  no_underflow j h =
-      off (underflows s j (plan.counts path j) n t) (Underflow (place_at path j n t))
-      (none_map (λ j. some_if (underflows s j (plan.counts path j) n t) (Underflow (place_at path j n t))) 0 s.tribs j (none_right (arrivals s path plan ms size n t) (reads s path plan n t) rest_clear) (omega arith) (omega arith))
+  pub no_underflow : plan.mode ≡ Plain → (j : ℕ) → j < s.tribs → underflows s j (plan.counts path j) n t ≡ false
+  no_underflow plain j h =
+      ap (λ mode. stops mode (underflows s j (plan.counts path j) n t)) (sym plain)
+      ∙ off (stops plan.mode (underflows s j (plan.counts path j) n t)) (Underflow (place_at path j n t))
+      (none_map (λ j. some_if (stops plan.mode (underflows s j (plan.counts path j) n t)) (Underflow (place_at path j n t))) 0 s.tribs j (none_right (arrivals s path plan ms size n t) (reads s path plan n t) rest_clear) (omega arith) (omega arith))
 
 -- ---- the slots of a piece
 
-module _ (s : FrameShape) (frame : IsFrame s) (path : Path) (plan : Plan) (ms : List Meaning) (size : ℕ → ℕ) (n t : ℕ) where
+module _ (s : FrameShape) (frame : IsFrame s) (path : Path) (plan : Plan) (plain : plan.mode ≡ Plain) (ms : List Meaning) (size : ℕ → ℕ) (n t : ℕ) where
   abbrev AreClear : ℕ → Type 0
   AreClear len = (v : ℕ) → v < len → first_some (steps s path plan ms size n (t + v)) ≡ None
 
@@ -132,7 +134,7 @@ module _ (s : FrameShape) (frame : IsFrame s) (path : Path) (plan : Plan) (ms : 
     piece_few zero clear h = (let e : t + 0 ≡ t = omega arith in let a = ap came e in let b = ap read e in omega arith)
     piece_few (suc len) clear h =
         let before = piece_few len (λ v h. clear v (omega arith)) h in
-        let fine = no_overflow s path plan ms size n (t + len) (clear len (omega arith)) j known in
+        let fine = no_overflow s path plan ms size n (t + len) (clear len (omega arith)) plain j known in
         let later = read_step len in
         elim (cases_Bool (arrives_at s (plan.counts path j n) (t + len))) [
           | inl is ↦
@@ -148,7 +150,7 @@ module _ (s : FrameShape) (frame : IsFrame s) (path : Path) (plan : Plan) (ms : 
     piece_enough zero clear h = (let e : t + 0 ≡ t = omega arith in let a = ap came e in let b = ap read e in omega arith)
     piece_enough (suc len) clear h =
         let before = piece_enough len (λ v h. clear v (omega arith)) h in
-        let fine = no_underflow s path plan ms size n (t + len) (clear len (omega arith)) j known in
+        let fine = no_underflow s path plan ms size n (t + len) (clear len (omega arith)) plain j known in
         let later = came_step len in
         let r : Bool = reads_from j (sends_more s (plan.counts path j) n) (s.role (t + len)) in
         elim (cases_Bool r) [

@@ -5,38 +5,44 @@ use Rattle.std.proofs.lemmas.Bool.{ne_eqb, eq-eqb, lt-ltb, le-ltb, lt-leb, le-le
 use Rattle.pdh_edge.specs.Ports.{Inputs, nothing}
 use Rattle.pdh_shape.specs.declared.place.Path.{Path}
 use Rattle.pdh_shape.specs.Frame.{FrameShape, IsFrame}
-use Rattle.pdh_shape.specs.OwnNumbers.{lead, threshold}
+use Rattle.pdh_shape.specs.OwnNumbers.{lead}
 use Rattle.pdh_shape.specs.declared.place.Level.{Level}
 use Rattle.pdh_shape.specs.Tributary.{reads_below}
 use Rattle.pdh_levels.specs.Levels.{level_stores}
 use Rattle.pdh_line.specs.Progress.{stores_of}
 use Rattle.pdh_line.specs.Progress.Stores.{Elastic, Locked}
-use Rattle.pdh_line.specs.Sending.{sends_more, came_before, read_before, shape_numbers}
-use Rattle.pdh_line.proofs.SendingLaws.{came_before-first, came_before-start, read_before-start, sent-zero, sends_more-fill}
+use Rattle.pdh_line.specs.Sending.{HasStores, came_before, shape_numbers}
+use Rattle.pdh_line.proofs.SendingLaws.{came_before-first}
 use Rattle.pdh_tx.specs.declared.tx.TxStop.{TxStop}
 use Rattle.pdh_tx.specs.declared.tx.TxStop.TheVariants.{NoFrame}
 use Rattle.pdh_tx.specs.Meaning.{Meaning, Plan, Supply, HasNumbers, is_locked}
-use Rattle.pdh_tx.specs.Held.{first_some, some_if}
+use Rattle.pdh_tx.specs.Held.{first_some, some_if, unslipped}
+use Rattle.pdh_tx.specs.Slipping.{read_to}
+use Rattle.pdh_tx.proofs.Readouts.{none-by}
 use Rattle.pdh_tx.specs.declared.tx.Tx.{Ghosts}
 use Rattle.pdh_tx.specs.declared.tributary.Tributary.{Tributary}
 use Rattle.pdh_tx.specs.Tributary.{meaning_in, child_in}
-use Rattle.pdh_tx.specs.Node.{Advance, Blocked, beginning, taken_to, led_to, came_to, read_to, leads}
+use Rattle.pdh_tx.specs.Node.{Advance, Blocked, beginning, taken_to, led_to, came_to, leads}
 use Rattle.pdh_tx.specs.laws.Stepping.{taken_later}
 use Rattle.pdh_tx.specs.laws.Growing.{given_more}
 use Rattle.pdh_tx.proofs.Moving.{moves_to, inside, takes_none}
 
-module _ {W : Type 0} (placed : W → Plan → ℕ → ℕ → Type 0) (held : W → Supply → ℕ → ℕ → Type 0) (meaning : W → Meaning) (plan : Plan) where
-  -- the same numbers, written otherwise
-  pub advance_change : (ms : List Meaning) (u v : List W) (made x more y read r : ℕ → ℕ) (steps steps' : (ℕ → ℕ) → List (Option TxStop)) (a b : Inputs) → length ms ≡ length v
-      → ((j : ℕ) → made j ≡ x j) → ((j : ℕ) → j < length ms → more j ≡ y j) → ((j : ℕ) → read j ≡ r j) → ((size : ℕ → ℕ) → first_some (steps size) ≡ None → first_some (steps' size) ≡ None)
-      → Advance placed held ms plan u v made more read steps a b → Advance placed held ms plan u v x y r steps' a b
-  advance_change ms u v made x more y read r steps steps' a b long first last reads same advance =
-      let P : (ℕ → ℕ) → Type 0 = λ f. Advance placed held ms plan u v f more read steps a b in
-      let Q : (ℕ → ℕ) → Type 0 = λ f. Advance placed held ms plan u v x more f steps a b in
-      let now : Advance placed held ms plan u v x more r steps a b = subst Q (fun_ext reads) (subst P (fun_ext first) advance) in
+module _ {W R : Type 0} (placed : W → Plan → ℕ → R → Type 0) (held : W → Supply → ℕ → R → Type 0) (meaning : W → Meaning) (plan : Plan) where
+  -- the same numbers, and what was read, written otherwise
+  pub advance_change : (ms : List Meaning) (u v : List W) (made x more y : ℕ → ℕ) (read r left l : ℕ → R) (steps steps' : (ℕ → ℕ) → List (Option TxStop)) (a b : Inputs) → length ms ≡ length v
+      → ((j : ℕ) → made j ≡ x j) → ((j : ℕ) → j < length ms → more j ≡ y j) → ((j : ℕ) → read j ≡ r j) → ((j : ℕ) → j < length ms → left j ≡ l j) → ((size : ℕ → ℕ) → first_some (steps size) ≡ None → first_some (steps' size) ≡ None)
+      → Advance placed held ms plan u v made more read left steps a b → Advance placed held ms plan u v x y r l steps' a b
+  advance_change ms u v made x more y read r left l steps steps' a b long first last reads lefts same advance =
+      let P : (ℕ → ℕ) → Type 0 = λ f. Advance placed held ms plan u v f more read left steps a b in
+      let Q : (ℕ → R) → Type 0 = λ f. Advance placed held ms plan u v x more f left steps a b in
+      let now : Advance placed held ms plan u v x more r left steps a b = subst Q (fun_ext reads) (subst P (fun_ext first) advance) in
       record {
-        place = λ j w e. (let N : ℕ → Type 0 = λ n. placed w plan n (r j) in subst N (last j (let i = inside v j w e in omega arith)) (now.place j w e));
-        moves = moves_to held meaning plan ms u v x more y r a b long last now.moves;
+        place = λ j w e.
+            let known : j < length ms = (let i = inside v j w e in omega arith) in
+            let N : ℕ → Type 0 = λ n. placed w plan n (left j) in
+            let L : R → Type 0 = λ r. placed w plan (y j) r in
+            subst L (lefts j known) (subst N (last j known) (now.place j w e));
+        moves = moves_to held meaning plan ms u v x more y r left l a b long last lefts now.moves;
         free = λ size fit. same size (now.free size fit);
       }
 
@@ -62,8 +68,8 @@ module _ {W : Type 0} (placed : W → Plan → ℕ → ℕ → Type 0) (held : W
     pub begun_zero : (n j : ℕ) → n ≡ 0 → taken_to s path plan n 0 j ≡ led_to 0 j
     begun_zero n j h = ap (λ m. taken_to s path plan m 0 j) h ∙ sym (ap (λ b. cond b lead 0) (le-ltb j 0 (omega arith)))
 
-    pub read_zero : (n j : ℕ) → n ≡ 0 → read_to s path plan n 0 j ≡ 0
-    read_zero n j h = ap (λ m. read_to s path plan m 0 j) h ∙ read_before-start s j (plan.counts path j) 0 ∙ sent-zero s (plan.counts path j)
+    pub read_zero : (n j : ℕ) → HasStores s → n ≡ 0 → read_to s path plan n 0 j ≡ unslipped 0
+    read_zero n j stores h = ap (λ m. read_to s path plan m 0 j) h ∙ none-by s j (plan.counts path j) plan.mode stores
 
     pub led_all : (n i j : ℕ) → n ≡ 0 → IsFrame s → j < i → led_to i j ≡ came_to s path plan n 0 0 j
     led_all n i j h frame l =
@@ -108,11 +114,6 @@ module _ {W : Type 0} (placed : W → Plan → ℕ → ℕ → Type 0) (held : W
       };
       met = record { counted = refl; is_first = λ h size fit. steps_none (map meaning ws) size n none };
     }
-
--- the decisions are those of the fills
-pub decision : (s : FrameShape) (counts : ℕ → ℕ) (n j held : ℕ) → eqb s.copies 0 ≡ false → IsFrame s → read_before s j counts n 0 + held ≡ came_before s counts n 0 → leb threshold held ≡ sends_more s counts n
-decision s counts n j held stores frame count =
-    sym (sends_more-fill s counts n held stores (ap (λ k. k + held) (sym (read_before-start s j counts n)) ∙ count ∙ came_before-start s counts n frame))
 
 -- the children's meanings are those of the tributaries
 pub meanings : {C : Type 0} (tx : Ghosts C) (ws : List (Tributary C)) → map (meaning_in tx) ws ≡ map tx.meaning (map child_in ws)

@@ -1,13 +1,12 @@
 -- Many bits of a leaf.
-use Rattle.std.proofs.Common.{◌≡◌, inl, inr, ℕ, zero, suc, ◌+◌, ◌<◌, ◌≤◌, Bool, false, List, [], length, get_or, cond, refl, sym, ap, ◌∙◌, subst, eq-eqb, arith, Some, None}
-use Rattle.std.proofs.lemmas.Bool.{cases_lt, le-leb}
+use Rattle.std.proofs.Common.{◌≡◌, ℕ, ◌+◌, ◌<◌, ◌≤◌, Bool, false, List, [], length, get_or, cond, refl, sym, ap, ◌∙◌, subst, eq-eqb, arith}
 use Rattle.pdh_edge.specs.Ports.{Inputs, Takes, for_leaf}
 use Rattle.pdh_shape.specs.declared.role.Service.{Service}
-use Rattle.pdh_tx.specs.declared.tx.TxStop.TheVariants.{Failed, Ended}
+use Rattle.pdh_tx.specs.declared.tx.TxStop.TheVariants.{Failed}
 use Rattle.pdh_tx.specs.Meaning.{Plan, Supply}
 use Rattle.pdh_tx.specs.Leaf.{leaf_meaning}
 use Rattle.pdh_tx.specs.Held.{Halts}
-use Rattle.pdh_tx.specs.Making.{IsClear, MakesAll}
+use Rattle.pdh_tx.specs.Making.{MakesAll}
 use Rattle.pdh_tx.proofs.NodePieces.{part_of}
 
 pub leaf_makes : {now : Service} (leaf : ℕ) (placed : ℕ → Type 0) (old new : Supply → ℕ → Type 0) (plan : Plan) (x to : ℕ) (bits : List Bool) (a b : Inputs) → placed to → ((supply : Supply) → new supply to) → x + length bits ≡ to → Takes (for_leaf leaf bits) a b
@@ -39,17 +38,3 @@ leaf_halts leaf plan x to bits a b few takes = record {
   no_more = λ k h. (let own : length (for_leaf leaf bits k) ≡ length bits = ap (λ (here : Bool). length (cond here bits [])) h in omega (arith, own, few));
   used_up = tt;
 }
-
--- the bits of a leaf in whose way nothing stands are in its list
-pub leaf_enough : (leaf : ℕ) (plan : Plan) (x len : ℕ) (a : Inputs) → IsClear (leaf_meaning leaf) plan x (x + len) a → len ≤ a.left leaf
-leaf_enough leaf plan x zero a clear = omega arith
-leaf_enough leaf plan x (suc len) a clear =
-    let own = clear.fits leaf (eq-eqb leaf leaf refl) in
-    let last = clear.clear (x + len) (omega arith) (omega arith) in
-    elim (cases_lt (x + len) (clear.size leaf)) [
-      | inl less ↦ omega (arith, own, less)
-      | inr none ↦ absurd (differ (sym (ap (λ b. cond b (Some (Ended leaf)) None) (le-leb (clear.size leaf) (x + len) none)) ∙ last))
-    ]
-  where
-    differ : Some (Ended leaf) ≡ None → ⊥
-    differ h = cc

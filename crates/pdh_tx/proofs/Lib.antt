@@ -5,7 +5,12 @@ mod LeafSteps
 pub mod TributarySteps
 pub mod Gaining
 pub mod Advancing
+pub mod Storing
 pub mod Telling
+mod SlipSteps
+mod Slips
+pub mod Readouts
+mod ArrivalSteps
 mod Arriving
 mod FrameStarts
 mod Reading

@@ -1,7 +1,10 @@
 -- What stands at a place of a list.
-use Rattle.std.proofs.Common.{◌≡◌, ℕ, zero, suc, ◌<◌, List, [], ◌∷◌, length, map, refl, sym, ap, ◌∙◌, subst, arith, Some, slice_get}
+use Rattle.std.proofs.Common.{◌≡◌, inl, inr, ℕ, zero, suc, ◌+◌, ◌<◌, ◌≤◌, List, [], ◌∷◌, ◌++◌, length, map, refl, sym, ap, ◌∙◌, subst, arith, Some, slice_get}
 use Rattle.std.proofs.lemmas.Option.{slice_get-map}
-use Rattle.std.proofs.lemmas.List.{length-map}
+use Rattle.std.proofs.lemmas.List.{append-nil, length-map}
+use Rattle.std.proofs.lemmas.Bool.{cases_eq}
+use Rattle.std.specs.Prelude.{flat_map}
+use Rattle.std.specs.List.{range_with_len}
 use Rattle.pdh_tx.proofs.Moving.{inside}
 
 pub some_same : {X : Type 0} {a b : X} → Some a ≡ Some b → a ≡ b
@@ -28,3 +31,15 @@ transfer {X = X} {Y = Y} f g P mid new fs gs each j w e =
 pub transfer_one : {W X : Type 0} (f : W → X) (P : X → ℕ → Type 0) (mid new : List W) → map f new ≡ map f mid
     → ((j : ℕ) (w : W) → slice_get mid j ≡ Some w → P (f w) j) → (j : ℕ) (w : W) → slice_get new j ≡ Some w → P (f w) j
 transfer_one f P mid new same each = transfer f f (λ x y j. P x j) mid new same same each
+
+-- lists of which at most one isn't empty, joined
+pub flat_nothing : {X : Type 0} (f : ℕ → List X) (a n : ℕ) → ((j : ℕ) → a ≤ j → j < a + n → f j ≡ []) → flat_map f (range_with_len a n) ≡ []
+flat_nothing f a zero h = refl
+flat_nothing f a (suc n) h = ap (λ l. l ++ flat_map f (range_with_len (a + 1) n)) (h a (omega arith) (omega arith)) ∙ flat_nothing f (a + 1) n (λ j l m. h j (omega arith) (omega arith))
+
+pub flat_one : {X : Type 0} (f : ℕ → List X) (a n i : ℕ) → a ≤ i → i < a + n → ((j : ℕ) → (j ≡ i → ⊥) → f j ≡ []) → flat_map f (range_with_len a n) ≡ f i
+flat_one f a zero i l m h = absurd (omega arith)
+flat_one f a (suc n) i l m h = elim (cases_eq a i) [
+  | inl same ↦ ap (λ l. f a ++ l) (flat_nothing f (a + 1) n (λ j from to. h j (λ e. omega (arith, e, same, from)))) ∙ append-nil (f a) ∙ ap f same
+  | inr other ↦ ap (λ l. l ++ flat_map f (range_with_len (a + 1) n)) (h a other) ∙ flat_one f (a + 1) n i (omega arith) (omega arith) h
+]

@@ -76,10 +76,10 @@ given_less (y ∷ ms) plan made made' k h =
     go true f r = f
     go false f r = r
 
-pub set_here : (made : ℕ → ℕ) (t x : ℕ) → set_at made t x t ≡ x
+pub set_here : {X : Type 0} (made : ℕ → X) (t : ℕ) (x : X) → set_at made t x t ≡ x
 set_here made t x = ap (λ b. cond b x (made t)) (eq-eqb t t refl)
 
-pub set_other : (made : ℕ → ℕ) (t x j : ℕ) → (j ≡ t → ⊥) → set_at made t x j ≡ made j
+pub set_other : {X : Type 0} (made : ℕ → X) (t : ℕ) (x : X) (j : ℕ) → (j ≡ t → ⊥) → set_at made t x j ≡ made j
 set_other made t x j ne = ap (λ b. cond b x (made j)) (ne_eqb j t ne)
 
 -- ---- lists of bits
@@ -128,21 +128,21 @@ inside (y ∷ xs) zero x e = omega arith
 inside (y ∷ xs) (suc j) x e = let r = inside xs j x e in omega arith
 
 -- a fact of each, where one is another now
-pub each_set : {W : Type 0} (P : ℕ → W → ℕ → Type 0) (old : List W) (i : ℕ) (w' : W) (f : ℕ → ℕ) (x : ℕ) → ((j : ℕ) (w : W) → slice_get old j ≡ Some w → P j w (f j)) → P i w' x
+pub each_set : {W X : Type 0} (P : ℕ → W → X → Type 0) (old : List W) (i : ℕ) (w' : W) (f : ℕ → X) (x : X) → ((j : ℕ) (w : W) → slice_get old j ≡ Some w → P j w (f j)) → P i w' x
     → (j : ℕ) (w : W) → slice_get (slice_set old i w') j ≡ Some w → P j w (set_at f i x j)
-each_set {W = W} P old i w' f x each now j w e = elim (slice_get_set old i j w' w e) [
+each_set {W = W} {X = X} P old i w' f x each now j w e = elim (slice_get_set old i j w' w e) [
   | inl p ↦
       let Q : ℕ → Type 0 = λ v. P v w' (set_at f i x v) in
       let R : W → Type 0 = λ v. P j v (set_at f i x j) in
-      let N : ℕ → Type 0 = λ n. P i w' n in
+      let N : X → Type 0 = λ n. P i w' n in
       subst R p.1 (subst Q (sym p.0) (subst N (sym (set_here f i x)) now))
-  | inr p ↦ let N : ℕ → Type 0 = λ n. P j w n in subst N (sym (set_other f i x j p.0)) (each j w p.1)
+  | inr p ↦ let N : X → Type 0 = λ n. P j w n in subst N (sym (set_other f i x j p.0)) (each j w p.1)
 ]
 
 -- ---- one tributary among all, and one call after another
 
-module _ {W : Type 0} (held : W → Supply → ℕ → ℕ → Type 0) (meaning : W → Meaning) (plan : Plan) where
-  pub moves_none : (ms : List Meaning) (ws : List W) (made read : ℕ → ℕ) (a : Inputs) → Moves held ms plan ws ws made made read a a
+module _ {W R : Type 0} (held : W → Supply → ℕ → R → Type 0) (meaning : W → Meaning) (plan : Plan) where
+  pub moves_none : (ms : List Meaning) (ws : List W) (made : ℕ → ℕ) (read : ℕ → R) (a : Inputs) → Moves held ms plan ws ws made made read read a a
   moves_none ms ws made read a = record {
     given = nothing;
     takes = takes_none a;
@@ -151,10 +151,10 @@ module _ {W : Type 0} (held : W → Supply → ℕ → ℕ → Type 0) (meaning 
     onward = λ supply is each agrees. each;
   }
 
-  pub moves_one : (old : List W) (t : ℕ) (w w' : W) (x : ℕ) (made read : ℕ → ℕ) (a b : Inputs) → IsDisjoint (map meaning old) → slice_get old t ≡ Some w
-      → Gains (meaning w) plan (held w) (held w') (made t) x (read t) a b
-      → Moves held (map meaning old) plan old (slice_set old t w') made (set_at made t x) read a b
-  moves_one old t w w' x made read a b dis at gains =
+  pub moves_one : (old : List W) (t : ℕ) (w w' : W) (x : ℕ) (y : R) (made : ℕ → ℕ) (read : ℕ → R) (a b : Inputs) → IsDisjoint (map meaning old) → slice_get old t ≡ Some w
+      → Gains (meaning w) plan (held w) (held w') (made t) x (read t) y a b
+      → Moves held (map meaning old) plan old (slice_set old t w') made (set_at made t x) read (set_at read t y) a b
+  moves_one old t w w' x y made read a b dis at gains =
       let ms : List Meaning = map meaning old in
       let m : Meaning = meaning w in
       let maker : slice_get ms t ≡ Some m = slice_get-map meaning old t ∙ rw at refl in
@@ -176,44 +176,49 @@ module _ {W : Type 0} (held : W → Supply → ℕ → ℕ → Type 0) (meaning 
         ];
         onward = λ supply is each agrees j c e. elim (slice_get_set old t j w' c e) [
           | inl p ↦
-              let P : ℕ → Type 0 = λ v. held w' supply v (read t) in
-              let now : held w' supply x (read t) = gains.onward supply is (each t w at)
+              let P : ℕ → Type 0 = λ v. held w' supply v y in
+              let L : R → Type 0 = λ r. held w' supply (set_at made t x t) r in
+              let now : held w' supply x y = gains.onward supply is (each t w at)
               (λ k leaf i h. agrees k (leaf_of ms t k m maker leaf) i h ∙ ap (λ v. supply.lists k (v + i)) (given_at ms plan made t k m dis maker leaf)) in
-              let Q : ℕ → Type 0 = λ v. held w' supply (set_at made t x v) (read v) in
-              let R : W → Type 0 = λ v. held v supply (set_at made t x j) (read j) in
-              subst R p.1 (subst Q (sym p.0) (subst P (sym (set_here made t x)) now))
+              let Q : ℕ → Type 0 = λ v. held w' supply (set_at made t x v) (set_at read t y v) in
+              let M : W → Type 0 = λ v. held v supply (set_at made t x j) (set_at read t y j) in
+              subst M p.1 (subst Q (sym p.0) (subst L (sym (set_here read t y)) (subst P (sym (set_here made t x)) now)))
           | inr p ↦
               let P : ℕ → Type 0 = λ v. held c supply v (read j) in
-              subst P (sym (set_other made t x j p.0)) (each j c p.1)
+              let L : R → Type 0 = λ r. held c supply (set_at made t x j) r in
+              subst L (sym (set_other read t y j p.0)) (subst P (sym (set_other made t x j p.0)) (each j c p.1))
         ];
       }
 
-  pub moves_join : (ms : List Meaning) (u v w : List W) (x y z read : ℕ → ℕ) (a b c : Inputs) → Moves held ms plan u v x y read a b → Moves held ms plan v w y z read b c → Moves held ms plan u w x z read a c
-  moves_join ms u v w x y z read a b c first second = record {
+  pub moves_join : (ms : List Meaning) (u v w : List W) (x y z : ℕ → ℕ) (p q r : ℕ → R) (a b c : Inputs) → Moves held ms plan u v x y p q a b → Moves held ms plan v w y z q r b c → Moves held ms plan u w x z p r a c
+  moves_join ms u v w x y z p q r a b c first second = record {
     given = λ k. first.given k ++ second.given k;
     takes = takes_join first.given second.given a b c first.takes second.takes;
     others = λ k h. ap (λ l. l ++ second.given k) (first.others k h) ∙ second.others k h;
-    exact = λ k h. (let p = first.exact k h in let q = second.exact k h in let l = length-append (first.given k) (second.given k) in omega arith);
+    exact = λ k h. (let d = first.exact k h in let e = second.exact k h in let l = length-append (first.given k) (second.given k) in omega arith);
     onward = λ supply is each agrees.
         second.onward supply is (first.onward supply is each (agrees_left (any_leaf ms) supply.lists (given_by ms plan x) first.given second.given agrees))
         (agrees_right (any_leaf ms) supply.lists (given_by ms plan x) (given_by ms plan y) first.given second.given first.exact agrees);
   }
 
-  -- counts of bits made that are the same for each child
-  pub moves_to : (ms : List Meaning) (u v : List W) (x y z read : ℕ → ℕ) (a b : Inputs) → length ms ≡ length v → ((j : ℕ) → j < length ms → y j ≡ z j) → Moves held ms plan u v x y read a b → Moves held ms plan u v x z read a b
-  moves_to ms u v x y z read a b long same moves = record {
+  -- counts of bits made, and what was read, that are the same for each child
+  pub moves_to : (ms : List Meaning) (u v : List W) (x y z : ℕ → ℕ) (p q r : ℕ → R) (a b : Inputs) → length ms ≡ length v → ((j : ℕ) → j < length ms → y j ≡ z j) → ((j : ℕ) → j < length ms → q j ≡ r j)
+      → Moves held ms plan u v x y p q a b → Moves held ms plan u v x z p r a b
+  moves_to ms u v x y z p q r a b long same alike moves = record {
     given = moves.given;
     takes = moves.takes;
     others = moves.others;
     exact = λ k h. moves.exact k h ∙ given_same ms plan y z k (λ j m at leaf. ap (λ n. m.given plan n k) (same j (inside ms j m at)));
     onward = λ supply is each agrees j c e.
-        let P : ℕ → Type 0 = λ n. held c supply n (read j) in
-        subst P (same j (let l = inside v j c e in omega arith)) (moves.onward supply is each agrees j c e);
+        let known : j < length ms = (let l = inside v j c e in omega arith) in
+        let P : ℕ → Type 0 = λ n. held c supply n (q j) in
+        let L : R → Type 0 = λ l. held c supply (z j) l in
+        subst L (alike j known) (subst P (same j known) (moves.onward supply is each agrees j c e));
   }
 
   -- the lists still hold so many bits in all
-  pub moves_fit : (ms : List Meaning) (u v : List W) (x y read : ℕ → ℕ) (a b : Inputs) (size : ℕ → ℕ) → Moves held ms plan u v x y read a b → AllFit ms plan x a size → AllFit ms plan y b size
-  moves_fit ms u v x y read a b size moves fit k h = (let s = fit k h in let t = moves.takes.counts k in let e = moves.exact k h in omega arith)
+  pub moves_fit : (ms : List Meaning) (u v : List W) (x y : ℕ → ℕ) (p q : ℕ → R) (a b : Inputs) (size : ℕ → ℕ) → Moves held ms plan u v x y p q a b → AllFit ms plan x a size → AllFit ms plan y b size
+  moves_fit ms u v x y p q a b size moves fit k h = (let s = fit k h in let t = moves.takes.counts k in let e = moves.exact k h in omega arith)
 
   pub fit_one : (ms : List Meaning) (t : ℕ) (m : Meaning) (x : ℕ → ℕ) (a : Inputs) (size : ℕ → ℕ) → IsDisjoint ms → slice_get ms t ≡ Some m → AllFit ms plan x a size → Fits m plan (x t) a size
   fit_one ms t m x a size dis at fit k leaf = fit k (leaf_of ms t k m at leaf) ∙ ap (λ n. n + a.left k) (given_at ms plan x t k m dis at leaf)
@@ -232,11 +237,11 @@ module _ {W : Type 0} (held : W → Supply → ℕ → ℕ → Type 0) (meaning 
     used_up = halts.used_up;
   }
 
-  pub stays_join : (ms : List Meaning) (u v : List W) (x y most read : ℕ → ℕ) (stop : TxStop) (a b c : Inputs) → Moves held ms plan u v x y read a b → Stays ms plan y most stop b c → Stays ms plan x most stop a c
-  stays_join ms u v x y most read stop a b c first second = record {
+  pub stays_join : (ms : List Meaning) (u v : List W) (x y most : ℕ → ℕ) (p q : ℕ → R) (stop : TxStop) (a b c : Inputs) → Moves held ms plan u v x y p q a b → Stays ms plan y most stop b c → Stays ms plan x most stop a c
+  stays_join ms u v x y most p q stop a b c first second = record {
     given = λ k. first.given k ++ second.given k;
     takes = takes_join first.given second.given a b c first.takes second.takes;
     others = λ k h. ap (λ l. l ++ second.given k) (first.others k h) ∙ second.others k h;
-    no_more = λ k h. (let p = first.exact k h in let q = second.no_more k h in let l = length-append (first.given k) (second.given k) in omega arith);
+    no_more = λ k h. (let d = first.exact k h in let e = second.no_more k h in let l = length-append (first.given k) (second.given k) in omega arith);
     used_up = second.used_up;
   }

@@ -13,7 +13,7 @@ use Rattle.pdh_shape.specs.Frame.{FrameShape}
 use Rattle.pdh_shape.specs.Tributary.{reads_from, reads_below, turned}
 use Rattle.pdh_line.proofs.Ranges.{range_append}
 use Rattle.pdh_tx.specs.Meaning.{Meaning, Plan, Supply}
-use Rattle.pdh_tx.specs.Held.{IsPart, Placed, Held, Gains}
+use Rattle.pdh_tx.specs.Held.{IsPart, Placed, Held, unslipped, Gains}
 use Rattle.pdh_tx.specs.Making.{MakesAll}
 use Rattle.pdh_runs.specs.Pieces.{FillsColumn}
 use Rattle.pdh_runs.proofs.Counts.{before_grows, before_less}
@@ -65,24 +65,13 @@ fills_part s j more first len gone line queue column from all enough part fills 
 -- ---- a tributary that took many bits of its child, of which many went into their column
 
 module _ {C : Type 0} (stands_at : C → Plan → ℕ → Type 0) (stands_for : C → Supply → ℕ → Type 0) (meaning : C → Meaning) (says : C → Service) (is_stopped : C → Bool) (old new : C) (plan : Plan) (store bits : List Bool) (made read gone : ℕ) where
-  pub pass_placed : (a b : Inputs) (to : ℕ) → says new ≡ says old → is_stopped new ≡ false → gone ≤ length (store ++ bits)
-      → Placed stands_at says is_stopped old store plan made read
-      → MakesAll (meaning old) (says old) (stands_at new plan) (stands_for old) (stands_for new) plan made to bits a b
-      → Placed stands_at says is_stopped new (drop gone (store ++ bits)) plan to (read + gone)
-  pass_placed a b to same runs enough was makes = record {
-    runs = runs;
-    idles = same ∙ was.idles;
-    place = makes.place;
-    count = (let c = was.count in let m = makes.count in let l = length-append store bits in let d = length-drop gone (store ++ bits) in omega arith);
-  }
-
   -- `column` is filled with what the queue begins with
   pub pass_gains : (a b : Inputs) (to : ℕ) (s : FrameShape) (j : ℕ) (more : Bool) (first len : ℕ) (column : List Bool) → meaning new ≡ meaning old → gone ≤ length (store ++ bits)
       → reads_below s j more first + gone ≡ reads_below s j more (first + len)
-      → Placed stands_at says is_stopped old store plan made read
+      → Placed stands_at says is_stopped old store plan made (unslipped read)
       → MakesAll (meaning old) (says old) (stands_at new plan) (stands_for old) (stands_for new) plan made to bits a b
       → FillsColumn s j more first len (store ++ bits) column
-      → Gains (meaning old) plan (Held stands_for meaning old store) (HeldAndFilled stands_for meaning s j more first len gone new (drop gone (store ++ bits)) column) made to read a b
+      → Gains (meaning old) plan (λ supply made read. Held stands_for meaning old store supply made (unslipped read)) (HeldAndFilled stands_for meaning s j more first len gone new (drop gone (store ++ bits)) column) made to read read a b
   pass_gains a b to s j more first len column same enough all placed makes fills = record {
     given = makes.given;
     takes = makes.gives.takes;
@@ -94,7 +83,15 @@ module _ {C : Type 0} (stands_at : C → Plan → ℕ → Type 0) (stands_for : 
         let P : Meaning → Type 0 = λ m. IsPart (m.line supply) store read in
         let Q : Meaning → Type 0 = λ m. IsPart (m.line supply) bits made in
         let whole : IsPart line (store ++ bits) read = part_then line store bits read made placed.count (subst P (sym same) was.holds) (subst Q (sym same) next.0) in (
-          record { quiet = was.quiet; made_for = next.1; holds = part_drop line (store ++ bits) read gone enough whole },
+          record {
+            quiet = was.quiet;
+            made_for = next.1;
+            holds = part_drop line (store ++ bits) read gone enough whole;
+            ahead = λ k.
+                let rest = length-drop gone (store ++ bits) in
+                let same : read + gone + length (drop gone (store ++ bits)) + k ≡ to + k = omega (arith, rest, length-append store bits, placed.count, makes.count, enough) in
+                ap line same;
+          },
           fills_part s j more first len gone line (store ++ bits) column read all enough whole fills,
         );
   }

@@ -15,7 +15,9 @@ use Rattle.std.proofs.lemmas.Nat.{le-div}
 use Rattle.std.proofs.Math.Nat.{div-mul-le_self, mul-le-mul_right}
 use Rattle.pdh_shape.specs.Frame.{FrameShape, IsFrame}
 use Rattle.pdh_shape.specs.Tributary.{reads_from, reads_below, turned}
-use Rattle.pdh_line.specs.Sending.{Source, sends_more, came_before, read_before, arrived_in, sent, more_in, input_bit, slot_bit}
+use Rattle.pdh_line.specs.Sending.{Mode, carriage, Source, sends_more, came_before, read_before, arrived_in, sent, more_in, input_bit, slot_bit}
+use Rattle.pdh_line.specs.Sending.Mode.{Plain}
+use Rattle.pdh_line.specs.Edits.{edited}
 use Rattle.pdh_line.proofs.SendingLaws.{came_before_grows, arrived_in-all}
 use Rattle.pdh_tx.specs.declared.tx.TxStop.{TxStop}
 use Rattle.pdh_tx.specs.declared.pieces.Piece.{Piece}
@@ -78,7 +80,7 @@ module _ {W : Type 0} (placed : W → Plan → ℕ → ℕ → Type 0) (held : W
 
   -- `new` is what the tributary holds and has written
   pub passes_one : (old : List W) (i : ℕ) (w w' : W) (f g h l : ℕ → ℕ) (new : Supply → ℕ → ℕ → Type 0) (written : Source → Type 0) (a b : Inputs) → IsDisjoint (map meaning old) → slice_get old i ≡ Some w
-      → Gains (meaning w) plan (held w) new (f i) (g i) (h i) a b
+      → Gains (meaning w) plan (held w) new (f i) (g i) (h i) (h i) a b
       → ((supply : Supply) → supply.plan ≡ plan → new (below supply) (g i) (h i) → held w' (below supply) (g i) (l i) × written (source_of path (map meaning old) supply))
       → Passes held path (map meaning old) plan old (slice_set old i w') (up_to f g i) (up_to f g (suc i)) (up_to h l i) (up_to h l (suc i)) a b written
   passes_one old i w w' f g h l new written a b dis at gains then =
@@ -174,15 +176,16 @@ spare_is s source n t i (ServiceSlot k) own none = absurd (differ own)
 spare_is s source n t i (Control k copy) own none = absurd (differ own)
 
 -- what a column is filled with are the bits of the tributary's slots
-pub holds_from : (s : FrameShape) (path : Path) (ms : List Meaning) (plan : Plan) (supply : Supply) (n t len i gone : ℕ) (more : Bool) (m : Meaning) (columns : List (List Bool)) (column : List Bool) → supply.plan ≡ plan → more ≡ sends_more s (plan.counts path i) n
+pub holds_from : (s : FrameShape) (path : Path) (ms : List Meaning) (plan : Plan) (supply : Supply) (n t len i gone : ℕ) (more : Bool) (m : Meaning) (columns : List (List Bool)) (column : List Bool) → supply.plan ≡ plan → plan.mode ≡ Plain → more ≡ sends_more s (plan.counts path i) n
     → slice_get ms i ≡ Some m → slice_index_or columns i [] ≡ column → reads_below s i more t + gone ≡ reads_below s i more (t + len)
     → FillsColumn s i more t len (map (m.line (below supply)) (range_with_len (read_before s i (plan.counts path i) n t) gone)) column → HoldsBitsOf s (source_of path ms supply) n t len columns i
-holds_from s path ms plan supply n t len i gone more m columns column is carries at own all fills v within reads =
+holds_from s path ms plan supply n t len i gone more m columns column is plain carries at own all fills v within reads =
     let counts : ℕ → ℕ = plan.counts path i in
     let line : ℕ → Bool = m.line (below supply) in
     let source : Source = source_of path ms supply in
     let r : Role = s.role (t + v) in
-    let same : more_in s source i n ≡ more = ap (λ (p : Plan). sends_more s (p.counts path i) n) is ∙ sym carries in
+    let bit_of : Mode → (ℕ → ℕ) → Bool = λ mode counts. let c = carriage mode s i counts in turned (s.inverted i) (edited (c.edits n (suc (t + v))) (line_of (slice_get ms i) (below supply)) (c.sent n + reads_below s i (c.more n) (t + v))) in
+    let same : more_in s source i n ≡ more = ap (λ (p : Plan). (carriage p.mode s i (p.counts path i)).more n) is ∙ ap (λ mode. (carriage mode s i counts).more n) plain ∙ sym carries in
     ap (λ l. slice_index_or l (row s t v) false) own ∙ elim (cases_Bool (reads_from i more r)) [
       | inl carried ↦
           let p : ℕ → Bool = λ x. reads_from i more (s.role x) in
@@ -191,7 +194,7 @@ holds_from s path ms plan supply n t len i gone more m columns column is carries
           let few : k < gone = omega (arith, all, number, before_less p (t + v) (t + len) carried (omega arith)) in
           let there : read_before s i counts n t + k ≡ read_before s i counts n (t + v) = ap (λ b. sent s counts n + reads_below s i b t + k) (sym carries) ∙ omega (arith, number) ∙ ap (λ b. sent s counts n + reads_below s i b (t + v)) carries in
           let bit : slot_bit s source n (t + v) r ≡ turned (s.inverted i) (line (read_before s i counts n (t + v))) =
-          read_is s source n (t + v) i r (ap (λ b. reads_from i b r) same ∙ carried) ∙ ap (λ (p : Plan). turned (s.inverted i) (line_of (slice_get ms i) (below supply) (read_before s i (p.counts path i) n (t + v)))) is
+          read_is s source n (t + v) i r (ap (λ b. reads_from i b r) same ∙ carried) ∙ ap (λ (p : Plan). bit_of p.mode (p.counts path i)) is ∙ ap (λ mode. bit_of mode counts) plain
           ∙ ap (λ o. turned (s.inverted i) (line_of o (below supply) (read_before s i counts n (t + v)))) at in
           fills.carried v k within carried number ∙ ap (turned (s.inverted i)) (get_or-map-range_with_len line (read_before s i counts n t) gone k (read_before s i counts n (t + v)) false few there) ∙ sym bit
       | inr spare ↦ fills.justified v within reads spare ∙ sym (spare_is s source n (t + v) i r reads (ap (λ b. reads_from i b r) same ∙ spare))

@@ -17,7 +17,7 @@ use Rattle.pdh_tx.specs.declared.tx.TxStop.{TxStop}
 use Rattle.pdh_tx.specs.declared.tributary.FrameShare.{FrameShare}
 use Rattle.pdh_tx.specs.declared.tx.TxStop.TheVariants.{Failed}
 use Rattle.pdh_tx.specs.Meaning.{Meaning, Plan, Supply}
-use Rattle.pdh_tx.specs.Node.{below, source_of, any_leaf, given_by, carried_by, overhead_bit, came_to, read_to, taken_to, EachPlaced, EachHeld, IsDecided, Advance, Stays, came_at}
+use Rattle.pdh_tx.specs.Node.{below, source_of, any_leaf, given_by, carried_by, overhead_bit, came_to, read_at, taken_to, EachPlaced, EachHeld, IsDecided, Advance, Stays, came_at}
 use Rattle.pdh_runs.specs.Pieces.{overhead_before, Assembled}
 use Rattle.pdh_tx.specs.Passing.{up_to, HoldsBits, HoldsLine, HoldsOverhead, Passes}
 use Rattle.pdh_tx.specs.Stored.{MakesPiece}
@@ -70,15 +70,15 @@ module _ {W : Type 0} (placed : W → Plan → ℕ → ℕ → Type 0) (held : W
   f' = came_at s path plan n u
 
   abbrev h : ℕ → ℕ
-  h = read_to s path plan n t
+  h = read_at s path plan n t
 
   abbrev h' : ℕ → ℕ
-  h' = read_to s path plan n u
+  h' = read_at s path plan n u
 
   pub came_first : came_to s path plan n t 0 ≡ up_to f f' 0
   came_first = fun_ext (λ j. ap (λ b. cond b (came_before s (plan.counts path j) n (suc t)) (came_before s (plan.counts path j) n t)) (le-ltb j 0 (omega arith)) ∙ sym (upto_past f f' 0 j (omega arith)))
 
-  pub read_first : read_to s path plan n t ≡ up_to h h' 0
+  pub read_first : read_at s path plan n t ≡ up_to h h' 0
   read_first = fun_ext (λ j. sym (upto_past h h' 0 j (omega arith)))
 
   -- each slot holds its bit
@@ -95,10 +95,10 @@ module _ {W : Type 0} (placed : W → Plan → ℕ → ℕ → Type 0) (held : W
   pub piece_makes : (ms : List Meaning) (old mid new : List W) (say : Service) (odd : Bool) (len : ℕ) (overhead bits : List Bool) (columns : List (List Bool)) (steps : (ℕ → ℕ) → List (Option TxStop)) (a b c : Inputs) → length ms ≡ s.tribs → length mid ≡ s.tribs → length new ≡ s.tribs → length bits ≡ len → t + len ≤ s.len
       → IsDecided share s path plan n mid → IsDecided share s path plan n new → n < plan.frames path → suc n < 2 ^ 64
       → HoldsOverhead s say odd (map share mid) t len overhead → Assembled s t len overhead columns bits
-      → Advance placed held ms plan old mid (taken_to s path plan n t) (came_to s path plan n t 0) (read_to s path plan n t) steps a b
+      → Advance placed held ms plan old mid (taken_to s path plan n t) (came_to s path plan n t 0) (read_at s path plan n t) (read_at s path plan n t) steps a b
       → EachPlaced placed new plan (up_to f f' s.tribs) (up_to h h' s.tribs)
       → Passes held path ms plan mid new (up_to f f' 0) (up_to f f' s.tribs) (up_to h h' 0) (up_to h h' s.tribs) b c (λ source. HoldsBits s source n t len columns s.tribs)
-      → MakesPiece placed held share s path plan ms old new n t u say odd bits a c
+      → MakesPiece placed held share s path plan (read_at s path plan) ms old new n t u say odd bits a c
   piece_makes ms old mid new say odd len overhead bits columns steps a b c ms_long mid_long new_long long most decided decided_new scheduled bounded over assembled advance place passes =
       let moves = advance.moves in
       let start : (k : ℕ) → given_by ms plan (came_to s path plan n t 0) k ≡ given_by ms plan (up_to f f' 0) k = λ k. ap (λ made. given_by ms plan made k) came_first in
@@ -126,7 +126,7 @@ module _ {W : Type 0} (placed : W → Plan → ℕ → ℕ → Type 0) (held : W
         bounded = bounded;
         onward = λ supply is each said parity agrees.
             let here = moves.onward (below supply) is each (agrees_left (any_leaf ms) supply.lists (given_by ms plan (taken_to s path plan n t)) moves.given passes.given agrees) in
-            let P : (ℕ → ℕ) → Type 0 = λ made. EachHeld held mid (below supply) made (read_to s path plan n t) in
+            let P : (ℕ → ℕ) → Type 0 = λ made. EachHeld held mid (below supply) made (read_at s path plan n t) in
             let Q : (ℕ → ℕ) → Type 0 = λ gone. EachHeld held mid (below supply) (up_to f f' 0) gone in
             let there = passes.onward supply is (subst Q read_first (subst P came_first here))
             (agrees_right (any_leaf ms) supply.lists (given_by ms plan (taken_to s path plan n t)) (given_by ms plan (up_to f f' 0)) moves.given passes.given (λ k leaf. moves.exact k leaf ∙ start k) agrees) in (

@@ -30,12 +30,13 @@ use Rattle.pdh_tx.specs.declared.tx.TxStop.{TxStop}
 use Rattle.pdh_tx.specs.declared.tx.TxStop.TheVariants.{Overflow, Underflow}
 use Rattle.pdh_tx.specs.Meaning.{Plan, Meaning, IsNodeOf}
 use Rattle.pdh_tx.specs.Making.{IsFree}
-use Rattle.pdh_tx.specs.Held.{first_some, some_if}
+use Rattle.pdh_tx.specs.Held.{first_some, some_if, stops}
 use Rattle.pdh_tx.specs.Tributary.{placed_in, held_in, meaning_in}
-use Rattle.pdh_tx.specs.Node.{node_frame, place_at, obstacle_of, lead_at, leads, beginning, arrival_at, arrivals, reads, steps, taken_to, read_to, IsDisjoint, AllFit}
+use Rattle.pdh_tx.specs.Node.{node_frame, place_at, obstacle_of, lead_at, leads, beginning, arrival_at, arrivals, reads, steps, taken_to, read_at, IsDisjoint, AllFit}
 use Rattle.pdh_tx.specs.laws.Stepping.{taken_is, taken_later, came_follows, following}
 use Rattle.pdh_tx.proofs.Firsts.{first_after, flat_none, map_none}
 use Rattle.pdh_tx.proofs.FrameStarts.{steps_inside, steps_later, steps_first, elastic_level, all_stores}
+use Rattle.pdh_tx.proofs.Gaining.{no_stop}
 use Rattle.pdh_tx.proofs.Lists.{get_at}
 use Rattle.pdh_tx.proofs.Moving.{fit_one}
 use Rattle.pdh_tx.proofs.PassingAll.{came_grows}
@@ -138,15 +139,15 @@ module _ (s : FrameShape) (path : Path) (plan : Plan) (n t j : ℕ) (frame : IsF
   first_fill first = subst (λ m. HoldsAt s (plan.counts path j) m lead) (sym first) (omega (arith, sent-zero s (plan.counts path j), arrived-zero (plan.counts path j)))
 
   -- at another frame's start it's what the store holds
-  pub frame_fill : (fill : ℕ) → t ≡ 0 → 0 < n + t → read_to s path plan n t j + fill ≡ taken_to s path plan n t j → HoldsAt s (plan.counts path j) n fill
+  pub frame_fill : (fill : ℕ) → t ≡ 0 → 0 < n + t → read_at s path plan n t j + fill ≡ taken_to s path plan n t j → HoldsAt s (plan.counts path j) n fill
   frame_fill fill start some held =
       let came : taken_to s path plan n t j ≡ lead + arrived (plan.counts path j) n =
       taken_later s path plan n t j some ∙ ap (came_before s (plan.counts path j) n) start ∙ came_before-start s (plan.counts path j) n frame in
-      let read : read_to s path plan n t j ≡ sent s (plan.counts path j) n = ap (read_before s j (plan.counts path j) n) start ∙ read_before-start s j (plan.counts path j) n in
+      let read : read_at s path plan n t j ≡ sent s (plan.counts path j) n = ap (read_before s j (plan.counts path j) n) start ∙ read_before-start s j (plan.counts path j) n in
       omega (arith, came, read, held)
 
   -- inside a frame it's what the store would hold, had the frame brought and carried nothing
-  pub slot_fill : (fill carried arrived : ℕ) → 0 < t → read_to s path plan n t j + fill ≡ taken_to s path plan n t j → carried ≡ reads_below s j (sends_more s (plan.counts path j) n) t → arrived ≡ arrived_in s (plan.counts path j n) t
+  pub slot_fill : (fill carried arrived : ℕ) → 0 < t → read_at s path plan n t j + fill ≡ taken_to s path plan n t j → carried ≡ reads_below s j (sends_more s (plan.counts path j) n) t → arrived ≡ arrived_in s (plan.counts path j n) t
       → 0 < fill + carried - arrived → HoldsAt s (plan.counts path j) n (fill + carried - arrived)
   slot_fill fill carried arrived inside held reads arrives some =
       let came = taken_later s path plan n t j (omega (arith, inside)) in
@@ -259,13 +260,14 @@ module _ {C : Type 0} (tx : Ghosts C) (s : FrameShape) (frame : IsFrame s) (path
   arrival_free : (j : ℕ) → j < s.tribs → first_some (arrival_at s path plan ms size m u j) ≡ None
   arrival_free j known =
       let o : Option TxStop = obstacle_of (slice_get ms j) plan size (came_before s (plan.counts path j) m u) in
-      let p : Bool → Option TxStop = λ b. some_if b (Overflow (place_at path j m u)) in
+      let p : Bool → Option TxStop = λ b. some_if (stops plan.mode b) (Overflow (place_at path j m u)) in
       let full : Bool = overflows s j (plan.counts path j) m u in
       elim (cases_Bool (arrives_at s (plan.counts path j m) u)) [
         | inl is ↦
             ap (λ b. first_some (cond b (o ∷ p full ∷ []) [])) is
             ∙ ap (λ v. first_some (v ∷ p full ∷ [])) (child_free j (came_before s (plan.counts path j) m u) known (bit_first j) (bit_last j is))
             ∙ ap (λ b. first_some (p b ∷ [])) (events j known).0
+            ∙ ap (λ b. first_some (some_if b (Overflow (place_at path j m u)) ∷ [])) (no_stop plan.mode false refl)
         | inr none ↦ ap (λ b. first_some (cond b (o ∷ p full ∷ []) [])) none
       ]
 
@@ -275,5 +277,5 @@ module _ {C : Type 0} (tx : Ghosts C) (s : FrameShape) (frame : IsFrame s) (path
   slot_free =
       first_after (beginning s path plan ms size m u) (arrivals s path plan ms size m u ++ reads s path plan m u) beginning_free
       ∙ first_after (arrivals s path plan ms size m u) (reads s path plan m u) (flat_none (arrival_at s path plan ms size m u) 0 s.tribs (λ j l h. arrival_free j (omega (arith, h))))
-      ∙ map_none (λ j. some_if (underflows s j (plan.counts path j) m u) (Underflow (place_at path j m u))) 0 s.tribs
-      (λ j l h. ap (λ b. some_if b (Underflow (place_at path j m u))) (events j (omega (arith, h))).1)
+      ∙ map_none (λ j. some_if (stops plan.mode (underflows s j (plan.counts path j) m u)) (Underflow (place_at path j m u))) 0 s.tribs
+      (λ j l h. ap (λ b. some_if b (Underflow (place_at path j m u))) (no_stop plan.mode (underflows s j (plan.counts path j) m u) (events j (omega (arith, h))).1))

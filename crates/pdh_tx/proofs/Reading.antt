@@ -1,24 +1,31 @@
 -- What a slot carries, and what a read does.
-use Rattle.std.proofs.Common.{◌≡◌, ◌⊎◌, inl, inr, ℕ, zero, suc, ◌+◌, ◌<◌, Bool, true, false, not, ◌&&◌, List, [], ◌∷◌, length, map, cond, leb, eqb, refl, sym, ap, ◌∙◌, subst, arith, Some, None, slice_get, eq-eqb, eqb-true}
+use Rattle.std.proofs.Common.{◌≡◌, ◌⊎◌, inl, inr, ℕ, zero, suc, ◌+◌, ◌<◌, Bool, true, false, not, ◌&&◌, List, [], ◌∷◌, length, map, cond, leb, eqb, refl, sym, ap, ◌∙◌, subst, arith, Option, Some, None, slice_get, eq-eqb, eqb-true}
 use Rattle.std.specs.List.{slice_index_or}
-use Rattle.std.proofs.lemmas.Bool.{cases_eq, ne_eqb, lt-leb, le-leb}
+use Rattle.std.proofs.lemmas.Bool.{cases_eq, ne_eqb}
 use Rattle.pdh_shape.specs.declared.role.Role.{Role}
 use Rattle.pdh_shape.specs.declared.role.Role.TheVariants.{Align, Service as ServiceSlot, Control, Just, Info}
 use Rattle.pdh_shape.specs.declared.role.Service.{Service}
 use Rattle.pdh_shape.specs.declared.place.Path.{Path}
-use Rattle.pdh_shape.specs.Frame.{FrameShape}
-use Rattle.pdh_shape.specs.Tributary.{reads_from, HasTributaries}
-use Rattle.pdh_line.specs.Sending.{Source, sends_more, came_before, read_before, more_in, slot_bit, input_bit, odd_before}
-use Rattle.pdh_line.proofs.SendingLaws.{read_before-suc}
+use Rattle.pdh_shape.specs.Frame.{FrameShape, IsFrame}
+use Rattle.pdh_shape.specs.Tributary.{reads_from, reads_below, HasTributaries}
+use Rattle.pdh_line.specs.Sending.{HasStores, Mode, Source, carriage, came_before, read_before, more_in, slot_bit, input_bit, odd_before}
+use Rattle.pdh_line.specs.Sending.Mode.{Plain, Slipping}
+use Rattle.pdh_line.specs.Paths.{steps_of}
+use Rattle.pdh_line.specs.Edits.{edited}
+use Rattle.pdh_line.specs.Events.{underflows}
+use Rattle.pdh_slips.specs.declared.slip.Slip.{Slip}
 use Rattle.pdh_tx.specs.declared.tx.TxStop.{TxStop}
 use Rattle.pdh_tx.specs.declared.tx.TxStop.TheVariants.{Underflow}
 use Rattle.pdh_tx.specs.declared.tributary.FrameShare.{FrameShare}
 use Rattle.pdh_tx.specs.Meaning.{Meaning, Plan}
-use Rattle.pdh_tx.specs.Held.{first_some, some_if}
-use Rattle.pdh_tx.specs.Node.{read_to, set_at, reads, place_at, source_of, carried_by, overhead_bit, IsDecided}
+use Rattle.pdh_tx.specs.Held.{first_some, some_if, stops, slips, slip_if, Readout, with_read, with_slip}
+use Rattle.pdh_tx.specs.Slipping.{carriage_in, slips_under, arrives_full, read_to, arrived_to}
+use Rattle.pdh_tx.proofs.Readouts.{IsCount, arrived_out, empty_same, under-by, not-under-by, under-told, next-by, stays-by}
+use Rattle.pdh_tx.specs.Node.{set_at, reads, read_slips, place_at, source_of, carried_by, overhead_bit, IsDecided}
 use Rattle.pdh_tx.proofs.Firsts.{map_none, map_some}
-use Rattle.pdh_tx.proofs.Lists.{some_same}
+use Rattle.pdh_tx.proofs.Lists.{some_same, flat_nothing, flat_one}
 use Rattle.pdh_tx.proofs.Moving.{set_here, set_other}
+use Rattle.pdh_tx.proofs.Storing.{slip_read}
 
 -- ---- what the frame carries of each tributary
 
@@ -31,7 +38,7 @@ decided_index share f (w ∷ ws) (suc j) h l = decided_index share (λ i. f (suc
 
 module _ {W : Type 0} (share : W → FrameShare) (s : FrameShape) (has : HasTributaries s) (path : Path) (plan : Plan) (n : ℕ) (ws : List W) (long : length ws ≡ s.tribs) (decided : IsDecided share s path plan n ws) where
   abbrev carries : ℕ → Bool
-  carries j = sends_more s (plan.counts path j) n
+  carries j = (carriage_in s path plan j).more n
 
   abbrev on : ℕ → Bool
   on j = (slice_index_or (map share ws) j (record { arriving = 0; more = false })).more
@@ -120,52 +127,81 @@ read_is s source n t i (Control k copy) h = absurd (cc h)
 
 -- ---- reads, by which tributary a slot reads
 
-module _ (s : FrameShape) (path : Path) (plan : Plan) (n t : ℕ) where
+under_none : (s : FrameShape) (j : ℕ) (counts : ℕ → ℕ) (mode : Mode) (n t : ℕ) → reads_from j ((carriage mode s j counts).more n) (s.role t) ≡ false → stops mode (underflows s j counts n t) ≡ false
+under_none s j counts Plain n t none = ap (λ b. b && leb (came_before s counts n (suc t)) (read_before s j counts n t)) none
+under_none s j counts Slipping n t none = refl
+
+-- after the slot's arrivals the store holds some bits or none
+under_held : (s : FrameShape) (j : ℕ) (counts : ℕ → ℕ) (mode : Mode) (n t held : ℕ) → reads_from j ((carriage mode s j counts).more n) (s.role t) ≡ true → IsCount s j counts (arrived_out s j counts mode n t) held (came_before s counts n (suc t))
+    → stops mode (underflows s j counts n t) ≡ stops mode (eqb held 0)
+under_held s j counts Plain n t held reads count =
+    ap (λ b. b && leb (came_before s counts n (suc t)) (read_before s j counts n t)) reads ∙ sym (empty_same (read_before s j counts n t) (came_before s counts n (suc t)) held count)
+under_held s j counts Slipping n t held reads count = refl
+
+module _ (s : FrameShape) (frame : IsFrame s) (stores : HasStores s) (path : Path) (plan : Plan) (n t : ℕ) where
   abbrev reads_it : ℕ → Bool
-  reads_it j = reads_from j (sends_more s (plan.counts path j) n) (s.role t)
+  reads_it j = reads_from j ((carriage_in s path plan j).more n) (s.role t)
 
-  abbrev empty : ℕ → Bool
-  empty j = leb (came_before s (plan.counts path j) n (suc t)) (read_before s j (plan.counts path j) n t)
+  abbrev met_by : ℕ → Option TxStop
+  met_by j = some_if (stops plan.mode (underflows s j (plan.counts path j) n t)) (Underflow (place_at path j n t))
 
-  read_step : (j : ℕ) → read_to s path plan n (suc t) j ≡ read_to s path plan n t j + cond (reads_it j) 1 0
-  read_step j = read_before-suc s j (plan.counts path j) n t
+  abbrev told_by : ℕ → List Slip
+  told_by j = slip_if (slips_under s path plan n t j) false (place_at path j n t)
 
-  pub read_same : ((j : ℕ) → reads_it j ≡ false) → (j : ℕ) → read_to s path plan n t j ≡ read_to s path plan n (suc t) j
-  read_same none j = sym (read_step j ∙ ap (λ b. read_to s path plan n t j + cond b 1 0) (none j) ∙ omega arith)
+  -- ---- it reads none
 
-  pub read_set : (i : ℕ) → ((j : ℕ) → reads_it j ≡ eqb i j) → (j : ℕ) → set_at (read_to s path plan n t) i (suc (read_to s path plan n t i)) j ≡ read_to s path plan n (suc t) j
-  read_set i one j = elim (cases_eq j i) [
-    | inl same ↦
-        let here : reads_it i ≡ true = one i ∙ eq-eqb i i refl in
-        let next : read_to s path plan n (suc t) i ≡ suc (read_to s path plan n t i) = read_step i ∙ ap (λ b. read_to s path plan n t i + cond b 1 0) here ∙ omega arith in
-        let P : ℕ → Type 0 = λ v. set_at (read_to s path plan n t) i (suc (read_to s path plan n t i)) v ≡ read_to s path plan n (suc t) v in
-        subst P (sym same) (set_here (read_to s path plan n t) i (suc (read_to s path plan n t i)) ∙ sym next)
-    | inr other ↦
-        let off : reads_it j ≡ false = one j ∙ ne_eqb i j (λ h. other (sym h)) in
-        set_other (read_to s path plan n t) i (suc (read_to s path plan n t i)) j other ∙ sym (read_step j ∙ ap (λ b. read_to s path plan n t j + cond b 1 0) off ∙ omega arith)
-  ]
+  module _ (none : (j : ℕ) → reads_it j ≡ false) where
+    pub read_same : (j : ℕ) → arrived_to s path plan n t j ≡ read_to s path plan n (suc t) j
+    read_same j = stays-by s j (plan.counts path j) plan.mode n t stores (none j)
 
-  pub no_read : ((j : ℕ) → reads_it j ≡ false) → first_some (reads s path plan n t) ≡ None
-  no_read none = map_none _ 0 s.tribs (λ j l h. ap (λ b. some_if (b && empty j) (Underflow (place_at path j n t))) (none j))
+    pub no_read : first_some (reads s path plan n t) ≡ None
+    no_read = map_none met_by 0 s.tribs (λ j l h. ap (λ b. some_if b (Underflow (place_at path j n t))) (under_none s j (plan.counts path j) plan.mode n t (none j)))
 
-  -- after the slot's arrivals the store holds some bits or none
-  pub full_is : (j held : ℕ) → read_to s path plan n t j + held ≡ came_before s (plan.counts path j) n (suc t) → 0 < held → empty j ≡ false
-  full_is j held count some = lt-leb _ _ (omega arith)
+    pub none_told : read_slips s path plan n t ≡ []
+    none_told = flat_nothing told_by 0 s.tribs (λ j l h. ap (λ b. slip_if b false (place_at path j n t)) (under-told s j (plan.counts path j) plan.mode (steps_of path) n t stores ∙ not-under-by s j (plan.counts path j) plan.mode n t (none j)))
 
-  pub empty_is : (j held : ℕ) → read_to s path plan n t j + held ≡ came_before s (plan.counts path j) n (suc t) → held ≡ 0 → empty j ≡ true
-  empty_is j held count none = le-leb _ _ (omega arith)
+  -- ---- it reads tributary i, whose store holds so many bits
 
-  pub read_free : (i : ℕ) → ((j : ℕ) → reads_it j ≡ eqb i j) → empty i ≡ false → first_some (reads s path plan n t) ≡ None
-  read_free i one full = map_none _ 0 s.tribs (λ j l h. elim (cases_eq j i) [
-    | inl same ↦ ap (λ b. some_if (reads_it j && b) (Underflow (place_at path j n t))) (ap empty same ∙ full) ∙ none (reads_it j) (Underflow (place_at path j n t))
-    | inr other ↦ ap (λ b. some_if (b && empty j) (Underflow (place_at path j n t))) (one j ∙ ne_eqb i j (λ h. other (sym h)))
-  ])
-    where
-      none : (b : Bool) (e : TxStop) → some_if (b && false) e ≡ None
-      none true e = refl
-      none false e = refl
+  module _ (i held : ℕ) (inside : i < s.tribs) (one : (j : ℕ) → reads_it j ≡ eqb i j) (count : IsCount s i (plan.counts path i) (arrived_to s path plan n t i) held (came_before s (plan.counts path i) n (suc t))) where
+    here : reads_it i ≡ true
+    here = one i ∙ eq-eqb i i refl
 
-  pub read_stop : (i : ℕ) → i < s.tribs → ((j : ℕ) → reads_it j ≡ eqb i j) → empty i ≡ true → first_some (reads s path plan n t) ≡ Some (Underflow (place_at path i n t))
-  read_stop i inside one is = map_some _ (Underflow (place_at path i n t)) 0 s.tribs i (omega arith) (omega arith)
-      (λ j l h. ap (λ b. some_if (b && empty j) (Underflow (place_at path j n t))) (one j ∙ ne_eqb i j (λ z. absurd (omega arith))))
-      (ap (λ b. some_if (b && empty i) (Underflow (place_at path i n t))) (one i ∙ eq-eqb i i refl) ∙ ap (λ b. some_if b (Underflow (place_at path i n t))) is)
+    off : (j : ℕ) → (j ≡ i → ⊥) → reads_it j ≡ false
+    off j other = one j ∙ ne_eqb i j (λ h. other (sym h))
+
+    abbrev pub next_out : Readout
+    next_out = with_read 1 (with_slip (slips plan.mode (eqb held 0)) false (arrived_to s path plan n t i))
+
+    next_is : next_out ≡ read_to s path plan n (suc t) i
+    next_is = next-by s i (plan.counts path i) plan.mode n t held frame stores here count
+
+    pub bit_is : (line : ℕ → Bool) → edited next_out.edits line (arrived_to s path plan n t i).read
+        ≡ edited ((carriage_in s path plan i).edits n (suc t)) line ((carriage_in s path plan i).sent n + reads_below s i ((carriage_in s path plan i).more n) t)
+    bit_is line =
+        ap (λ (out : Readout). edited out.edits line (arrived_to s path plan n t i).read) next_is
+        ∙ ap (edited ((carriage_in s path plan i).edits n (suc t)) line) (slip_read (arrives_full s path plan n t i) true (read_to s path plan n t i))
+
+    pub read_set : (j : ℕ) → set_at (arrived_to s path plan n t) i next_out j ≡ read_to s path plan n (suc t) j
+    read_set j = elim (cases_eq j i) [
+      | inl same ↦
+          let P : ℕ → Type 0 = λ v. set_at (arrived_to s path plan n t) i next_out v ≡ read_to s path plan n (suc t) v in
+          subst P (sym same) (set_here (arrived_to s path plan n t) i next_out ∙ next_is)
+      | inr other ↦ set_other (arrived_to s path plan n t) i next_out j other ∙ stays-by s j (plan.counts path j) plan.mode n t stores (off j other)
+    ]
+
+    pub read_free : stops plan.mode (eqb held 0) ≡ false → first_some (reads s path plan n t) ≡ None
+    read_free some = map_none met_by 0 s.tribs (λ j l h. elim (cases_eq j i) [
+      | inl same ↦
+          ap met_by same ∙ ap (λ b. some_if b (Underflow (place_at path i n t))) (under_held s i (plan.counts path i) plan.mode n t held here count ∙ some)
+      | inr other ↦ ap (λ b. some_if b (Underflow (place_at path j n t))) (under_none s j (plan.counts path j) plan.mode n t (off j other))
+    ])
+
+    pub read_stop : stops plan.mode (eqb held 0) ≡ true → first_some (reads s path plan n t) ≡ Some (Underflow (place_at path i n t))
+    read_stop none = map_some met_by (Underflow (place_at path i n t)) 0 s.tribs i (omega arith) (omega (arith, inside))
+        (λ j l h. ap (λ b. some_if b (Underflow (place_at path j n t))) (under_none s j (plan.counts path j) plan.mode n t (off j (λ z. absurd (omega (arith, h, z))))))
+        (ap (λ b. some_if b (Underflow (place_at path i n t))) (under_held s i (plan.counts path i) plan.mode n t held here count ∙ none))
+
+    pub one_told : read_slips s path plan n t ≡ slip_if (slips plan.mode (eqb held 0)) false (place_at path i n t)
+    one_told =
+        flat_one told_by 0 s.tribs i (omega arith) (omega (arith, inside)) (λ j other. ap (λ b. slip_if b false (place_at path j n t)) (under-told s j (plan.counts path j) plan.mode (steps_of path) n t stores ∙ not-under-by s j (plan.counts path j) plan.mode n t (off j other)))
+        ∙ ap (λ b. slip_if b false (place_at path i n t)) (under-told s i (plan.counts path i) plan.mode (steps_of path) n t stores ∙ sym (under-by s i (plan.counts path i) plan.mode n t held frame stores here count))

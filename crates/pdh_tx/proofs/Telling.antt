@@ -1,5 +1,5 @@
 -- What logs were told, one call after another.
-use Rattle.std.proofs.Common.{◌≡◌, ℕ, suc, ◌+◌, ◌-◌, ◌<◌, true, false, List, [], ◌++◌, refl, sym, ap, ◌∙◌, subst, arith, append_assoc, Result, Ok, Err, IfErr}
+use Rattle.std.proofs.Common.{◌≡◌, ℕ, suc, ◌+◌, ◌-◌, ◌<◌, true, false, List, [], ◌++◌, refl, sym, ap, ◌∙◌, subst, arith, length-append, append_assoc, Result, Ok, Err}
 use Rattle.std.specs.Prelude.{flat_map}
 use Rattle.std.specs.List.{range_with_len}
 use Rattle.std.proofs.lemmas.List.{append-nil}
@@ -48,7 +48,11 @@ module _ {G : Type 0} (logs : log.Ghosts G) (is : IsLog logs) where
   all_join a b c xs ys p q = record { logs_them = is.joins a b c xs ys p.logs_them q.logs_them; unfailed = q.unfailed ∙ p.unfailed }
 
   told_join : (a b c : G) (xs ys : List Slip) (stop : TxStop) → logs.logged a xs b → Told logs b c stop ys → Told logs a c stop (xs ++ ys)
-  told_join a b c xs ys LogFailed p q = is.breaks a b c xs ys p q
+  told_join a b c xs ys LogFailed p q = record {
+    takes = q.takes;
+    some = omega (arith, q.some, length-append xs ys);
+    broken = is.breaks a b c xs ys p q.broken;
+  }
   told_join a b c xs ys (Overflow place) p q = is.joins a b c xs ys p q
   told_join a b c xs ys (Underflow place) p q = is.joins a b c xs ys p q
   told_join a b c xs ys (NoFrame node) p q = is.joins a b c xs ys p q
@@ -83,10 +87,10 @@ module _ {G : Type 0} (logs : log.Ghosts G) (is : IsLog logs) where
     counted = none.counted;
   })
 
-  -- by what a call that followed, without a slip, answered
-  pub tells_after : {T : Type 0} (a b : G) (xs : List Slip) (r : Result T TxStop) → IfErr r (λ stop. stop ≡ LogFailed → ⊥) → TellsAll logs a b xs → Tells logs a b xs r
-  tells_after a b xs (Ok value) other p = tells_ok value p
-  tells_after a b xs (Err stop) other p = record { all = tt; front = front_none a b xs stop other p }
+  -- by what a call that followed told it
+  pub tells_join : {T : Type 0} (a b c : G) (xs ys : List Slip) (r : Result T TxStop) → TellsAll logs a b xs → Tells logs b c ys r → Tells logs a c (xs ++ ys) r
+  tells_join a b c xs ys (Ok value) p q = tells_ok value (all_join a b c xs ys p q.all)
+  tells_join a b c xs ys (Err stop) p q = record { all = tt; front = front_join a b c xs ys stop p q.front }
 
 -- slips that weren't come to
 pub front_more : {G : Type 0} (logs : log.Ghosts G) (a b : G) (xs ys zs : List Slip) (stop : TxStop) → zs ≡ xs ++ ys → TellsFront logs a b xs stop → TellsFront logs a b zs stop

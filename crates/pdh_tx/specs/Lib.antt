@@ -2,6 +2,7 @@ pub mod Follows
 pub mod Meaning
 pub mod Leaf
 pub mod Held
+pub mod Slipping
 pub mod Tributary
 pub mod Scratch
 pub mod Node

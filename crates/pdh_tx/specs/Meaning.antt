@@ -27,10 +27,14 @@ pub record Plan : Type 0 where
   pub frames : Path → ℕ
   pub counts : Path → ℕ → ℕ → ℕ
 
--- the frames and counts of a schedule, for a line whose stores slip or don't
+-- the mode of a line whose stores slip or don't
+abbrev pub mode_of : Bool → Mode
+mode_of slips = (if slips then Slipping else Plain)
+
+-- the frames and counts of a schedule, for such a line
 abbrev pub plan_in : Contents → Bool → Plan
 plan_in schedule slips = record {
-  mode = (if slips then Slipping else Plain);
+  mode = mode_of slips;
   frames = λ node. frame_count schedule.rows (steps_of node);
   counts = λ node. counts schedule.rows (steps_of node);
 }

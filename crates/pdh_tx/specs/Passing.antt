@@ -18,9 +18,9 @@ use Rattle.pdh_tx.specs.Making.{IsClear}
 use Rattle.pdh_tx.specs.Meaning.{Plan, Supply, plan_of, Meaning, Agrees}
 use Rattle.pdh_shape.specs.declared.role.Service.{Service}
 use Rattle.pdh_tx.specs.declared.tributary.FrameShare.{FrameShare}
-use Rattle.pdh_tx.specs.Held.{Held, Gains, Halts}
-use Rattle.pdh_tx.specs.Tributary.{placed_in, held_in, meaning_in}
-use Rattle.pdh_tx.specs.Node.{below, source_of, any_leaf, given_by, read_to, EachHeld, came_at, overhead_bit}
+use Rattle.pdh_tx.specs.Held.{Held, unslipped, Gains, Halts}
+use Rattle.pdh_tx.specs.Tributary.{plain_placed_in, plain_held_in, meaning_in}
+use Rattle.pdh_tx.specs.Node.{below, source_of, any_leaf, given_by, read_at, EachHeld, came_at, overhead_bit}
 
 -- numbers of which the first i are others
 abbrev pub up_to : (ℕ → ℕ) → (ℕ → ℕ) → ℕ → ℕ → ℕ
@@ -32,17 +32,17 @@ made_through s plan at = up_to (came_at s at.path plan at.frame at.slot) (came_a
 
 -- and how many are read
 abbrev pub read_through : FrameShape → Plan → Piece → ℕ → ℕ → ℕ
-read_through s plan at = up_to (read_to s at.path plan at.frame at.slot) (read_to s at.path plan at.frame (at.slot + at.len))
+read_through s plan at = up_to (read_at s at.path plan at.frame at.slot) (read_at s at.path plan at.frame (at.slot + at.len))
 
 -- nothing stands in the way of tributary j in a piece
 pub record CanPass (s : FrameShape) (plan : Plan) (at : Piece) (j : ℕ) (m : Meaning) (inputs : Inputs) : Type 0 where
   -- none of its child's bits
   pub clear : IsClear m plan (came_at s at.path plan at.frame at.slot j) (came_at s at.path plan at.frame (at.slot + at.len) j) inputs
   -- the bits that the piece carries are there
-  pub enough : read_to s at.path plan at.frame (at.slot + at.len) j ≤ came_at s at.path plan at.frame (at.slot + at.len) j
+  pub enough : read_at s at.path plan at.frame (at.slot + at.len) j ≤ came_at s at.path plan at.frame (at.slot + at.len) j
   -- and its store holds those that are left over
-  pub few : came_at s at.path plan at.frame at.slot j ≤ read_to s at.path plan at.frame at.slot j + store_size
-      → came_at s at.path plan at.frame (at.slot + at.len) j ≤ read_to s at.path plan at.frame (at.slot + at.len) j + store_size
+  pub few : came_at s at.path plan at.frame at.slot j ≤ read_at s at.path plan at.frame at.slot j + store_size
+      → came_at s at.path plan at.frame (at.slot + at.len) j ≤ read_at s at.path plan at.frame (at.slot + at.len) j + store_size
 
 -- how many slots of a piece of a frame, from slot `first` on, carry a bit of tributary j
 abbrev pub carried_in : FrameShape → ℕ → Bool → ℕ → ℕ → ℕ
@@ -51,7 +51,7 @@ carried_in s j more first len = reads_below s j more (first + len) - reads_below
 -- what a tributary holds, where the next so many of its bits went into the column of a piece of a frame, and this column
 abbrev pub HeldAndFilled : {C : Type 0} → (C → Supply → ℕ → Type 0) → (C → Meaning) → FrameShape → ℕ → Bool → ℕ → ℕ → ℕ → C → List Bool → List Bool → Supply → ℕ → ℕ → Type 0
 HeldAndFilled stands_for meaning s j more first len gone child store column supply made read =
-    Held stands_for meaning child store supply made (read + gone) × FillsColumn s j more first len (map ((meaning child).line supply) (range_with_len read gone)) column
+    Held stands_for meaning child store supply made (unslipped (read + gone)) × FillsColumn s j more first len (map ((meaning child).line supply) (range_with_len read gone)) column
 
 -- the same, of tributary j in a frame in progress, before and after the bits of a piece went into their column
 abbrev pub passed_in : {C : Type 0} → Ghosts C → FrameShape → ℕ → ℕ → ℕ → Tributary C → Tributary C → List Bool → Supply → ℕ → ℕ → Type 0
@@ -63,25 +63,25 @@ passed_in tx s j first len old new =
 pub record PassesFreely {C : Type 0} (tx : Ghosts C) (s : FrameShape) (j first len arriving : ℕ) (w : Tributary C) (schedule : Contents) (inputs : Inputs) : Type 0 where
   pub made : ℕ
   pub read : ℕ
-  pub placed : placed_in tx w (plan_of schedule) made read
+  pub placed : plain_placed_in tx w (plan_of schedule) made read
   pub clear : IsClear (meaning_in tx w) (plan_of schedule) made (made + arriving) inputs
   pub enough : carried_in s j w.share.more first len ≤ length w.store + arriving
   pub few : length w.store ≤ store_size → length w.store + arriving ≤ carried_in s j w.share.more first len + store_size
 
 -- it passed its bits of the piece, which stand in this column
 pub record PassesBits {C : Type 0} (tx : Ghosts C) (s : FrameShape) (j first len arriving : ℕ) (old new : Tributary C) (column : List Bool) (plan : Plan) (made read : ℕ) (before after : Inputs) : Type 0 where
-  pub placed : placed_in tx new plan (made + arriving) (read + carried_in s j old.share.more first len)
-  pub gains : Gains (meaning_in tx old) plan (held_in tx old) (passed_in tx s j first len old new column) made (made + arriving) read before after
+  pub placed : plain_placed_in tx new plan (made + arriving) (read + carried_in s j old.share.more first len)
+  pub gains : Gains (meaning_in tx old) plan (plain_held_in tx old) (passed_in tx s j first len old new column) made (made + arriving) read read before after
 
 -- and the column is as long as the piece wants it
 pub record PassesColumn {C : Type 0} (tx : Ghosts C) (s : FrameShape) (j first len arriving : ℕ) (old new : Tributary C) (column : List Bool) (schedule : Contents) (before after : Inputs) : Type 0 where
-  pub bits : (made read : ℕ) → placed_in tx old (plan_of schedule) made read → PassesBits tx s j first len arriving old new column (plan_of schedule) made read before after
+  pub bits : (made read : ℕ) → plain_placed_in tx old (plan_of schedule) made read → PassesBits tx s j first len arriving old new column (plan_of schedule) made read before after
   pub rows : length column ≡ rows s first len
 
 -- a call failed on its way through the piece
 abbrev pub HaltsPassing : {C : Type 0} → Ghosts C → ℕ → Tributary C → Contents → Inputs → Inputs → Type 0
 HaltsPassing tx arriving w schedule before after =
-    (made read : ℕ) → placed_in tx w (plan_of schedule) made read → Halts (meaning_in tx w) (plan_of schedule) made (made + arriving) Failed before after
+    (made read : ℕ) → plain_placed_in tx w (plan_of schedule) made read → Halts (meaning_in tx w) (plan_of schedule) made (made + arriving) Failed before after
 
 -- the column of tributary j holds the bits of its slots of a piece of frame n
 abbrev pub HoldsBitsOf : FrameShape → Source → ℕ → ℕ → ℕ → List (List Bool) → ℕ → Type 0

@@ -1,6 +1,6 @@
 -- What calls for bits tell a log of slips, in step order. `logs` is what is told of the log's kind, `old` and `new` the log before
 -- and after a call.
-use Rattle.std.specs.Prelude.{◌≡◌, ℕ, List, ◌++◌, Result, OnOk, IfErr}
+use Rattle.std.specs.Prelude.{◌≡◌, ℕ, ◌<◌, true, List, ◌++◌, length, Result, OnOk, IfErr}
 use Rattle.pdh_edge.specs.Counts.{one_more}
 use Rattle.pdh_slips.specs.declared.log.SlipLog as log
 use Rattle.pdh_slips.specs.declared.slip.Slip.{Slip}
@@ -12,9 +12,15 @@ abbrev pub log_faults_met : TxStop → ℕ → ℕ
 log_faults_met LogFailed faults = one_more faults
 log_faults_met stop faults = faults
 
+-- it takes slips, and of some slips, the last of which it couldn't be told, it was told of all others
+pub record FailsAtLast {G : Type 0} (logs : log.Ghosts G) (old new : G) (slips : List Slip) : Type 0 where
+  pub takes : logs.takes ≡ true
+  pub some : 0 < length slips
+  pub broken : logs.broken old slips new
+
 -- it was told of these slips; where a call stopped since the last of them couldn't be told, but for that one
 abbrev pub Told : {G : Type 0} → log.Ghosts G → G → G → TxStop → List Slip → Type 0
-Told logs old new LogFailed slips = logs.broken old slips new
+Told logs old new LogFailed slips = FailsAtLast logs old new slips
 Told logs old new stop slips = logs.logged old slips new
 
 -- a call that stopped told it of the first of these slips

@@ -1,14 +1,16 @@
 -- The tributaries of a node.
-use Rattle.std.specs.Prelude.{◌≡◌, ℕ, suc, ◌+◌, ◌<◌, Bool, List, [], map, slice_get, Option, Some, Result}
+use Rattle.std.specs.Prelude.{◌≡◌, ℕ, suc, ◌+◌, ◌<◌, Bool, false, List, [], map, slice_get, length, ◌==◌, Option, Some, Result}
 use Rattle.std.specs.List.{slice_index_or}
 use Rattle.pdh_bits.specs.BitOut.{BoundedBits}
 use Rattle.pdh_edge.specs.Ports.{Inputs}
 use Rattle.pdh_shape.specs.declared.shape.Shape as shape
 use Rattle.pdh_shape.specs.declared.place.Path.{Path}
+use Rattle.pdh_shape.specs.declared.place.Place.{Place}
 use Rattle.pdh_shape.specs.declared.role.Service.{Service}
 use Rattle.pdh_shape.specs.Tributary.{turned}
 use Rattle.pdh_shape.specs.OwnNumbers.{lead}
-use Rattle.pdh_line.specs.Sending.{Source, slot_bit, odd_before}
+use Rattle.pdh_line.specs.Sending.{Mode, Source, slot_bit, odd_before}
+use Rattle.pdh_line.specs.Edits.{edited}
 use Rattle.pdh_clock.specs.Contents.{Contents}
 use Rattle.pdh_slips.specs.declared.log.SlipLog as log
 use Rattle.pdh_slips.specs.declared.slip.Slip.{Slip}
@@ -18,25 +20,27 @@ use Rattle.pdh_tx.specs.declared.tx.TxStop.TheVariants.{Failed}
 use Rattle.pdh_tx.specs.declared.tributary.FrameShare.{FrameShare}
 use Rattle.pdh_tx.specs.declared.tributaries.Tributaries.{Tributaries}
 use Rattle.pdh_tx.specs.declared.pieces.Piece.{Piece}
-use Rattle.pdh_tx.specs.Meaning.{Plan, Supply, plan_of, Meaning}
-use Rattle.pdh_tx.specs.Held.{first_some}
-use Rattle.pdh_tx.specs.Tributary.{placed_in, held_in, meaning_in, share_in}
-use Rattle.pdh_tx.specs.Node.{below, source_of, line_of, set_at, EachPlaced, EachHeld, IsDecided, Advance, Blocked, Stays, led_to, lead_at, leads, taken_to, came_to, came_at, read_to, beginning, arrival_at, arrivals, reads, lead_slips, leads_slips, beginning_slips, arrival_slips, arrivals_slips}
+use Rattle.pdh_tx.specs.declared.tributary.Tributary.{Tributary}
+use Rattle.pdh_tx.specs.Meaning.{Plan, Supply, plan_of, Meaning, is_failed, faults_met}
+use Rattle.pdh_tx.specs.Held.{first_some, stops, Readout, unslipped}
+use Rattle.pdh_tx.specs.Slipping.{read_to, arrived_to, arriving_to}
+use Rattle.pdh_tx.specs.Tributary.{placed_in, held_in, plain_placed_in, plain_held_in, meaning_in, share_in, after_read, LeavesNone, TellsOwn}
+use Rattle.pdh_tx.specs.Node.{below, source_of, line_of, set_at, EachPlaced, EachHeld, IsDecided, Advance, Blocked, Stays, led_to, lead_at, leads, taken_to, came_to, came_at, beginning, arrival_at, arrivals, reads, lead_slips, leads_slips, beginning_slips, arrival_slips, arrivals_slips, read_slips}
 use Rattle.pdh_tx.specs.Body.{AreFedBelow, IsPieceClear, HaltsInPiece}
 use Rattle.pdh_tx.specs.Stored.{stored_kind, Before, Through, HoldBefore, HoldThrough}
 use Rattle.pdh_tx.specs.Telling.{Tells}
 use Rattle.pdh_tx.specs.Passing.{CanPass, Passes, made_through, read_through, HoldsBits, HoldsBitsOf, HasRows, HasRowsOf}
 
--- Steps of a node that come one after another by a plan, whatever the lists hold in all, how many bits of each tributary are taken
--- and read by them, and the slips in them.
+-- Steps of a node that come one after another by a plan, whatever the lists hold in all, how many bits of each tributary are taken by
+-- them, what is read of each before and after, and the slips in them.
 pub record Stretch : Type 0 where
   pub plan : Plan
   -- taken before and after all of them, and at most where something stands in the way
   pub made : ℕ → ℕ
   pub more : ℕ → ℕ
   pub most : ℕ → ℕ
-  -- read before all of them; they read none
-  pub read : ℕ → ℕ
+  pub read : ℕ → Readout
+  pub left : ℕ → Readout
   pub steps : (ℕ → ℕ) → List (Option TxStop)
   pub slips : List Slip
 
@@ -69,12 +73,12 @@ module _ {S C : Type 0} {shape : shape.Ghosts S} {tx : Ghosts C} where
 
   -- ---- where they stand
 
-  -- each has made and read so many bits
-  abbrev pub HaveMade : Tributaries S C shape tx → Plan → (ℕ → ℕ) → (ℕ → ℕ) → Type 0
+  -- each has made so many bits, and this was read of each
+  abbrev pub HaveMade : Tributaries S C shape tx → Plan → (ℕ → ℕ) → (ℕ → Readout) → Type 0
   HaveMade ts = EachPlaced (placed_in tx) ts.list.items
 
   -- and what each holds is what this supply gives
-  abbrev pub HoldFor : Tributaries S C shape tx → Supply → (ℕ → ℕ) → (ℕ → ℕ) → Type 0
+  abbrev pub HoldFor : Tributaries S C shape tx → Supply → (ℕ → ℕ) → (ℕ → Readout) → Type 0
   HoldFor ts = EachHeld (held_in tx) ts.list.items
 
   -- the decisions of frame n are made
@@ -83,11 +87,11 @@ module _ {S C : Type 0} {shape : shape.Ghosts S} {tx : Ghosts C} where
 
   -- they have made all bits before slot t of frame n; inside a frame its decisions are made, and it is scheduled
   abbrev pub StandBefore : Tributaries S C shape tx → Path → Plan → ℕ → ℕ → Type 0
-  StandBefore ts path plan = Before (placed_in tx) (held_in tx) share_in shape.shape path plan ts.list.items
+  StandBefore ts path plan = Before (placed_in tx) (held_in tx) share_in shape.shape path plan (read_to shape.shape path plan) ts.list.items
 
   -- they have taken what arrives in slot t of frame n
   abbrev pub HaveArrived : Tributaries S C shape tx → Path → Plan → ℕ → ℕ → Type 0
-  HaveArrived ts path plan n t = HaveMade ts plan (came_at shape.shape path plan n (suc t)) (read_to shape.shape path plan n t)
+  HaveArrived ts path plan n t = HaveMade ts plan (came_at shape.shape path plan n (suc t)) (arrived_to shape.shape path plan n t)
 
   -- and the slot's bit is read
   abbrev pub HaveMadeSlot : Tributaries S C shape tx → Path → Plan → ℕ → ℕ → Type 0
@@ -102,7 +106,8 @@ module _ {S C : Type 0} {shape : shape.Ghosts S} {tx : Ghosts C} where
     made = led_to j;
     more = led_to (suc j);
     most = λ j. lead;
-    read = λ j. 0;
+    read = λ j. unslipped 0;
+    left = λ j. unslipped 0;
     steps = λ size. lead_at plan (meanings ts) size j;
     slips = lead_slips plan (meanings ts) j;
   }
@@ -114,7 +119,8 @@ module _ {S C : Type 0} {shape : shape.Ghosts S} {tx : Ghosts C} where
     made = led_to 0;
     more = led_to count;
     most = λ j. lead;
-    read = λ j. 0;
+    read = λ j. unslipped 0;
+    left = λ j. unslipped 0;
     steps = λ size. leads shape.shape plan (meanings ts) size;
     slips = leads_slips shape.shape plan (meanings ts);
   }
@@ -127,6 +133,7 @@ module _ {S C : Type 0} {shape : shape.Ghosts S} {tx : Ghosts C} where
     more = came_to shape.shape path plan n t 0;
     most = came_to shape.shape path plan n t 0;
     read = read_to shape.shape path plan n t;
+    left = read_to shape.shape path plan n t;
     steps = λ size. beginning shape.shape path plan (meanings ts) size n t;
     slips = beginning_slips shape.shape plan (meanings ts) n t;
   }
@@ -138,7 +145,8 @@ module _ {S C : Type 0} {shape : shape.Ghosts S} {tx : Ghosts C} where
     made = came_to shape.shape path plan n t j;
     more = came_to shape.shape path plan n t (suc j);
     most = came_at shape.shape path plan n (suc t);
-    read = read_to shape.shape path plan n t;
+    read = arriving_to shape.shape path plan n t j;
+    left = arriving_to shape.shape path plan n t (suc j);
     steps = λ size. arrival_at shape.shape path plan (meanings ts) size n t j;
     slips = arrival_slips shape.shape path plan (meanings ts) n t j;
   }
@@ -150,7 +158,8 @@ module _ {S C : Type 0} {shape : shape.Ghosts S} {tx : Ghosts C} where
     made = came_to shape.shape path plan n t 0;
     more = came_to shape.shape path plan n t count;
     most = came_at shape.shape path plan n (suc t);
-    read = read_to shape.shape path plan n t;
+    read = arriving_to shape.shape path plan n t 0;
+    left = arriving_to shape.shape path plan n t count;
     steps = λ size. arrivals shape.shape path plan (meanings ts) size n t;
     slips = arrivals_slips shape.shape path plan (meanings ts) n t;
   }
@@ -161,7 +170,7 @@ module _ {S C : Type 0} {shape : shape.Ghosts S} {tx : Ghosts C} where
 
   -- they went through all of it, and nothing stood in the way
   abbrev pub GoThrough : Tributaries S C shape tx → Tributaries S C shape tx → Stretch → Inputs → Inputs → Type 0
-  GoThrough old new stretch = Advance (placed_in tx) (held_in tx) (meanings old) stretch.plan old.list.items new.list.items stretch.made stretch.more stretch.read stretch.steps
+  GoThrough old new stretch = Advance (placed_in tx) (held_in tx) (meanings old) stretch.plan old.list.items new.list.items stretch.made stretch.more stretch.read stretch.left stretch.steps
 
   -- they stopped at the first step in whose way something stood
   abbrev pub StopIn : Tributaries S C shape tx → Stretch → TxStop → Inputs → Inputs → ℕ → ℕ → Type 0
@@ -172,32 +181,59 @@ module _ {S C : Type 0} {shape : shape.Ghosts S} {tx : Ghosts C} where
   -- The bit of slot t of frame n, of which the arrivals are taken: the line's for every supply that these tributaries hold
   -- bits for, where the frame says `say` and `odd` is whether the information and justifiable slots of the frame before hold
   -- an odd number of ones. They hold what it gives thereafter too.
-  abbrev pub GiveBit : Tributaries S C shape tx → Tributaries S C shape tx → Path → ℕ → ℕ → Service → Bool → Bool → Type 0
-  GiveBit old new path n t say odd bit =
-      (supply : Supply) → IsDecided share_in shape.shape path supply.plan n old.list.items → supply.says n ≡ say → odd ≡ odd_before shape.shape (source_in old path supply) n
-      → HoldFor old (below supply) (came_at shape.shape path supply.plan n (suc t)) (read_to shape.shape path supply.plan n t)
+  abbrev pub GiveBit : Tributaries S C shape tx → Tributaries S C shape tx → Path → Mode → ℕ → ℕ → Service → Bool → Bool → Type 0
+  GiveBit old new path mode n t say odd bit =
+      (supply : Supply) → supply.plan.mode ≡ mode → HaveArrived old path supply.plan n t → IsDecided share_in shape.shape path supply.plan n old.list.items → supply.says n ≡ say → odd ≡ odd_before shape.shape (source_in old path supply) n
+      → HoldFor old (below supply) (came_at shape.shape path supply.plan n (suc t)) (arrived_to shape.shape path supply.plan n t)
       → (bit ≡ slot_bit shape.shape (source_in old path supply) n t (shape.shape.role t))
       × HoldFor new (below supply) (came_at shape.shape path supply.plan n (suc t)) (read_to shape.shape path supply.plan n (suc t))
 
-  -- they read the bit of slot t of frame n, or nothing stood in the way of the read
-  abbrev pub ReadSlot : Tributaries S C shape tx → Tributaries S C shape tx → Path → ℕ → ℕ → Type 0
-  ReadSlot old new path n t = (plan : Plan) → IsDecided share_in shape.shape path plan n old.list.items → HaveArrived old path plan n t → HaveMadeSlot new path plan n t
+  -- they read the bit of slot t of frame n
+  abbrev pub ReadSlot : Tributaries S C shape tx → Tributaries S C shape tx → Path → Mode → ℕ → ℕ → Type 0
+  ReadSlot old new path mode n t = (plan : Plan) → plan.mode ≡ mode → IsDecided share_in shape.shape path plan n old.list.items → HaveArrived old path plan n t → HaveMadeSlot new path plan n t
 
   -- this stands first in the way of the read of slot t of frame n, if anything does
-  abbrev pub MeetAtRead : Tributaries S C shape tx → Path → ℕ → ℕ → Option TxStop → Type 0
-  MeetAtRead ts path n t stop = (plan : Plan) → IsDecided share_in shape.shape path plan n ts.list.items → HaveArrived ts path plan n t → first_some (reads shape.shape path plan n t) ≡ stop
+  abbrev pub MeetAtRead : Tributaries S C shape tx → Path → Mode → ℕ → ℕ → Option TxStop → Type 0
+  MeetAtRead ts path mode n t stop = (plan : Plan) → plan.mode ≡ mode → IsDecided share_in shape.shape path plan n ts.list.items → HaveArrived ts path plan n t → first_some (reads shape.shape path plan n t) ≡ stop
+
+  -- the read stopped: no call of a feed failed, and unless a log did this stands first in its way
+  pub record StopAtRead (ts : Tributaries S C shape tx) (path : Path) (mode : Mode) (n t : ℕ) (stop : TxStop) : Type 0 where
+    pub uncounted : (faults : ℕ) → faults_met stop faults ≡ faults
+    pub met : is_failed stop ≡ false → MeetAtRead ts path mode n t (Some stop)
+
+  -- a call told a log of the slips in the read of slot t of frame n
+  abbrev pub TellAtRead : {G T : Type 0} → Tributaries S C shape tx → Path → Mode → ℕ → ℕ → log.Ghosts G → G → G → Result T TxStop → Type 0
+  TellAtRead ts path mode n t logs old new result =
+      (plan : Plan) → plan.mode ≡ mode → IsDecided share_in shape.shape path plan n ts.list.items → HaveArrived ts path plan n t → Tells logs old new (read_slips shape.shape path plan n t) result
 
   -- tributary j gave the next bit of its store, as the line has it
-  abbrev pub GiveNext : Tributaries S C shape tx → Tributaries S C shape tx → ℕ → Bool → Type 0
-  GiveNext old new j bit =
-      (supply : Supply) (made gone : ℕ → ℕ) → HoldFor old supply made gone
-      → (bit ≡ turned (shape.shape.inverted j) (line_of (slice_get (meanings old) j) supply (gone j))) × HoldFor new supply made (set_at gone j (suc (gone j)))
+  pub record GiveNext (old new : Tributaries S C shape tx) (mode : Mode) (j : ℕ) (bit : Bool) : Type 0 where
+    -- it stood among them
+    pub was : Tributary C
+    pub at : slice_get old.list.items j ≡ Some was
+    pub placed : (plan : Plan) (made : ℕ → ℕ) (read : ℕ → Readout) → HaveMade old plan made read → HaveMade new plan made (set_at read j (after_read was mode (read j)))
+    pub bit_is : (supply : Supply) (made : ℕ → ℕ) (read : ℕ → Readout) → HoldFor old supply made read
+        → (bit ≡ turned (shape.shape.inverted j) (edited (after_read was mode (read j)).edits (line_of (slice_get (meanings old) j) supply) (read j).read)) × HoldFor new supply made (set_at read j (after_read was mode (read j)))
+    -- and wasn't empty in plain mode
+    pub some : stops mode (length was.store == 0) ≡ false
+
+  -- it gave none: it was empty in plain mode, or a log failed
+  pub record GiveNone (ts : Tributaries S C shape tx) (mode : Mode) (j : ℕ) (place : Place) (stop : TxStop) : Type 0 where
+    pub was : Tributary C
+    pub at : slice_get ts.list.items j ≡ Some was
+    pub none : LeavesNone was mode place stop
+
+  -- a call told a log of the slip of its store
+  pub record TellNext {G T : Type 0} (ts : Tributaries S C shape tx) (mode : Mode) (j : ℕ) (place : Place) (logs : log.Ghosts G) (old new : G) (result : Result T TxStop) : Type 0 where
+    pub was : Tributary C
+    pub at : slice_get ts.list.items j ≡ Some was
+    pub told : TellsOwn logs old new mode (length was.store == 0) false place result
 
   -- ---- many slots
 
   -- the first i have passed their bits of a piece
   abbrev pub HavePassed : Tributaries S C shape tx → Contents → Piece → ℕ → Type 0
-  HavePassed ts schedule at i = HaveMade ts (plan_of schedule) (made_through shape.shape (plan_of schedule) at i) (read_through shape.shape (plan_of schedule) at i)
+  HavePassed ts schedule at i = EachPlaced (plain_placed_in tx) ts.list.items (plan_of schedule) (made_through shape.shape (plan_of schedule) at i) (read_through shape.shape (plan_of schedule) at i)
 
   -- nothing stands in the way of tributary j in a piece
   abbrev pub IsPassable : Tributaries S C shape tx → Contents → Piece → Inputs → ℕ → Type 0
@@ -206,7 +242,7 @@ module _ {S C : Type 0} {shape : shape.Ghosts S} {tx : Ghosts C} where
   -- those from i up to k passed their bits of a piece, and wrote this
   abbrev pub PassOn : Tributaries S C shape tx → Tributaries S C shape tx → Contents → Piece → ℕ → ℕ → Inputs → Inputs → (Source → Type 0) → Type 0
   PassOn old new schedule at i k =
-      Passes (held_in tx) at.path (meanings old) (plan_of schedule) old.list.items new.list.items (made_through shape.shape (plan_of schedule) at i) (made_through shape.shape (plan_of schedule) at k)
+      Passes (plain_held_in tx) at.path (meanings old) (plan_of schedule) old.list.items new.list.items (made_through shape.shape (plan_of schedule) at i) (made_through shape.shape (plan_of schedule) at k)
       (read_through shape.shape (plan_of schedule) at i) (read_through shape.shape (plan_of schedule) at k)
 
   -- tributary i passed its bits, which stand in its column
@@ -248,12 +284,12 @@ module _ {S C : Type 0} {shape : shape.Ghosts S} {tx : Ghosts C} where
 
   -- they have made the slots of frame n below slot t
   abbrev pub StandThrough : Tributaries S C shape tx → Path → Plan → ℕ → ℕ → Type 0
-  StandThrough ts path plan = Through (placed_in tx) (held_in tx) share_in shape.shape path plan ts.list.items
+  StandThrough ts path plan = Through (placed_in tx) (held_in tx) share_in shape.shape path plan (read_to shape.shape path plan) ts.list.items
 
   -- what they hold before a slot is what this supply gives
   abbrev pub HoldToHere : Tributaries S C shape tx → Path → Plan → Supply → ℕ → ℕ → Type 0
-  HoldToHere ts path plan supply n t = HoldBefore (placed_in tx) (held_in tx) share_in shape.shape path plan ts.list.items n t supply
+  HoldToHere ts path plan supply n t = HoldBefore (placed_in tx) (held_in tx) share_in shape.shape path plan (read_to shape.shape path plan) ts.list.items n t supply
 
   -- and after the slots below it
   abbrev pub HoldToThere : Tributaries S C shape tx → Path → Plan → Supply → ℕ → ℕ → Type 0
-  HoldToThere ts path plan supply n t = HoldThrough (placed_in tx) (held_in tx) share_in shape.shape path plan ts.list.items n t supply
+  HoldToThere ts path plan supply n t = HoldThrough (placed_in tx) (held_in tx) share_in shape.shape path plan (read_to shape.shape path plan) ts.list.items n t supply

@@ -1,5 +1,6 @@
 -- Laws that ghost members cite.
 pub mod Growing
+pub mod Carrying
 pub mod NodeLaws
 pub mod LeafLaws
 pub mod Stepping

@@ -47,7 +47,7 @@ impl<S: Shape, C: Tx> Sender<S, Tributaries<S, C>> {
         requires { trib < S.TRIBS }
         ensures fill { let tx = ⟦<Node<S, C> as Tx>⟧ in (plan : Plan) (x : ℕ) (path : Path) (ms : List Meaning)
             → tx.meaning self.now ≡ node_meaning S.shape path ms → tx.stands_at self.now plan x
-            → IsFill S.shape S.LEN (plan.counts path trib) trib x result }
+            → IsFill plan.mode S.shape S.LEN (plan.counts path trib) trib x result }
         ensures none { (plan : Plan) → ⟦<Node<S, C> as Tx>⟧.stands_at self.now plan 0 → result ≡ 0 }
     {
         self.body.list[trib as usize].store.fill()

@@ -1,53 +1,49 @@
 //! What a slot of a sent frame carries, with a bit out of a store where it reads a tributary.
 
-ghost use Rattle.std.specs.Prelude.{◌≡◌, ◌<◌, ℕ, suc, false, length, slice_get, Some, None, OnOk, IfOk, IfErr};
-ghost use Rattle.pdh_tx.specs.declared.tx.TxStop.TheVariants.{Underflow};
-ghost use Rattle.pdh_tx.specs.Meaning.{Plan, is_failed};
-ghost use Rattle.pdh_tx.specs.Tributary.{store_in};
-ghost use Rattle.pdh_tx.specs.Node.{set_at};
-ghost use Rattle.pdh_tx.specs.Tributaries.{meanings, shares, HaveMade, GiveNext, GiveBit, ReadSlot, MeetAtRead};
+ghost use Rattle.std.specs.Prelude.{◌≡◌, ◌<◌, None, OnOk, IfOk, IfErr};
+ghost use Rattle.pdh_tx.specs.Meaning.{mode_of};
+ghost use Rattle.pdh_tx.specs.Tributaries.{meanings, shares, GiveNext, GiveNone, TellNext, GiveBit, ReadSlot, MeetAtRead, StopAtRead, TellAtRead};
 
 use crate::decisions::{carried, overhead_of};
 use crate::tributaries::Tributaries;
 use crate::tributary::Tributary;
 use crate::{Tx, TxStop};
 use pdh_shape::{Path, Place, Service, Shape};
+use pdh_slips::SlipLog;
 
 impl<S: Shape, C: Tx> Tributaries<S, C> {
     // Takes the bit of a tributary that a slot carries.
-    fn read(&mut self, trib: u8, place: Place) -> Result<bool, TxStop>
+    fn read<G: SlipLog>(&mut self, trib: u8, place: Place, log: &mut G) -> Result<bool, TxStop>
         requires { trib < S.TRIBS }
-        ensures placed { OnOk result ((plan : Plan) (made gone : ℕ → ℕ) → HaveMade self.old plan made gone
-            → HaveMade self.new plan made (set_at gone trib (suc (gone trib)))) }
-        ensures some { OnOk result ((w : _) → slice_get self.old.list.items trib ≡ Some w
-            → 0 < length (store_in w)) }
-        ensures bit { IfOk result (GiveNext self.old self.new trib) }
-        ensures none { IfErr result (λ stop. (stop ≡ Underflow place) × ((w : _) →
-            slice_get self.old.list.items trib ≡ Some w → length (store_in w) ≡ 0)) }
+        ensures bit { IfOk result (GiveNext self.old self.new (mode_of G.takes) trib) }
+        ensures stop { IfErr result (GiveNone self.old (mode_of G.takes) trib place) }
+        ensures told { TellNext self.old (mode_of G.takes) trib place G.SlipLog log.old log.new result }
         ensures same { meanings self.new ≡ meanings self.old }
         ensures shares { shares self.new ≡ shares self.old }
     {
-        match self.list[trib as usize].leave() {
+        match self.list[trib as usize].leave(place, log) {
             Ok(bit) => Ok(bit != S::inverted(trib)),
-            Err(_) => Err(TxStop::Underflow(place)),
+            Err(stop) => Err(stop),
         }
     }
 
     /// The bit of a slot, after what arrives in it. `odd` is whether the information and justifiable
     /// slots of the frame before hold an odd number of ones.
-    pub fn slot_bit(
+    pub fn slot_bit<G: SlipLog>(
         &mut self,
         path: Path,
         frame: u64,
         slot: u32,
         say: &Service,
         odd: bool,
+        log: &mut G,
     ) -> Result<bool, TxStop>
         requires { slot < S.LEN }
-        ensures placed { OnOk result (ReadSlot self.old self.new path frame slot) }
-        ensures free { OnOk result (MeetAtRead self.old path frame slot None) }
-        ensures bit { IfOk result (GiveBit self.old self.new path frame slot say.now odd) }
-        ensures stop { IfErr result (λ stop. (is_failed stop ≡ false) × MeetAtRead self.old path frame slot (Some stop)) }
+        ensures placed { OnOk result (ReadSlot self.old self.new path (mode_of G.takes) frame slot) }
+        ensures free { OnOk result (MeetAtRead self.old path (mode_of G.takes) frame slot None) }
+        ensures bit { IfOk result (GiveBit self.old self.new path (mode_of G.takes) frame slot say.now odd) }
+        ensures stop { IfErr result (StopAtRead self.old path (mode_of G.takes) frame slot) }
+        ensures told { TellAtRead self.old path (mode_of G.takes) frame slot G.SlipLog log.old log.new result }
         ensures same { meanings self.new ≡ meanings self.old }
         ensures shares { shares self.new ≡ shares self.old }
     {
@@ -60,7 +56,7 @@ impl<S: Shape, C: Tx> Tributaries<S, C> {
                     frame,
                     slot,
                 };
-                self.read(trib, place)
+                self.read(trib, place, log)
             }
             None => Ok(overhead_of::<S, Vec<Tributary<C>>>(slot, say, odd, &self.list)),
         }

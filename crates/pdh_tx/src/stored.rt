@@ -45,7 +45,7 @@ impl<S: Shape, C: Tx> Body<S> for Tributaries<S, C> {
     ) -> Result<bool, TxStop> {
         self.begin(path, frame, slot, clock, feed, log)?;
         self.take_arrivals(path, frame, slot, clock, feed, log)?;
-        self.slot_bit(path, frame, slot, say, odd)
+        self.slot_bit(path, frame, slot, say, odd, log)
     }
 
     fn quiet<F: Feed>(
@@ -117,9 +117,9 @@ impl<S: Shape, C: Tx> Body<S> for Tributaries<S, C> {
 
     ghost count = { λ b. stored_count C.Tx.own S.shape b.list.items S.TRIBS S.tribs_is b.count };
 
-    ghost stands_next = { λ b path plan n t n' t'. stored_next (placed_in C.Tx.own) (held_in C.Tx.own) share_in S.shape S.is_frame S.has_tributaries path plan b.list.items (stored_long b.list.items S.shape.tribs S.TRIBS S.tribs_is b.count) n t n' t' };
+    ghost stands_next = { λ b path plan n t n' t'. stored_next (placed_in C.Tx.own) (held_in C.Tx.own) share_in S.shape S.is_frame b.stores S.has_tributaries path plan b.list.items (stored_long b.list.items S.shape.tribs S.TRIBS S.tribs_is b.count) n t n' t' };
 
-    ghost holds_next = { λ b path plan supply n t n' t' follows. stored_holds (placed_in C.Tx.own) (held_in C.Tx.own) share_in S.shape S.is_frame S.has_tributaries path plan b.list.items (stored_long b.list.items S.shape.tribs S.TRIBS S.tribs_is b.count) n t n' t' follows supply };
+    ghost holds_next = { λ b path plan supply n t n' t' follows. stored_holds (placed_in C.Tx.own) (held_in C.Tx.own) share_in S.shape S.is_frame b.stores S.has_tributaries path plan b.list.items (stored_long b.list.items S.shape.tribs S.TRIBS S.tribs_is b.count) n t n' t' follows supply };
 
     ghost grows = { λ b path. node_grows C.Tx.own C.grows S.shape S.is_frame path b.list.items };
 }

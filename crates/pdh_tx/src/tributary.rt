@@ -1,10 +1,13 @@
 //! A tributary of a multiplexer: its child, its elastic store, and its share of the frame.
 
-ghost use Rattle.std.specs.Prelude.{◌≡◌, ◌+◌, ◌<◌, ◌≤◌, ℕ, suc, OnOk, OnErr, IfOk, IfErr, length, nat_le};
+ghost use Rattle.std.specs.Prelude.{◌≡◌, ◌+◌, ◌<◌, ◌≤◌, ◌==◌, [], ◌∷◌, true, false, OnOk, OnErr, IfOk, IfErr, length, nat_le};
 ghost use Rattle.pdh_shape.specs.OwnNumbers.{lead, threshold, store_size};
-ghost use Rattle.pdh_tx.specs.Meaning.{Plan, Supply, plan_in};
+ghost use Rattle.pdh_tx.specs.Meaning.{mode_of, plan_in};
 ghost use Rattle.pdh_tx.specs.Calls.{Draws, DrawsClear, HasRoomFor, HasSameRoom, IsFed};
-ghost use Rattle.pdh_tx.specs.Tributary.{placed_in, held_in, meaning_in, KeepsShare, StandsIn, TakesNext, StopsAtNext, TellsArrival, TakesLead, StopsInLead, TellsLead};
+ghost use Rattle.pdh_tx.specs.Tributary.{plain_placed_in, meaning_in, DropsHalf, HasRoomIn, AddsHalf, LeavesBit, LeavesNone, TellsOwn, KeepsShare, StandsIn, TakesNext, StopsAtNext, TellsArrival, TakesLead, StopsInLead, TellsLead};
+ghost use Rattle.pdh_tx.specs.declared.tx.TxStop.TheVariants.{LogFailed};
+ghost use Rattle.pdh_tx.specs.Telling.{Tells};
+ghost use Rattle.pdh_slips.specs.Logs.{slip_at};
 ghost use Rattle.pdh_tx.specs.Passing.{PassesFreely, PassesColumn, HaltsPassing};
 
 use crate::{Tx, TxStop};
@@ -12,9 +15,9 @@ use pdh_clock::Schedule;
 use pdh_edge::{Failed, Feed};
 use pdh_packed::Packed;
 use pdh_runs::Layout;
-use pdh_shape::{LEAD, Place, Shape};
+use pdh_shape::{LEAD, Place, STORE_SIZE, Shape};
 use pdh_slips::SlipLog;
-use pdh_store::{Store, Underflow};
+use pdh_store::Store;
 
 /// What a frame brings and carries of a tributary.
 #[derive(Clone, Copy, Debug, PartialEq, Eq)]
@@ -36,8 +39,20 @@ pub struct Tributary<C: Tx> {
     pub share: FrameShare,
 }
 
+// Tells a log that takes slips of one.
+fn tell<G: SlipLog>(log: &mut G, over: bool, place: &Place) -> Result<(), TxStop>
+    requires { G.takes ≡ true }
+    ensures stop { IfErr result (λ stop. stop ≡ LogFailed) }
+    ensures told { Tells G.SlipLog log.old log.new (slip_at over place.now ∷ []) result }
+{
+    match log.slip(over, place) {
+        Ok(()) => Ok(()),
+        Err(Failed) => Err(TxStop::LogFailed),
+    }
+}
+
 impl<C: Tx> Tributary<C> {
-    /// Takes the child's next bit into the store.
+    /// Takes the child's next bit into the store. A full store slips first, where the log takes slips.
     #[inline(always)]
     pub fn arrive<F: Feed, G: SlipLog>(
         &mut self,
@@ -52,16 +67,38 @@ impl<C: Tx> Tributary<C> {
             (F.inputs feed.old) (F.inputs feed.new)) }
         ensures err { IfErr result (λ stop. StopsAtNext C.Tx self.old (plan_in clock.now G.takes) place stop
             (F.inputs feed.old) (F.inputs feed.new) (F.feed_faults feed.old) (F.feed_faults feed.new)) }
-        ensures told { TellsArrival C.Tx self.old (plan_in clock.now G.takes) G.SlipLog log.old log.new result }
+        ensures told { TellsArrival C.Tx self.old (plan_in clock.now G.takes) place G.SlipLog log.old log.new result }
         ensures fed { Draws F.Feed feed.old feed.new result }
         ensures kept { KeepsShare C.Tx self.old self.new }
-        ensures store { OnErr result (self.new.store ≡ self.old.store) }
+        ensures store { G.takes ≡ false → OnErr result (self.new.store ≡ self.old.store) }
     {
         let bit = self.child.next(clock, feed, log)?;
+        self.make_room(&place, log)?;
         match self.store.arrive(bit) {
             Ok(()) => Ok(()),
             Err(_) => Err(TxStop::Overflow(place)),
         }
+    }
+
+    // Lets a full store slip before a bit arrives, where the log takes slips: the oldest half of its bits is dropped, and the log
+    // is told.
+    fn make_room<G: SlipLog>(&mut self, place: &Place, log: &mut G) -> Result<(), TxStop>
+        ensures dropped { OnOk result (DropsHalf self.old self.new (mode_of G.takes)) }
+        ensures room { OnOk result (HasRoomIn self.new (mode_of G.takes)) }
+        ensures stop { IfErr result (λ stop. stop ≡ LogFailed) }
+        ensures told { TellsOwn G.SlipLog log.old log.new (mode_of G.takes) (nat_le store_size (length self.old.store)) true place.now result }
+        ensures child { self.new.child ≡ self.old.child }
+        ensures share { self.new.share ≡ self.old.share }
+        ensures store { G.takes ≡ false → self.new.store ≡ self.old.store }
+    {
+        if !log.takes() {
+            return Ok(());
+        }
+        if (self.store.fill() as usize) < STORE_SIZE {
+            return Ok(());
+        }
+        self.store.drop_half();
+        tell(log, true, place)
     }
 
     /// Takes the child's next bits, so many, and puts those that a piece of a frame carries, of so
@@ -112,7 +149,7 @@ impl<C: Tx> Tributary<C> {
         log: &mut G,
     ) -> Result<(), TxStop>
         requires fed { IsFed (meaning_in C.Tx self.old) clock.now (F.inputs feed.old) }
-        requires placed { placed_in C.Tx self.old (plan_in clock.now G.takes) 0 0 }
+        requires placed { plain_placed_in C.Tx self.old (plan_in clock.now G.takes) 0 0 }
         ensures ok { OnOk result (TakesLead C.Tx self.old self.new (plan_in clock.now G.takes)
             (F.inputs feed.old) (F.inputs feed.new)) }
         ensures err { IfErr result (λ stop. StopsInLead C.Tx self.old (plan_in clock.now G.takes) stop
@@ -138,17 +175,38 @@ impl<C: Tx> Tributary<C> {
         self.share = FrameShare { arriving, more };
     }
 
-    /// Takes the oldest bit out of the store.
-    pub fn leave(&mut self) -> Result<bool, Underflow>
-        ensures ok { IfOk result (λ bit. (plan : Plan) (made read : ℕ) → placed_in C.Tx self.old plan made read
-            → placed_in C.Tx self.new plan made (suc read)) }
-        ensures some { OnOk result (0 < length self.old.store) }
-        ensures bit { IfOk result (λ bit. (supply : Supply) (made read : ℕ) → held_in C.Tx self.old supply made read
-            → (bit ≡ (meaning_in C.Tx self.old).line supply read) × held_in C.Tx self.new supply made (suc read)) }
-        ensures none { OnErr result (length self.old.store ≡ 0) }
+    /// Takes the oldest bit out of the store. An empty store slips first, where the log takes slips: ones are put into it, half of
+    /// what it may hold, and the log is told.
+    pub fn leave<G: SlipLog>(&mut self, place: Place, log: &mut G) -> Result<bool, TxStop>
+        ensures bit { IfOk result (LeavesBit C.Tx self.old self.new (mode_of G.takes)) }
+        ensures stop { IfErr result (LeavesNone self.old (mode_of G.takes) place) }
+        ensures told { TellsOwn G.SlipLog log.old log.new (mode_of G.takes) (length self.old.store == 0) false place result }
         ensures child { self.new.child ≡ self.old.child }
         ensures share { self.new.share ≡ self.old.share }
     {
-        self.store.leave()
+        self.make_ones(&place, log)?;
+        match self.store.leave() {
+            Ok(bit) => Ok(bit),
+            Err(_) => Err(TxStop::Underflow(place)),
+        }
+    }
+
+    // Lets an empty store slip before a bit of it is read, where the log takes slips: ones are put in, half of what it may hold, and
+    // the log is told.
+    fn make_ones<G: SlipLog>(&mut self, place: &Place, log: &mut G) -> Result<(), TxStop>
+        ensures ones { OnOk result (AddsHalf self.old self.new (mode_of G.takes)) }
+        ensures stop { IfErr result (λ stop. stop ≡ LogFailed) }
+        ensures told { TellsOwn G.SlipLog log.old log.new (mode_of G.takes) (length self.old.store == 0) false place.now result }
+        ensures child { self.new.child ≡ self.old.child }
+        ensures share { self.new.share ≡ self.old.share }
+    {
+        if !log.takes() {
+            return Ok(());
+        }
+        if self.store.fill() > 0 {
+            return Ok(());
+        }
+        self.store.add_half();
+        tell(log, false, place)
     }
 }

@@ -5,6 +5,7 @@ use Rattle.std.specs.Option.{option_map_or}
 use Rattle.pdh_bits.specs.Bits.{bits_of, bytes_of}
 use Rattle.pdh_shape.specs.declared.place.Place.{Place}
 use Rattle.pdh_line.specs.Least.{least_below}
+use Rattle.pdh_line.specs.Sending.Mode.{Plain}
 use Rattle.pdh_line.specs.Sending.{front}
 use Rattle.pdh_line.specs.Events.{Event, Kind}
 use Rattle.pdh_line.specs.Events.Kind.{Overflow as StoreOverflow, Underflow as StoreUnderflow}
@@ -99,7 +100,7 @@ muxed chain files rows =
 
 -- an event stands in making that bit of the line
 abbrev pub has_event : Chain → List Row → ℕ → Bool
-has_event chain rows bit = is_some (slice_get (events_in (shapes_of chain) (counts rows) [] bit) 0)
+has_event chain rows bit = is_some (slice_get (events_in Plain (shapes_of chain) (counts rows) [] bit) 0)
 
 -- the whole frames of the line before the first bit in whose making an event stands, or all
 unfoldable pub frames_made : Chain → List Row → ℕ
@@ -108,7 +109,7 @@ frames_made chain rows = least_below (line_len chain rows) (has_event chain rows
 -- the line of the leaves' bits; its top's frames are idle, but for a code that is sent over the far end alarm and control
 -- channel, where they have one
 abbrev pub mux_line : Chain → Option ℕ → Files → List Row → ℕ → Bool
-mux_line chain feac files rows = chain_line (shapes_of chain) (counts rows) (λ leaf i. slice_index_or (leaf_bits files leaf) i false) (says_of feac) [] 0
+mux_line chain feac files rows = chain_line Plain (shapes_of chain) (counts rows) (λ leaf i. slice_index_or (leaf_bits files leaf) i false) (says_of feac) [] 0
 
 -- what the line's file holds
 unfoldable pub line_bytes : Chain → Option ℕ → Files → List Row → List ℕ

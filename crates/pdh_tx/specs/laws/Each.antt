@@ -10,7 +10,7 @@ inside (y ∷ xs) zero x e = omega arith
 inside (y ∷ xs) (suc j) x e = let r = inside xs j x e in omega arith
 
 -- the numbers of those that are there are others
-pub each_now : {W : Type 0} (P : W → ℕ → ℕ → Type 0) (ws : List W) (count : ℕ) → length ws ≡ count → (f f' g g' : ℕ → ℕ) → ((j : ℕ) → j < count → f j ≡ f' j) → ((j : ℕ) → j < count → g j ≡ g' j)
+pub each_now : {W R : Type 0} (P : W → ℕ → R → Type 0) (ws : List W) (count : ℕ) → length ws ≡ count → (f f' : ℕ → ℕ) (g g' : ℕ → R) → ((j : ℕ) → j < count → f j ≡ f' j) → ((j : ℕ) → j < count → g j ≡ g' j)
     → ((j : ℕ) (w : W) → slice_get ws j ≡ Some w → P w (f j) (g j)) → (j : ℕ) (w : W) → slice_get ws j ≡ Some w → P w (f' j) (g' j)
 each_now P ws count long f f' g g' first second each j w e =
     let known : j < count = (let i = inside ws j w e in omega arith) in

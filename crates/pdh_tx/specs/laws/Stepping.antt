@@ -5,10 +5,12 @@ use Rattle.std.proofs.lemmas.Bool.{cases_lt, cases_eq, ne_eqb, eq-eqb}
 use Rattle.pdh_shape.specs.Frame.{FrameShape, IsFrame}
 use Rattle.pdh_shape.specs.Tributary.{HasTributaries}
 use Rattle.pdh_shape.specs.declared.place.Path.{Path}
-use Rattle.pdh_line.specs.Sending.{came_before, read_before, taken}
-use Rattle.pdh_line.proofs.SendingLaws.{came_before_grows, came_before-next, read_before-next}
+use Rattle.pdh_line.specs.Sending.{HasStores, came_before, taken}
+use Rattle.pdh_line.proofs.SendingLaws.{came_before_grows, came_before-next}
 use Rattle.pdh_tx.specs.Meaning.{Plan}
-use Rattle.pdh_tx.specs.Node.{taken_to, read_to}
+use Rattle.pdh_tx.specs.Node.{taken_to}
+use Rattle.pdh_tx.specs.Slipping.{read_to}
+use Rattle.pdh_tx.specs.laws.Carrying.{frame-by}
 use Rattle.pdh_tx.specs.Follows.{Follows}
 
 module _ (s : FrameShape) (n t x : ℕ) (place : n * s.len + t ≡ x) (inside : t < s.len) where
@@ -63,16 +65,16 @@ module _ (s : FrameShape) (n t n' t' : ℕ) (follows : Follows s n t n' t') wher
         ∙ sym (taken_later s path plan n' t' j (omega (arith, there.0)) ∙ ap (λ v. came_before s (plan.counts path j) v t') there.0 ∙ ap (came_before s (plan.counts path j) (suc n)) zero)
   ]
 
-  pub read_follows : (path : Path) (plan : Plan) (j : ℕ) → HasTributaries s → j < s.tribs → read_to s path plan n (suc t) j ≡ read_to s path plan n' t' j
-  read_follows path plan j has known = elim (cases_lt 0 t') [
+  pub read_follows : (path : Path) (plan : Plan) (j : ℕ) → HasStores s → HasTributaries s → j < s.tribs → read_to s path plan n (suc t) j ≡ read_to s path plan n' t' j
+  read_follows path plan j stores has known = elim (cases_lt 0 t') [
     | inl some ↦
         let there = follows.within some in
-        sym (ap (λ v. read_before s j (plan.counts path j) v t') there.0 ∙ ap (read_before s j (plan.counts path j) n) there.1)
+        sym (ap (λ v. read_to s path plan v t' j) there.0 ∙ ap (λ u. read_to s path plan n u j) there.1)
     | inr none ↦
         let zero : t' ≡ 0 = omega (arith, none) in
         let there = follows.next zero in
-        ap (read_before s j (plan.counts path j) n) there.1 ∙ read_before-next s j (plan.counts path j) n has known
-        ∙ sym (ap (λ v. read_before s j (plan.counts path j) v t') there.0 ∙ ap (read_before s j (plan.counts path j) (suc n)) zero)
+        ap (λ u. read_to s path plan n u j) there.1 ∙ frame-by s j (plan.counts path j) plan.mode n stores has known
+        ∙ sym (ap (λ v. read_to s path plan v t' j) there.0 ∙ ap (λ u. read_to s path plan (suc n) u j) zero)
   ]
 
 -- what follows each place

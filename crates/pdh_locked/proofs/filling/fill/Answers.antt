@@ -36,7 +36,7 @@ returns-clause-ok g c = record {
       let same : c.carried-carried.result ≡ gone = omega (arith, carried_is s j false first len, c.carried-carried.ensures) in
       let is : queue.bits ≡ bits = ok.appended.grown.bits ∙ ap (λ list. list.bits ++ bits) c.clear.ensures in
       let fills : FillsColumn s j false first len bits column = subst (λ (l : List Bool). FillsColumn s j false first len l column) is c.fill_column.ensures.fills in
-      let P : ℕ → Type 0 = λ k. Gains (g.C.Tx.meaning child) plan (held_in g.C.Tx child) (filled_in g.C.Tx s j first len made child new column) made (made + k) made (g.F.Feed.inputs c.args.feed.now) (g.F.Feed.inputs c.make_clear.new.feed) in
+      let P : ℕ → Type 0 = λ k. Gains (g.C.Tx.meaning child) plan (held_in g.C.Tx child) (filled_in g.C.Tx s j first len made child new column) made (made + k) made made (g.F.Feed.inputs c.args.feed.now) (g.F.Feed.inputs c.make_clear.new.feed) in
       let Q : ℕ → Type 0 = λ k. Stands g.C.Tx new plan (made + k) in
       record {
         placed = subst Q same (record { runs = ok.stopped; idles = ok.kept.same_says ∙ was.idles; place = makes.place });

@@ -1,9 +1,5 @@
-use Rattle.pdh_nesting.proofs.KeyedEvents.{keyed_below-events}
 use Rattle.pdh_nesting.proofs.StepOrder.{first-least, least-first}
 use Rattle.pdh_nesting.proofs.laws.first_event_has_least_list.Goals as goal
-
-pub returns-clause-listed : goal.returns-clause-listed
-returns-clause-listed c chain counts bits = keyed_below-events chain counts bits
 
 pub returns-clause-least : goal.returns-clause-least
 returns-clause-least c chain counts frames event found = first-least chain counts frames event found

@@ -78,7 +78,7 @@ returns-clause-ok g c =
     let f' : ℕ → ℕ = locked_to s n (t + len) in
     let one = next_one g.C.Tx s cs plan n t _ i w len here refl c.requires.placed in
     let new : Supply → ℕ → ℕ → Type 0 = filled_in g.C.Tx s i t len (f i) w w' column in
-    let X : ℕ → Type 0 = λ v. Gains (g.C.Tx.meaning w) plan (held_in g.C.Tx w) new (f i) v (f i) (g.F.Feed.inputs c.args.feed.now) (g.F.Feed.inputs c.fill.new.feed) in
+    let X : ℕ → Type 0 = λ v. Gains (g.C.Tx.meaning w) plan (held_in g.C.Tx w) new (f i) v (f i) (f i) (g.F.Feed.inputs c.args.feed.now) (g.F.Feed.inputs c.fill.new.feed) in
     on_ok_weaker c.fill.result
     (λ ok.
     let now = ok.bits (f i) one.was in
@@ -88,7 +88,7 @@ returns-clause-ok g c =
           (λ supply is both.
           let Y : ℕ → Type 0 = λ v. FillsColumn s i false t len (map ((g.C.Tx.meaning w).line (below supply)) (range_with_len v (carried_in s i false t len))) column in (
             both.0,
-            holds_from s path (map g.C.Tx.meaning cs) plan supply n t len i (carried_in s i false t len) false (g.C.Tx.meaning w) after column is (sym (sends_more-locked s (plan.counts path i) n c.args.self.now.locked)) one.maker own (carried_is s i false t len)
+            holds_from s path (map g.C.Tx.meaning cs) plan supply n t len i (carried_in s i false t len) false (g.C.Tx.meaning w) after column is refl (sym (sends_more-locked s (plan.counts path i) n c.args.self.now.locked)) one.maker own (carried_is s i false t len)
                 (subst Y (sym (read_locked s c.args.self.now.locked (plan.counts path i) n t i)) both.1),
           ));
       rows = ap length own ∙ ok.rows;

@@ -10,8 +10,8 @@ returns-clause-meaning g c =
 
 pub over-requires-clause-placed : goal.over-requires-clause-placed
 over-requires-clause-placed g c plan =
-    opened_before g.C.Tx g.S.Shape.shape g.met.S.Shape.is_frame c.args.path c.args.children.items c.in_ok-open.field-0.list.items c.in_ok-open.ensures.children c.in_ok-open.ensures.empty c.requires.fresh plan
+    opened_before g.C.Tx g.S.Shape.shape c.in_ok-open.field-0.stores c.args.path c.args.children.items c.in_ok-open.field-0.list.items c.in_ok-open.ensures.children c.in_ok-open.ensures.empty c.requires.fresh plan
 
 pub over-requires-clause-held : goal.over-requires-clause-held
 over-requires-clause-held g c supply =
-    opened_holds g.C.Tx g.S.Shape.shape g.met.S.Shape.is_frame c.args.path c.args.children.items c.in_ok-open.field-0.list.items c.in_ok-open.ensures.children c.in_ok-open.ensures.empty c.requires.fresh supply
+    opened_holds g.C.Tx g.S.Shape.shape c.in_ok-open.field-0.stores c.args.path c.args.children.items c.in_ok-open.field-0.list.items c.in_ok-open.ensures.children c.in_ok-open.ensures.empty c.requires.fresh supply

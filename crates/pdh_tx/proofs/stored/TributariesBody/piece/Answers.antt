@@ -4,9 +4,10 @@ use Rattle.std.proofs.lemmas.List.{length-map}
 use Rattle.pdh_bits.specs.BitOut.{BoundedBits}
 use Rattle.pdh_packed.specs.Gaining.{gained}
 use Rattle.pdh_shape.specs.Frame.{FrameShape}
+use Rattle.pdh_line.specs.Sending.Mode.{Plain}
 use Rattle.pdh_runs.specs.Pieces.{rows, Assembled}
 use Rattle.pdh_tx.specs.Meaning.{plan_of, Plan, Meaning}
-use Rattle.pdh_tx.specs.Tributary.{placed_in, held_in, meaning_in, share_in}
+use Rattle.pdh_tx.specs.Tributary.{plain_placed_in, plain_held_in, meaning_in, share_in}
 use Rattle.pdh_tx.specs.Node.{IsShare}
 use Rattle.pdh_tx.specs.Passing.{made_through, read_through, HoldsBits, HasRows, Passes}
 use Rattle.pdh_tx.specs.Tributaries.{meanings, columns, HavePassed}
@@ -16,7 +17,7 @@ use Rattle.pdh_tx.proofs.Telling.{told_all}
 use Rattle.pdh_tx.proofs.Gaining.{on_err_from}
 use Rattle.pdh_tx.proofs.PassingAll.{rows_all}
 use Rattle.pdh_tx.proofs.PieceSteps.{piece_makes}
-use Rattle.pdh_tx.proofs.Begun.{begun_placed, begun_passable, begun_halts, begin_halts, begin_failed}
+use Rattle.pdh_tx.proofs.Begun.{begun_placed, begun_plainly, begun_passable, begun_halts, begin_halts, begin_failed}
 use Rattle.pdh_tx.proofs.stored.TributariesBody.piece.Goals as goal
 
 pub pass_all-requires-clause-decided : goal.pass_all-requires-clause-decided
@@ -66,15 +67,26 @@ returns-in_ok-pass_all-in-Ok-clause-made g c =
     let within : at.slot + at.len ≤ s.len = omega (arith, c.requires.piece.inside, g.met.S.Shape.len_is) in
     let all : g.S.Shape.TRIBS ≡ s.tribs = sym g.met.S.Shape.tribs_is in
     let ms_long : length ms ≡ s.tribs = length-map ts.list.items (meaning_in g.C.Tx) ∙ ts.count ∙ all in
-    let decided_new = transfer_one share_in (λ share j. IsShare s (plan.counts at.path j) at.frame share) mid.list.items new.list.items ok.kept.same_shares c.in-Ok.ensures.decided in
-    let P : List Meaning → ℕ → Type 0 = λ ms k. Passes (held_in g.C.Tx) at.path ms plan mid.list.items new.list.items (made_through s plan at 0) (made_through s plan at k) (read_through s plan at 0) (read_through s plan at k)
+    let decided_new = transfer_one share_in (λ share j. IsShare Plain s j (plan.counts at.path j) at.frame share) mid.list.items new.list.items ok.kept.same_shares c.in-Ok.ensures.decided in
+    let P : List Meaning → ℕ → Type 0 = λ ms k. Passes (plain_held_in g.C.Tx) at.path ms plan mid.list.items new.list.items (made_through s plan at 0) (made_through s plan at k) (read_through s plan at 0) (read_through s plan at k)
     (inputs c.begin.new.feed) (inputs c.pass_all.new.feed) (λ source. HoldsBits s source at.frame at.slot at.len (columns new) k) in
     let A : List Bool → List BoundedBits → Type 0 = λ overhead lists. Assembled s at.slot at.len overhead (map (λ (column : BoundedBits). column.bits) lists) bits in
     let assembled : A overhead.bits new.scratch.columns.items = subst (λ (overhead : BoundedBits). A overhead.bits new.scratch.columns.items) ok.kept.overhead (subst (A new.scratch.overhead.bits) c.deref-in-Ok-2.ensures.value c.assemble.ensures.assembled) in
+    let within : at.slot + at.len ≤ s.len = omega (arith, c.requires.piece.inside, g.met.S.Shape.len_is) in
+    let begun = begun_plainly g.met.S.Shape.is_frame g.met.S.Shape.has_tributaries g.met.S.Shape.tribs_is ts c.args.clock.now at within _ _ mid c.in-Ok.ensures.same c.in-Ok.ensures.ok in
+    let makes = piece_makes (plain_placed_in g.C.Tx) (plain_held_in g.C.Tx) (meaning_in g.C.Tx) share_in s g.met.S.Shape.has_tributaries at.path plan at.frame at.slot (at.slot + at.len) ms ts.list.items mid.list.items new.list.items c.args.say.now c.args.odd at.len overhead.bits bits (columns new) _ _ _ _
+    ms_long (mid.count ∙ all) (new.count ∙ all) c.assemble.ensures.grown.count within c.in-Ok.ensures.decided decided_new c.in-Ok.ensures.scheduled c.in-Ok.ensures.bounded c.write_overhead.ensures.bits assembled begun
+    (subst (λ (k : ℕ). HavePassed new c.args.clock.now at k) all ok.ok.placed) (subst (P ms) all (subst (λ (ms : List Meaning). P ms g.S.Shape.TRIBS) c.in-Ok.ensures.same ok.ok.passes)) in
     record {
-      gives = piece_makes (placed_in g.C.Tx) (held_in g.C.Tx) (meaning_in g.C.Tx) share_in s g.met.S.Shape.has_tributaries at.path plan at.frame at.slot (at.slot + at.len) ms ts.list.items mid.list.items new.list.items c.args.say.now c.args.odd at.len overhead.bits bits (columns new) _ _ _ _
-          ms_long (mid.count ∙ all) (new.count ∙ all) c.assemble.ensures.grown.count within c.in-Ok.ensures.decided decided_new c.in-Ok.ensures.scheduled c.in-Ok.ensures.bounded c.write_overhead.ensures.bits assembled c.in-Ok.ensures.ok
-          (subst (λ (k : ℕ). HavePassed new c.args.clock.now at k) all ok.ok.placed) (subst (P ms) all (subst (λ (ms : List Meaning). P ms g.S.Shape.TRIBS) c.in-Ok.ensures.same ok.ok.passes));
+      gives = record {
+        given = makes.given;
+        takes = makes.takes;
+        others = makes.others;
+        exact = makes.exact;
+        place = record { made = makes.place.made; decided = makes.place.decided; scheduled = makes.place.scheduled; bounded = makes.place.bounded };
+        bounded = makes.bounded;
+        onward = makes.onward;
+      };
       odd_is = c.assemble.ensures.odd;
     }
 

@@ -4,9 +4,10 @@ use Rattle.std.proofs.lemmas.List.{length-map}
 use Rattle.std.proofs.lemmas.Bool.{ne_eqb}
 use Rattle.pdh_shape.specs.Frame.{FrameShape}
 use Rattle.pdh_tx.specs.Meaning.{plan_in, Plan, Supply, Meaning}
-use Rattle.pdh_tx.specs.Held.{first_some}
+use Rattle.pdh_tx.specs.Held.{first_some, Readout}
 use Rattle.pdh_tx.specs.Tributary.{placed_in, held_in, meaning_in}
-use Rattle.pdh_tx.specs.Node.{Advance, Blocked, beginning, leads_slips, beginning_slips, taken_to, came_to, read_to}
+use Rattle.pdh_tx.specs.Node.{Advance, Blocked, beginning, leads_slips, beginning_slips, taken_to, came_to}
+use Rattle.pdh_tx.specs.Slipping.{read_to}
 use Rattle.pdh_tx.proofs.Advancing.{advance_none}
 use Rattle.pdh_tx.proofs.Telling.{tells_ok, tells_same, all_none}
 use Rattle.pdh_tx.proofs.FrameStarts.{advance_change, begun_later, steps_inside}
@@ -16,12 +17,12 @@ pub returns-then-slot-gt0-clause-ok : goal.returns-then-slot-gt0-clause-ok
 returns-then-slot-gt0-clause-ok g c =
     let s : FrameShape = g.S.Shape.shape in
     let plan : Plan = plan_in c.args.clock.now g.G.SlipLog.takes in
-    let placed : _ → Plan → ℕ → ℕ → Type 0 = placed_in g.C.Tx in
-    let held : _ → Supply → ℕ → ℕ → Type 0 = held_in g.C.Tx in
+    let placed : _ → Plan → ℕ → Readout → Type 0 = placed_in g.C.Tx in
+    let held : _ → Supply → ℕ → Readout → Type 0 = held_in g.C.Tx in
     let meaning = meaning_in g.C.Tx in
     let ms : List Meaning = map meaning c.args.self.now.list.items in
-    advance_change placed held meaning plan ms _ c.args.self.now.list.items _ _ _ _ _ _ (λ size. []) _ _ _ (length-map c.args.self.now.list.items meaning)
-    (λ j. refl) (λ j h. begun_later placed held meaning plan s c.args.path c.args.frame c.args.slot j (omega (arith, c.if-slot-gt0.true))) (λ j. refl)
+    advance_change placed held meaning plan ms _ c.args.self.now.list.items _ _ _ _ _ _ _ _ (λ size. []) _ _ _ (length-map c.args.self.now.list.items meaning)
+    (λ j. refl) (λ j h. begun_later placed held meaning plan s c.args.path c.args.frame c.args.slot j (omega (arith, c.if-slot-gt0.true))) (λ j. refl) (λ j h. refl)
     (λ size e. ap first_some (steps_inside placed held meaning plan s c.args.path ms size c.args.frame c.args.slot c.if-slot-gt0.true))
     (advance_none placed held meaning plan ms _ (taken_to s c.args.path plan c.args.frame c.args.slot) _ _ c.requires.placed.made)
 
@@ -30,7 +31,7 @@ begin_frame-requires-clause-placed g c j w e =
     let s : FrameShape = g.S.Shape.shape in
     let plan : Plan = plan_in c.args.clock.now g.G.SlipLog.takes in
     let zero : c.args.slot ≡ 0 = (let h = c.if-slot-gt0.false in omega arith) in
-    let placed : _ → Plan → ℕ → ℕ → Type 0 = placed_in g.C.Tx in
+    let placed : _ → Plan → ℕ → Readout → Type 0 = placed_in g.C.Tx in
     let P : ℕ → Type 0 = λ t. placed w plan (taken_to s c.args.path plan c.args.frame t j) (read_to s c.args.path plan c.args.frame t j) in
     subst P zero (c.requires.placed.made j w e)
 
@@ -39,10 +40,10 @@ returns-clause-ok g c =
     let s : FrameShape = g.S.Shape.shape in
     let plan : Plan = plan_in c.args.clock.now g.G.SlipLog.takes in
     let zero : c.args.slot ≡ 0 = (let h = c.if-slot-gt0.false in omega arith) in
-    let placed : _ → Plan → ℕ → ℕ → Type 0 = placed_in g.C.Tx in
-    let held : _ → Supply → ℕ → ℕ → Type 0 = held_in g.C.Tx in
+    let placed : _ → Plan → ℕ → Readout → Type 0 = placed_in g.C.Tx in
+    let held : _ → Supply → ℕ → Readout → Type 0 = held_in g.C.Tx in
     let ms : List Meaning = map (meaning_in g.C.Tx) c.args.self.now.list.items in
-    let P : ℕ → Type 0 = λ t. Advance placed held ms plan c.args.self.now.list.items c.begin_frame.new.self.list.items (taken_to s c.args.path plan c.args.frame t) (came_to s c.args.path plan c.args.frame t 0) (read_to s c.args.path plan c.args.frame t)
+    let P : ℕ → Type 0 = λ t. Advance placed held ms plan c.args.self.now.list.items c.begin_frame.new.self.list.items (taken_to s c.args.path plan c.args.frame t) (came_to s c.args.path plan c.args.frame t 0) (read_to s c.args.path plan c.args.frame t) (read_to s c.args.path plan c.args.frame t)
     (λ size. beginning s c.args.path plan ms size c.args.frame t) (g.F.Feed.inputs c.args.feed.now) (g.F.Feed.inputs c.begin_frame.new.feed) in
     on_ok_weaker c.begin_frame.result (λ advance. subst P (sym zero) advance) c.begin_frame.ensures.ok
 

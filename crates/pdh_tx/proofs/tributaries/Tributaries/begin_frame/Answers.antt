@@ -1,13 +1,15 @@
-use Rattle.std.proofs.Common.{rules, ◌≡◌, ◌<◌, ◌≤◌, ℕ, length, map, refl, sym, ap, ◌∙◌, arith, Err}
+use Rattle.std.proofs.Common.{rules, ◌≡◌, ◌<◌, ◌≤◌, ℕ, length, map, refl, sym, ap, ◌∙◌, subst, arith, Err}
 use Rattle.std.proofs.lemmas.List.{length-map}
 use Rattle.pdh_shape.specs.Frame.{FrameShape}
 use Rattle.pdh_tx.specs.Meaning.{plan_in, Plan}
 use Rattle.pdh_tx.specs.Held.{Placed, Held}
 use Rattle.pdh_tx.specs.Tributary.{placed_in, held_in, meaning_in, child_in, store_in}
-use Rattle.pdh_tx.specs.Node.{came_to, read_to}
+use Rattle.pdh_tx.specs.Node.{came_to}
+use Rattle.pdh_tx.specs.Slipping.{read_to}
+use Rattle.pdh_tx.proofs.Readouts.{IsCount, more-by}
 use Rattle.pdh_tx.proofs.Lists.{transfer}
 use Rattle.pdh_tx.proofs.Moving.{inside}
-use Rattle.pdh_tx.proofs.FrameStarts.{decision, started, meanings, blocked_none}
+use Rattle.pdh_tx.proofs.FrameStarts.{started, meanings, blocked_none}
 use Rattle.pdh_tx.proofs.Telling.{tells_err, front_first}
 use Rattle.pdh_tx.specs.declared.tx.TxStop.TheVariants.{NoFrame}
 use Rattle.pdh_tx.proofs.tributaries.Tributaries.begin_frame.Goals as goal
@@ -28,8 +30,8 @@ returns-clause-decided g c j w e =
       arriving = c.decide_all.ensures.arriving j w e;
       fits = omega (arith, fits, g.met.S.Shape.len_is);
       more = c.decide_all.ensures.more j w e
-          ∙ decision s (plan.counts c.args.path j) n j (length (store_in w)) c.args.self.now.stores g.met.S.Shape.is_frame
-          (count ∙ started (placed_in g.C.Tx) (held_in g.C.Tx) (meaning_in g.C.Tx) plan s c.args.path n 0 j);
+          ∙ more-by s j (plan.counts c.args.path j) plan.mode n (length (store_in w)) g.met.S.Shape.is_frame c.args.self.now.stores
+          (subst (IsCount s j (plan.counts c.args.path j) (read_to s c.args.path plan n 0 j) (length (store_in w))) (started (placed_in g.C.Tx) (held_in g.C.Tx) (meaning_in g.C.Tx) plan s c.args.path n 0 j) count);
     }
 
 pub returns-clause-ok : goal.returns-clause-ok

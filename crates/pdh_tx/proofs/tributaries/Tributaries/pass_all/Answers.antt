@@ -1,9 +1,10 @@
 use Rattle.std.proofs.Common.{◌≡◌, ◌+◌, ℕ, suc, Bool, List, refl, sym, ap, ◌∙◌, subst, arith, slice_get}
 use Rattle.pdh_shape.specs.Frame.{FrameShape}
 use Rattle.pdh_line.specs.Sending.{Source}
+use Rattle.pdh_line.specs.Sending.Mode.{Plain}
 use Rattle.pdh_tx.specs.declared.tx.TxStop.TheVariants.{Failed}
 use Rattle.pdh_tx.specs.Meaning.{plan_of, Plan, Meaning}
-use Rattle.pdh_tx.specs.Tributary.{placed_in, held_in, meaning_in, share_in}
+use Rattle.pdh_tx.specs.Tributary.{plain_placed_in, plain_held_in, meaning_in, share_in}
 use Rattle.pdh_tx.specs.Node.{source_of, IsShare, Stays, came_at}
 use Rattle.pdh_tx.specs.Passing.{made_through, read_through, HoldsBits, HoldsBitsOf, HasRows, Passes}
 use Rattle.pdh_tx.specs.Tributaries.{meanings, columns, HavePassed, PassOn, PassAll}
@@ -16,7 +17,7 @@ use Rattle.pdh_tx.proofs.tributaries.Tributaries.pass_all.Goals as goal
 pub loop-trib-init : goal.loop-trib-init
 loop-trib-init g c = record {
   placed = c.requires.placed;
-  passes = passes_none (placed_in g.C.Tx) (held_in g.C.Tx) (meaning_in g.C.Tx) c.args.at.path (plan_of c.args.clock.now) _ _ _ _ _
+  passes = passes_none (plain_placed_in g.C.Tx) (plain_held_in g.C.Tx) (meaning_in g.C.Tx) c.args.at.path (plan_of c.args.clock.now) _ _ _ _ _
       (λ (source : Source). HoldsBits g.S.Shape.shape source c.args.at.frame c.args.at.slot c.args.at.len (columns c.args.self.now) 0) (λ source j less. absurd (omega arith));
   rows = λ j less. absurd (omega arith);
   unfailed = refl;
@@ -28,7 +29,7 @@ loop-trib-init g c = record {
 
 pub pass_one-requires-clause-decided : goal.pass_one-requires-clause-decided
 pass_one-requires-clause-decided g c =
-    transfer_one share_in (λ share j. IsShare g.S.Shape.shape ((plan_of c.args.clock.now).counts c.args.at.path j) c.args.at.frame share) c.args.self.now.list.items c.loop-trib.self.list.items c.loop-trib.invariant.shares c.requires.decided
+    transfer_one share_in (λ share j. IsShare Plain g.S.Shape.shape j ((plan_of c.args.clock.now).counts c.args.at.path j) c.args.at.frame share) c.args.self.now.list.items c.loop-trib.self.list.items c.loop-trib.invariant.shares c.requires.decided
 
 pub pass_one-requires-clause-fed : goal.pass_one-requires-clause-fed
 pass_one-requires-clause-fed g c =
@@ -40,7 +41,7 @@ pass_one-requires-clause-clear g c m here =
     let i : ℕ = c.loop-trib.trib in
     let inv = c.loop-trib.invariant in
     let maker = ap (λ ms. slice_get ms i) (sym inv.same) ∙ here in
-    passable_kept (held_in g.C.Tx) g.S.Shape.shape (plan_of c.args.clock.now) c.args.at (meanings c.args.self.now) _ _ _ _ _ _ _ i i m c.args.self.now.disjoint (omega arith) maker inv.passes (c.requires.clear i m maker)
+    passable_kept (plain_held_in g.C.Tx) g.S.Shape.shape (plan_of c.args.clock.now) c.args.at (meanings c.args.self.now) _ _ _ _ _ _ _ i i m c.args.self.now.disjoint (omega arith) maker inv.passes (c.requires.clear i m maker)
 
 pub returns-in_err-pass_one-clause-halts : goal.returns-in_err-pass_one-clause-halts
 returns-in_err-pass_one-clause-halts g c =
@@ -49,7 +50,7 @@ returns-in_err-pass_one-clause-halts g c =
     let inv = c.loop-trib.invariant in
     let P : List Meaning → Type 0 = λ ms. Stays ms plan (made_through g.S.Shape.shape plan at c.loop-trib.trib) (came_at g.S.Shape.shape at.path plan at.frame (at.slot + at.len)) Failed (g.F.Feed.inputs c.loop-trib.feed) (g.F.Feed.inputs c.pass_one.new.feed) in
     on_err_from c.from_residual.result
-    (stays_after (held_in g.C.Tx) at.path plan _ _ _ _ _ _ _ _ _ _ _ _ _ inv.passes (subst P inv.same c.in_err-pass_one.ensures.halts))
+    (stays_after (plain_held_in g.C.Tx) at.path plan _ _ _ _ _ _ _ _ _ _ _ _ _ inv.passes (subst P inv.same c.in_err-pass_one.ensures.halts))
 
 pub loop-trib-preserved : goal.loop-trib-preserved
 loop-trib-preserved g c =
@@ -64,12 +65,12 @@ loop-trib-preserved g c =
     let old : List (List Bool) = columns c.loop-trib.self in
     let new : List (List Bool) = columns after in
     let inputs = g.F.Feed.inputs in
-    let P : List Meaning → Type 0 = λ ms. Passes (held_in g.C.Tx) at.path ms plan c.loop-trib.self.list.items after.list.items (made_through s plan at i) (made_through s plan at (suc i)) (read_through s plan at i) (read_through s plan at (suc i))
+    let P : List Meaning → Type 0 = λ ms. Passes (plain_held_in g.C.Tx) at.path ms plan c.loop-trib.self.list.items after.list.items (made_through s plan at i) (made_through s plan at (suc i)) (read_through s plan at i) (read_through s plan at (suc i))
     (inputs c.loop-trib.feed) (inputs c.pass_one.new.feed) (λ source. HoldsBitsOf s source at.frame at.slot at.len new i) in
     let Q : ℕ → Type 0 = λ k. PassOn c.args.self.now after c.args.clock.now at 0 k (inputs c.args.feed.now) (inputs c.pass_one.new.feed) (λ source. HoldsBits s source at.frame at.slot at.len new k) in
     record {
       placed = subst (λ (k : ℕ). HavePassed after c.args.clock.now at k) e ok.ok.placed;
-      passes = subst Q e (passes_join (placed_in g.C.Tx) (held_in g.C.Tx) (meaning_in g.C.Tx) at.path plan (meanings c.args.self.now) _ _ _ _ _ _ _ _ _ _ _ _
+      passes = subst Q e (passes_join (plain_placed_in g.C.Tx) (plain_held_in g.C.Tx) (meaning_in g.C.Tx) at.path plan (meanings c.args.self.now) _ _ _ _ _ _ _ _ _ _ _ _
           (λ source. HoldsBits s source at.frame at.slot at.len old i) (λ source. HoldsBitsOf s source at.frame at.slot at.len new i) (λ source. HoldsBits s source at.frame at.slot at.len new (suc i))
           (λ supply is was now. holds_more s (source_of at.path (meanings c.args.self.now) supply) at.frame at.slot at.len i old new ok.kept.earlier was now) inv.passes (subst P inv.same ok.ok.passes));
       rows = subst (λ (k : ℕ). HasRows s at.slot at.len new k) e (rows_more s at.slot at.len i old new ok.kept.earlier inv.rows ok.ok.rows);

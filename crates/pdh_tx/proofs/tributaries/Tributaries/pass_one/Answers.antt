@@ -10,8 +10,8 @@ use Rattle.pdh_tx.specs.declared.tx.TxStop.TheVariants.{Failed}
 use Rattle.pdh_tx.specs.Meaning.{plan_of, Plan, Supply, Meaning}
 use Rattle.pdh_tx.specs.Held.{Gains, Halts}
 use Rattle.pdh_tx.specs.Making.{IsClear}
-use Rattle.pdh_tx.specs.Tributary.{placed_in, held_in, meaning_in, share_in}
-use Rattle.pdh_tx.specs.Node.{IsDisjoint, below, read_to, came_at}
+use Rattle.pdh_tx.specs.Tributary.{plain_placed_in, plain_held_in, meaning_in, share_in}
+use Rattle.pdh_tx.specs.Node.{IsDisjoint, below, read_at, came_at}
 use Rattle.pdh_tx.specs.Passing.{carried_in, passed_in, made_through, HoldsBitsOf}
 use Rattle.pdh_tx.specs.laws.Growing.{given_more}
 use Rattle.pdh_tx.proofs.Feeding.{fed_one}
@@ -47,7 +47,7 @@ pass-requires-clause-clear g c =
     let K : ℕ → Type 0 = λ k. IsClear (meaning_in g.C.Tx c.index_mut-tributary.result.now) plan f k (g.F.Feed.inputs c.args.feed.now) in
     record {
       made = f;
-      read = read_to g.S.Shape.shape c.args.at.path plan c.args.at.frame c.args.at.slot c.args.trib;
+      read = read_at g.S.Shape.shape c.args.at.path plan c.args.at.frame c.args.at.slot c.args.trib;
       placed = one.was;
       clear = subst K (sym one.came) can.clear;
       enough = omega (arith, can.enough, one.was.count, one.came, one.left);
@@ -68,27 +68,27 @@ returns-clause-ok g c =
     let u : ℕ = at.slot + at.len in
     let f : ℕ → ℕ = came_at s at.path plan at.frame at.slot in
     let f' : ℕ → ℕ = came_at s at.path plan at.frame u in
-    let h : ℕ → ℕ = read_to s at.path plan at.frame at.slot in
-    let h' : ℕ → ℕ = read_to s at.path plan at.frame u in
+    let h : ℕ → ℕ = read_at s at.path plan at.frame at.slot in
+    let h' : ℕ → ℕ = read_at s at.path plan at.frame u in
     let column = c.pass.new.column in
     let after : List (List Bool) = map (λ (column : BoundedBits). column.bits) (slice_set c.args.self.now.scratch.columns.items i column) in
     let own = column_same c.args.self.now.scratch.columns.items i column (omega (arith, c.requires.trib, c.args.self.now.room.count)) in
     let gone : ℕ = carried_in s i w.share.more at.slot at.len in
     let new : Supply → ℕ → ℕ → Type 0 = passed_in g.C.Tx s i at.slot at.len w w' column.bits in
-    let X : ℕ → Type 0 = λ v. placed_in g.C.Tx w' plan v (h i + gone) in
-    let Y : ℕ → Type 0 = λ v. placed_in g.C.Tx w' plan (f' i) v in
-    let Z : ℕ → Type 0 = λ v. Gains (meaning_in g.C.Tx w) plan (held_in g.C.Tx w) new (f i) v (h i) (g.F.Feed.inputs c.args.feed.now) (g.F.Feed.inputs c.pass.new.feed) in
+    let X : ℕ → Type 0 = λ v. plain_placed_in g.C.Tx w' plan v (h i + gone) in
+    let Y : ℕ → Type 0 = λ v. plain_placed_in g.C.Tx w' plan (f' i) v in
+    let Z : ℕ → Type 0 = λ v. Gains (meaning_in g.C.Tx w) plan (plain_held_in g.C.Tx w) new (f i) v (h i) (h i) (g.F.Feed.inputs c.args.feed.now) (g.F.Feed.inputs c.pass.new.feed) in
     let same : meaning_in g.C.Tx w' ≡ meaning_in g.C.Tx w = c.pass.ensures.kept.same in
     on_ok_weaker c.pass.result
     (λ ok.
     let now = ok.bits (f i) (h i) one.was in
     record {
-      placed = placed_one (placed_in g.C.Tx) (held_in g.C.Tx) (meaning_in g.C.Tx) at.path plan ws i w' f f' h h' c.requires.placed (subst Y one.left (subst X one.came now.placed));
-      passes = passes_one (placed_in g.C.Tx) (held_in g.C.Tx) (meaning_in g.C.Tx) at.path plan ws i w w' f f' h h' new (λ source. HoldsBitsOf s source at.frame at.slot at.len after i) _ _ c.args.self.now.disjoint here (subst Z one.came now.gains)
+      placed = placed_one (plain_placed_in g.C.Tx) (plain_held_in g.C.Tx) (meaning_in g.C.Tx) at.path plan ws i w' f f' h h' c.requires.placed (subst Y one.left (subst X one.came now.placed));
+      passes = passes_one (plain_placed_in g.C.Tx) (plain_held_in g.C.Tx) (meaning_in g.C.Tx) at.path plan ws i w w' f f' h h' new (λ source. HoldsBitsOf s source at.frame at.slot at.len after i) _ _ c.args.self.now.disjoint here (subst Z one.came now.gains)
           (λ supply is both.
-          let V : ℕ → Type 0 = λ v. held_in g.C.Tx w' (below supply) (f' i) v in (
+          let V : ℕ → Type 0 = λ v. plain_held_in g.C.Tx w' (below supply) (f' i) v in (
             subst V one.left both.0,
-            holds_from s at.path (map (meaning_in g.C.Tx) ws) plan supply at.frame at.slot at.len i gone w.share.more (meaning_in g.C.Tx w') after column.bits is one.share.more (one.maker ∙ ap Some (sym same)) own (carried_is s i w.share.more at.slot at.len) both.1,
+            holds_from s at.path (map (meaning_in g.C.Tx) ws) plan supply at.frame at.slot at.len i gone w.share.more (meaning_in g.C.Tx w') after column.bits is refl one.share.more (one.maker ∙ ap Some (sym same)) own (carried_is s i w.share.more at.slot at.len) both.1,
           ));
       rows = ap length own ∙ ok.rows;
     })
@@ -111,9 +111,9 @@ returns-clause-halts g c =
     let X : ℕ → Type 0 = λ v. Halts m plan (f i) v Failed (g.F.Feed.inputs c.args.feed.now) (g.F.Feed.inputs c.pass.new.feed) in
     let Y : ℕ → Type 0 = λ v. Halts m plan v (f' i) Failed (g.F.Feed.inputs c.args.feed.now) (g.F.Feed.inputs c.pass.new.feed) in
     on_err_weaker c.pass.result
-    (λ halts. stays_one (held_in g.C.Tx) (meaning_in g.C.Tx) plan (map (meaning_in g.C.Tx) ws) i m (made_through s plan at i) f' Failed _ _ c.args.self.now.disjoint one.maker
+    (λ halts. stays_one (plain_held_in g.C.Tx) (meaning_in g.C.Tx) plan (map (meaning_in g.C.Tx) ws) i m (made_through s plan at i) f' Failed _ _ c.args.self.now.disjoint one.maker
     (λ k leaf. given_more (meaning_in g.C.Tx) plan ws (made_through s plan at i) f' k (λ v n k. g.met.C.Tx.grows v.child plan n k) (λ j. upto_most f f' i j (came_grows s (plan.counts at.path j) at.frame at.slot u g.met.S.Shape.is_frame (omega arith))))
-    (subst Y (sym (upto_here f f' i)) (subst X one.came (halts (f i) (read_to s at.path plan at.frame at.slot i) one.was))))
+    (subst Y (sym (upto_here f f' i)) (subst X one.came (halts (f i) (read_at s at.path plan at.frame at.slot i) one.was))))
     c.pass.ensures.halts
 
 pub returns-clause-kept : goal.returns-clause-kept

@@ -5,6 +5,7 @@ use Rattle.std.proofs.lemmas.List.{length-map}
 use Rattle.pdh_shape.specs.Frame.{FrameShape}
 use Rattle.pdh_shape.specs.OwnNumbers.{lead}
 use Rattle.pdh_tx.specs.Meaning.{plan_in, Plan, Supply, Meaning}
+use Rattle.pdh_tx.specs.Held.{Readout, unslipped}
 use Rattle.pdh_tx.specs.Tributary.{placed_in, held_in, meaning_in}
 use Rattle.pdh_tx.specs.Node.{taken_to, leads_slips, beginning_slips}
 use Rattle.pdh_tx.proofs.Advancing.{advance_none}
@@ -16,31 +17,31 @@ pub returns-then-frame-gt0-clause-ok : goal.returns-then-frame-gt0-clause-ok
 returns-then-frame-gt0-clause-ok g c =
     let s : FrameShape = g.S.Shape.shape in
     let plan : Plan = plan_in c.args.clock.now g.G.SlipLog.takes in
-    let placed : _ → Plan → ℕ → ℕ → Type 0 = placed_in g.C.Tx in
-    let held : _ → Supply → ℕ → ℕ → Type 0 = held_in g.C.Tx in
+    let placed : _ → Plan → ℕ → Readout → Type 0 = placed_in g.C.Tx in
+    let held : _ → Supply → ℕ → Readout → Type 0 = held_in g.C.Tx in
     let meaning = meaning_in g.C.Tx in
     let ms : List Meaning = map meaning c.args.self.now.list.items in
-    advance_change placed held meaning plan ms _ c.args.self.now.list.items _ _ _ _ _ _ (λ size. []) _ _ _ (length-map c.args.self.now.list.items meaning)
-    (λ j. refl) (λ j h. begun_later placed held meaning plan s c.args.path c.args.frame 0 j (omega (arith, c.if-frame-gt0.true))) (λ j. refl) (λ size e. steps_later placed held meaning plan s c.args.path ms size c.args.frame c.requires.scheduled c.if-frame-gt0.true)
+    advance_change placed held meaning plan ms _ c.args.self.now.list.items _ _ _ _ _ _ _ _ (λ size. []) _ _ _ (length-map c.args.self.now.list.items meaning)
+    (λ j. refl) (λ j h. begun_later placed held meaning plan s c.args.path c.args.frame 0 j (omega (arith, c.if-frame-gt0.true))) (λ j. refl) (λ j h. refl) (λ size e. steps_later placed held meaning plan s c.args.path ms size c.args.frame c.requires.scheduled c.if-frame-gt0.true)
     (advance_none placed held meaning plan ms _ (taken_to s c.args.path plan c.args.frame 0) _ _ c.requires.placed)
 
 pub take_leads-requires-clause-placed : goal.take_leads-requires-clause-placed
 take_leads-requires-clause-placed g c j w e =
     let s : FrameShape = g.S.Shape.shape in
     let zero : c.args.frame ≡ 0 = (let h = c.if-frame-gt0.false in omega arith) in
-    let placed : _ → Plan → ℕ → ℕ → Type 0 = placed_in g.C.Tx in
-    let held : _ → Supply → ℕ → ℕ → Type 0 = held_in g.C.Tx in
+    let placed : _ → Plan → ℕ → Readout → Type 0 = placed_in g.C.Tx in
+    let held : _ → Supply → ℕ → Readout → Type 0 = held_in g.C.Tx in
     let meaning = meaning_in g.C.Tx in
     let plan : Plan = plan_in c.args.clock.now g.G.SlipLog.takes in
-    subst (λ v. placed w plan v 0) (begun_zero placed held meaning plan s c.args.path c.args.frame j zero)
-    (subst (placed w plan (taken_to s c.args.path plan c.args.frame 0 j)) (read_zero placed held meaning plan s c.args.path c.args.frame j zero) (c.requires.placed j w e))
+    subst (λ v. placed w plan v (unslipped 0)) (begun_zero placed held meaning plan s c.args.path c.args.frame j zero)
+    (subst (placed w plan (taken_to s c.args.path plan c.args.frame 0 j)) (read_zero placed held meaning plan s c.args.path c.args.frame j c.args.self.now.stores zero) (c.requires.placed j w e))
 
 pub returns-clause-ok : goal.returns-clause-ok
 returns-clause-ok g c =
     let s : FrameShape = g.S.Shape.shape in
     let zero : c.args.frame ≡ 0 = (let h = c.if-frame-gt0.false in omega arith) in
-    let placed : _ → Plan → ℕ → ℕ → Type 0 = placed_in g.C.Tx in
-    let held : _ → Supply → ℕ → ℕ → Type 0 = held_in g.C.Tx in
+    let placed : _ → Plan → ℕ → Readout → Type 0 = placed_in g.C.Tx in
+    let held : _ → Supply → ℕ → Readout → Type 0 = held_in g.C.Tx in
     let meaning = meaning_in g.C.Tx in
     let plan : Plan = plan_in c.args.clock.now g.G.SlipLog.takes in
     let ws = c.args.self.now.list.items in
@@ -49,18 +50,18 @@ returns-clause-ok g c =
     let long : length ms ≡ length c.take_leads.new.self.list.items = sym (ap length c.take_leads.ensures.same) ∙ length-map c.take_leads.new.self.list.items meaning in
     on_ok_weaker c.take_leads.result
     (λ advance.
-    advance_change placed held meaning plan ms _ c.take_leads.new.self.list.items _ _ _ _ _ _ _ _ _ _ long
+    advance_change placed held meaning plan ms _ c.take_leads.new.self.list.items _ _ _ _ _ _ _ _ _ _ _ _ long
     (λ j. sym (begun_zero placed held meaning plan s c.args.path c.args.frame j zero))
     (λ j h. led_all placed held meaning plan s c.args.path c.args.frame g.S.Shape.TRIBS j zero g.met.S.Shape.is_frame (omega (arith, count, h)))
-    (λ j. sym (read_zero placed held meaning plan s c.args.path c.args.frame j zero)) (λ size e. steps_first placed held meaning plan s c.args.path ms size c.args.frame c.requires.scheduled zero ∙ e) advance)
+    (λ j. sym (read_zero placed held meaning plan s c.args.path c.args.frame j c.args.self.now.stores zero)) (λ j h. sym (read_zero placed held meaning plan s c.args.path c.args.frame j c.args.self.now.stores zero)) (λ size e. steps_first placed held meaning plan s c.args.path ms size c.args.frame c.requires.scheduled zero ∙ e) advance)
     c.take_leads.ensures.ok
 
 pub returns-clause-err : goal.returns-clause-err
 returns-clause-err g c =
     let s : FrameShape = g.S.Shape.shape in
     let zero : c.args.frame ≡ 0 = (let h = c.if-frame-gt0.false in omega arith) in
-    let placed : _ → Plan → ℕ → ℕ → Type 0 = placed_in g.C.Tx in
-    let held : _ → Supply → ℕ → ℕ → Type 0 = held_in g.C.Tx in
+    let placed : _ → Plan → ℕ → Readout → Type 0 = placed_in g.C.Tx in
+    let held : _ → Supply → ℕ → Readout → Type 0 = held_in g.C.Tx in
     let meaning = meaning_in g.C.Tx in
     let plan : Plan = plan_in c.args.clock.now g.G.SlipLog.takes in
     let ms : List Meaning = map meaning c.args.self.now.list.items in

@@ -7,7 +7,7 @@ use Rattle.std.proofs.lemmas.Result.{on_ok_weaker, IfErr-weaker}
 use Rattle.std.proofs.Math.Seq.{map-set_same}
 use Rattle.pdh_shape.specs.OwnNumbers.{lead}
 use Rattle.pdh_tx.specs.Meaning.{plan_in, Plan, Meaning}
-use Rattle.pdh_tx.specs.Held.{first_some, lead_of}
+use Rattle.pdh_tx.specs.Held.{first_some, Readout, unslipped, lead_of}
 use Rattle.pdh_tx.specs.Tributary.{placed_in, held_in, meaning_in}
 use Rattle.pdh_tx.specs.Node.{lead_at, obstacle_of, slips_below, lead_slips, IsDisjoint}
 use Rattle.pdh_tx.proofs.Feeding.{fed_one}
@@ -29,7 +29,7 @@ lead-requires-clause-fed g c =
 pub lead-requires-clause-placed : goal.lead-requires-clause-placed
 lead-requires-clause-placed g c =
     let at : slice_get c.args.self.now.list.items c.args.trib ≡ Some c.index_mut.result.now = slice_get_read _ _ c.args.trib _ refl (omega (arith, c.requires.trib, c.args.self.now.count)) c.index_mut.ensures.value in
-    subst (λ n. placed_in g.C.Tx c.index_mut.result.now (plan_in c.args.clock.now g.G.SlipLog.takes) n 0) (upto_here (λ j. 0) (λ j. lead) c.args.trib) (c.requires.placed c.args.trib _ at)
+    subst (λ n. placed_in g.C.Tx c.index_mut.result.now (plan_in c.args.clock.now g.G.SlipLog.takes) n (unslipped 0)) (upto_here (λ j. 0) (λ j. lead) c.args.trib) (c.requires.placed c.args.trib _ at)
 
 pub returns-clause-ok : goal.returns-clause-ok
 returns-clause-ok g c =
@@ -39,11 +39,11 @@ returns-clause-ok g c =
     let w = c.index_mut.result.now in
     let w' = c.lead.new.self in
     let at : slice_get ws i ≡ Some w = slice_get_read _ _ i _ refl (omega (arith, c.requires.trib, c.args.self.now.count)) c.index_mut.ensures.value in
-    let placed : _ → Plan → ℕ → ℕ → Type 0 = placed_in g.C.Tx in
-    let held : _ → _ → ℕ → ℕ → Type 0 = held_in g.C.Tx in
+    let placed : _ → Plan → ℕ → Readout → Type 0 = placed_in g.C.Tx in
+    let held : _ → _ → ℕ → Readout → Type 0 = held_in g.C.Tx in
     on_ok_weaker c.lead.result
     (λ ok.
-    advance_one placed held (meaning_in g.C.Tx) plan ws i w w' (λ j. 0) (λ j. lead) _ _ _ _ c.args.self.now.disjoint at (length-set ws i w') c.requires.placed
+    advance_one placed held (meaning_in g.C.Tx) plan ws i w w' (λ j. 0) (λ j. lead) (λ j. unslipped 0) (λ j. unslipped 0) _ _ _ c.args.self.now.disjoint at (length-set ws i w') (λ j h. refl) c.requires.placed
     ok.placed ok.gains
     (λ size fit. lead_same plan (map (meaning_in g.C.Tx) ws) size i (g.C.Tx.meaning w.child) (slice_get-map (meaning_in g.C.Tx) ws i ∙ rw at refl) ∙ ok.free size fit))
     c.lead.ensures.ok
@@ -55,8 +55,8 @@ returns-clause-err g c =
     let ws = c.args.self.now.list.items in
     let w = c.index_mut.result.now in
     let at : slice_get ws i ≡ Some w = slice_get_read _ _ i _ refl (omega (arith, c.requires.trib, c.args.self.now.count)) c.index_mut.ensures.value in
-    let placed : _ → Plan → ℕ → ℕ → Type 0 = placed_in g.C.Tx in
-    let held : _ → _ → ℕ → ℕ → Type 0 = held_in g.C.Tx in
+    let placed : _ → Plan → ℕ → Readout → Type 0 = placed_in g.C.Tx in
+    let held : _ → _ → ℕ → Readout → Type 0 = held_in g.C.Tx in
     IfErr-weaker c.lead.result _ _
     (λ stop both.
     blocked_one placed held (meaning_in g.C.Tx) plan ws i w (λ j. 0) (λ j. lead) _ _ stop _ _ _ _ c.args.self.now.disjoint at (λ v n k. g.met.C.Tx.grows v.child plan n k) (λ j. omega arith)

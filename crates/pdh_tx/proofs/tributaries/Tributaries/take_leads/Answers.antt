@@ -1,6 +1,7 @@
 use Rattle.std.proofs.Common.{rules, ◌≡◌, ◌<◌, ℕ, refl, ◌∙◌, arith, Err}
 use Rattle.pdh_shape.specs.OwnNumbers.{lead}
 use Rattle.pdh_tx.specs.Meaning.{plan_in}
+use Rattle.pdh_tx.specs.Held.{unslipped}
 use Rattle.pdh_tx.specs.Tributary.{placed_in, held_in, meaning_in}
 use Rattle.pdh_tx.specs.Tributaries.{meanings}
 use Rattle.pdh_tx.specs.Node.{led_to, lead_at, lead_slips}
@@ -24,7 +25,7 @@ returns-in_err-take_lead-clause-err g c =
     let e : c.from_residual.result ≡ Err c.in_err-take_lead.field-0.0 = search rules in
     let inside : c.loop-trib.trib < g.S.Shape.shape.tribs = (let h = c.loop-trib-test.true in let k = g.met.S.Shape.tribs_is in omega arith) in
     if_err_from c.from_residual.result _ c.in_err-take_lead.field-0.0 e
-    (loop_stop (placed_in g.C.Tx) (held_in g.C.Tx) (meaning_in g.C.Tx) (plan_in c.args.clock.now g.G.SlipLog.takes) led_to (λ (j : ℕ). 0) (lead_at (plan_in c.args.clock.now g.G.SlipLog.takes)) (meanings c.args.self.now) _ c.loop-trib.invariant.same _ _ c.loop-trib.trib _ _ c.loop-trib.invariant.advance
+    (loop_stop (placed_in g.C.Tx) (held_in g.C.Tx) (meaning_in g.C.Tx) (plan_in c.args.clock.now g.G.SlipLog.takes) led_to (λ (i j : ℕ). unslipped 0) (lead_at (plan_in c.args.clock.now g.G.SlipLog.takes)) (meanings c.args.self.now) _ c.loop-trib.invariant.same _ _ c.loop-trib.trib _ _ c.loop-trib.invariant.advance
     (λ (j : ℕ). lead) g.S.Shape.shape.tribs _ _ _ _ _ inside c.loop-trib.invariant.unfailed c.in_err-take_lead.ensures.err)
 
 pub loop-trib-preserved : goal.loop-trib-preserved
@@ -32,7 +33,7 @@ loop-trib-preserved g c =
     let inv = c.loop-trib.invariant in
     let ok = c.in_ok-take_lead.ensures in
     record {
-      advance = loop_step (placed_in g.C.Tx) (held_in g.C.Tx) (meaning_in g.C.Tx) (plan_in c.args.clock.now g.G.SlipLog.takes) led_to (λ (j : ℕ). 0) (lead_at (plan_in c.args.clock.now g.G.SlipLog.takes)) (meanings c.args.self.now) _ c.loop-trib.invariant.same _ _ c.loop-trib.trib _ _ c.loop-trib.invariant.advance
+      advance = loop_step (placed_in g.C.Tx) (held_in g.C.Tx) (meaning_in g.C.Tx) (plan_in c.args.clock.now g.G.SlipLog.takes) led_to (λ (i j : ℕ). unslipped 0) (lead_at (plan_in c.args.clock.now g.G.SlipLog.takes)) (meanings c.args.self.now) _ c.loop-trib.invariant.same _ _ c.loop-trib.trib _ _ c.loop-trib.invariant.advance
           _ _ ok.ok;
       unfailed = ok.fed.unfailed ∙ inv.unfailed;
       fed = g.met.F.Feed.fed_join _ _ _ inv.fed ok.fed.fed;
@@ -59,7 +60,7 @@ returns-clause-told g c =
 pub returns-clause-ok : goal.returns-clause-ok
 returns-clause-ok g c =
     let end : c.loop-trib.trib ≡ g.S.Shape.TRIBS = (let a = c.loop-trib-test.false in let b = c.loop-trib.auto in omega arith) in
-    loop_end (placed_in g.C.Tx) (held_in g.C.Tx) (meaning_in g.C.Tx) (plan_in c.args.clock.now g.G.SlipLog.takes) led_to (λ (j : ℕ). 0) (lead_at (plan_in c.args.clock.now g.G.SlipLog.takes)) (meanings c.args.self.now) _ c.loop-trib.invariant.same _ _ c.loop-trib.trib _ _ c.loop-trib.invariant.advance
+    loop_end (placed_in g.C.Tx) (held_in g.C.Tx) (meaning_in g.C.Tx) (plan_in c.args.clock.now g.G.SlipLog.takes) led_to (λ (i j : ℕ). unslipped 0) (lead_at (plan_in c.args.clock.now g.G.SlipLog.takes)) (meanings c.args.self.now) _ c.loop-trib.invariant.same _ _ c.loop-trib.trib _ _ c.loop-trib.invariant.advance
     g.S.Shape.TRIBS g.S.Shape.shape.tribs end g.met.S.Shape.tribs_is
 
 pub take_lead-requires-clause-fed : goal.take_lead-requires-clause-fed

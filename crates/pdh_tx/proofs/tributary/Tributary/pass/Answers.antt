@@ -1,7 +1,7 @@
 use Rattle.std.proofs.Common.{◌≡◌, ◌+◌, ◌-◌, ◌≤◌, ℕ, List, Bool, ◌++◌, length, length-drop, drop, take, refl, sym, ap, ◌∙◌, subst, arith}
 use Rattle.pdh_packed.specs.Gaining.{gained}
 use Rattle.pdh_tx.specs.Meaning.{plan_of}
-use Rattle.pdh_tx.specs.Held.{Held, Gains}
+use Rattle.pdh_tx.specs.Held.{Held, unslipped, Gains}
 use Rattle.pdh_tx.specs.Passing.{carried_in, HeldAndFilled}
 use Rattle.pdh_runs.specs.Pieces.{FillsColumn}
 use Rattle.pdh_tx.proofs.Passing.{pass_gains, front_room, front_is, queue_is, queue_long, rest_is, carried_is}
@@ -61,8 +61,8 @@ returns-clause-ok g c = record {
       let fills : FillsColumn s j more first len (store ++ bits) column = subst (λ (l : List Bool). FillsColumn s j more first len l column) is c.fill_column.ensures.fills in
       let tx = g.C.Tx in
       let ok = c.in_ok-make_clear.ensures in
-      let Q : List Bool → Type 0 = λ l. Gains (tx.meaning c.args.self.now.child) plan (Held tx.stands_for tx.meaning c.args.self.now.child store)
-      (HeldAndFilled tx.stands_for tx.meaning s j more first len gone c.make_clear.new.self l column) made (made + arriving) read (g.F.Feed.inputs c.args.feed.now) (g.F.Feed.inputs c.make_clear.new.feed) in
+      let Q : List Bool → Type 0 = λ l. Gains (tx.meaning c.args.self.now.child) plan (λ supply made read. Held tx.stands_for tx.meaning c.args.self.now.child store supply made (unslipped read))
+      (HeldAndFilled tx.stands_for tx.meaning s j more first len gone c.make_clear.new.self l column) made (made + arriving) read read (g.F.Feed.inputs c.args.feed.now) (g.F.Feed.inputs c.make_clear.new.feed) in
       record {
         placed = record {
           runs = ok.stopped;

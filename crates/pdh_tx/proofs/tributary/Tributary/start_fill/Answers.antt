@@ -4,7 +4,7 @@ use Rattle.pdh_shape.specs.Tributary.{reads_below}
 use Rattle.pdh_line.specs.Sending.{arrived_in, sends_more}
 use Rattle.pdh_line.specs.Tolerance.{HoldsAt}
 use Rattle.pdh_line.proofs.SendingLaws.{arrived_in-zero}
-use Rattle.pdh_tx.specs.Node.{read_to}
+use Rattle.pdh_tx.specs.Node.{read_at}
 use Rattle.pdh_tx.proofs.QuietSlots.{zero_of, some_made, reads_few, first_fill, frame_fill, slot_fill}
 use Rattle.pdh_tx.proofs.tributary.Tributary.start_fill.Goals as goal
 
@@ -22,7 +22,7 @@ returns-then-next-eq0-2 g c plan stands some =
     let next = c.args.next in
     frame_fill g.S.Shape.shape next.path plan next.frame next.slot c.args.trib g.met.S.Shape.is_frame c.from-fill.result c.if-next-eq0-2.true
     (some_made next.frame next.slot _ next.made c.requires.made c.if-next-eq0.false)
-    (ap (λ n. read_to g.S.Shape.shape next.path plan next.frame next.slot c.args.trib + n) (c.from-fill.ensures ∙ c.fill.ensures.count) ∙ stands.placed.count)
+    (ap (λ n. read_at g.S.Shape.shape next.path plan next.frame next.slot c.args.trib + n) (c.from-fill.ensures ∙ c.fill.ensures.count) ∙ stands.placed.count)
 
 pub overflow_add-fill : goal.overflow_add-fill
 overflow_add-fill g c =
@@ -40,7 +40,7 @@ returns g c plan stands some =
     let inside : 0 < t = omega (arith, c.if-next-eq0-2.false) in
     let share = stands.decided inside in
     let here : 0 + t ≡ t = omega arith in
-    let held = ap (λ n. read_to s next.path plan next.frame t j + n) (c.from-fill.ensures ∙ c.fill.ensures.count) ∙ stands.placed.count in
+    let held = ap (λ n. read_at s next.path plan next.frame t j + n) (c.from-fill.ensures ∙ c.fill.ensures.count) ∙ stands.placed.count in
     let none : reads_below s j c.args.self.now.share.more 0 ≡ 0 = refl in
     let carried : c.carried-carried.result ≡ reads_below s j (sends_more s counts next.frame) t =
     omega (arith, none, c.carried-carried.ensures, ap (reads_below s j c.args.self.now.share.more) here, ap (λ b. reads_below s j b t) share.more) in
