@@ -19,7 +19,7 @@ use Rattle.pdh_tx.specs.declared.tx.TxStop.TheVariants.{Failed, LogFailed}
 use Rattle.pdh_clock.specs.Contents.{Contents}
 use Rattle.pdh_tx.specs.Meaning.{Plan, Supply, plan_of, Meaning, Fits, Agrees, Makes, Stops, faults_met}
 use Rattle.pdh_tx.specs.Held.{IsPart, Halts}
-use Rattle.pdh_tx.specs.Making.{Gives, IsClear, IsFree, MakesAll}
+use Rattle.pdh_tx.specs.Making.{Gives, IsClear, IsFree, IsUneventful, MakesAll}
 use Rattle.pdh_chain.specs.Muxing.{as_line, Stood, HasFrames, SayInFrames, StopsAt, MakesBits, StopsMaking, Sends, StopsSending, FailsToSend, FailsToTake, IsSendStop}
 use Rattle.pdh_chain.specs.Calls.{StopsFrame}
 use Rattle.pdh_chain.specs.Faults.{counted_at_send_stop}
@@ -280,23 +280,37 @@ frame_end n len = omega (arith, add-mul n 1 len)
 -- ---- frames in whose way nothing stands
 
 -- what is free is so up to an earlier place
-pub free_first : (m : Meaning) (plan : Plan) (a b to : ℕ) (x : Inputs) → b ≤ to → IsFree m plan a to x → IsFree m plan a b x
-free_first m plan a b to x most free size fits y l h = free size fits y l (omega (arith, h, most))
+pub free_first : (m : Meaning) (plan : Plan) (a b to : ℕ) (x : Inputs) → b ≤ to → IsUneventful m plan a to x → IsUneventful m plan a b x
+free_first m plan a b to x most free = record {
+  free = λ size fits y l h. free.free size fits y l (omega (arith, h, most));
+  no_slip = λ y l h. free.no_slip y l (omega (arith, h, most));
+}
 
 -- the lists hold some bits in all
-pub free_clear : (m : Meaning) (plan : Plan) (a b : ℕ) (x : Inputs) → IsFree m plan a b x → IsClear m plan a b x
-free_clear m plan a b x free = record { size = λ k. m.given plan a k + x.left k; fits = λ k leaf. refl; clear = free (λ k. m.given plan a k + x.left k) (λ k leaf. refl) }
+pub free_clear : (m : Meaning) (plan : Plan) (a b : ℕ) (x : Inputs) → IsUneventful m plan a b x → IsClear m plan a b x
+free_clear m plan a b x free = record {
+  size = λ k. m.given plan a k + x.left k;
+  fits = λ k leaf. refl;
+  clear = free.free (λ k. m.given plan a k + x.left k) (λ k leaf. refl);
+  no_slip = free.no_slip;
+}
 
 -- nothing is known to stand in the way of no bits
-pub free_none : (m : Meaning) (plan : Plan) (a b : ℕ) (x : Inputs) → b ≤ a → IsFree m plan a b x
-free_none m plan a b x none size fits y l h = absurd (omega (arith, none, l, h))
+pub free_none : (m : Meaning) (plan : Plan) (a b : ℕ) (x : Inputs) → b ≤ a → IsUneventful m plan a b x
+free_none m plan a b x none = record {
+  free = λ size fits y l h. absurd (omega (arith, none, l, h));
+  no_slip = λ y l h. absurd (omega (arith, none, l, h));
+}
 
 -- behind a frame that was made, what was free is so still
 pub free_after : (m : Meaning) (says : ℕ → Service) (placed : ℕ → Type 0) (old new : Supply → ℕ → Type 0) (plan : Plan) (a b to clear len : ℕ) (bits : List Bool) (x y : Inputs) → MakesBits m says placed old new plan a b bits x y
-    → b ≡ a + len → to ≡ b + (clear - len) → IsFree m plan a (a + clear) x → IsFree m plan b to y
+    → b ≡ a + len → to ≡ b + (clear - len) → IsUneventful m plan a (a + clear) x → IsUneventful m plan b to y
 free_after m says placed old new plan a b to clear len bits x y makes end last free = elim (cases_lt clear len) [
   | inl less ↦ free_none m plan b to y (omega (arith, last, less))
-  | inr more ↦ free_rest m plan a b to (a + clear) makes.given x y makes.gives (omega (arith, end)) (omega (arith, end, last, more)) free
+  | inr more ↦ record {
+    free = free_rest m plan a b to (a + clear) makes.given x y makes.gives (omega (arith, end)) (omega (arith, end, last, more)) free.free;
+    no_slip = λ i l h. free.no_slip i (omega (arith, l, end)) (omega (arith, h, end, last, more));
+  }
 ]
 
 -- a frame that was made at once is a frame that was made

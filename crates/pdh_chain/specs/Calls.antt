@@ -15,7 +15,7 @@ use Rattle.pdh_watch.specs.declared.event.Event.{Event}
 use Rattle.pdh_tx.specs.declared.tx.Tx as tx
 use Rattle.pdh_tx.specs.declared.tx.TxStop.{TxStop}
 use Rattle.pdh_tx.specs.Meaning.{plan_of, Meaning}
-use Rattle.pdh_tx.specs.Making.{IsFree}
+use Rattle.pdh_tx.specs.Making.{IsUneventful}
 use Rattle.pdh_tx.specs.Calls.{IsFed, HaltsNext}
 use Rattle.pdh_rx.specs.Meaning.{Meaning as Receiving, HoldsAll}
 use Rattle.pdh_chain.specs.Trees.{AreLevelsOf}
@@ -112,26 +112,26 @@ abbrev pub StopsInFrame : {T : Type 0} → tx.Ghosts T → T → Contents → �
 StopsInFrame sender t schedule len stop before after faults now =
     (x : ℕ) → sender.stands_at t (plan_of schedule) x → StopsMaking (sender.meaning t) (plan_of schedule) x (x + len) stop before after faults now
 
--- it stands somewhere, and nothing stands in the way of its next bits, so many
+-- it stands somewhere, and nothing stands in the way of its next bits, so many, nor do they bring a slip
 abbrev pub StandsFree : {T : Type 0} → tx.Ghosts T → T → Contents → ℕ → Inputs → Type 0
-StandsFree sender t schedule clear inputs = (x : ℕ) × sender.stands_at t (plan_of schedule) x × IsFree (sender.meaning t) (plan_of schedule) x (x + clear) inputs
+StandsFree sender t schedule clear inputs = (x : ℕ) × sender.stands_at t (plan_of schedule) x × IsUneventful (sender.meaning t) (plan_of schedule) x (x + clear) inputs
 
--- where nothing stands in the way of so many of its next bits, nothing stands in the way of so many
+-- where that is so of so many of its next bits, it is so of so many
 abbrev pub KeepsFree : {T : Type 0} → tx.Ghosts T → T → Contents → ℕ → ℕ → Inputs → Type 0
 KeepsFree sender t schedule clear now inputs =
-    (x : ℕ) → sender.stands_at t (plan_of schedule) x → IsFree (sender.meaning t) (plan_of schedule) x (x + clear) inputs → IsFree (sender.meaning t) (plan_of schedule) x (x + now) inputs
+    (x : ℕ) → sender.stands_at t (plan_of schedule) x → IsUneventful (sender.meaning t) (plan_of schedule) x (x + clear) inputs → IsUneventful (sender.meaning t) (plan_of schedule) x (x + now) inputs
 
 -- it made the bits of a frame, so many, as above, where nothing stands in the way of so many
 abbrev pub MakesFrameFree : {T : Type 0} → tx.Ghosts T → T → T → Contents → ℕ → ℕ → List Bool → Inputs → Inputs → Type 0
 MakesFrameFree sender old new schedule len clear bits before after =
-    (x : ℕ) (says : ℕ → Service) → sender.stands_at old (plan_of schedule) x → IsFree (sender.meaning old) (plan_of schedule) x (x + clear) before
+    (x : ℕ) (says : ℕ → Service) → sender.stands_at old (plan_of schedule) x → IsUneventful (sender.meaning old) (plan_of schedule) x (x + clear) before
     → SayInFrames (sender.meaning old) says (sender.says old) x (x + len)
     → MakesBits (sender.meaning old) says (sender.stands_at new (plan_of schedule)) (sender.stands_for old) (sender.stands_for new) (plan_of schedule) x (x + len) bits before after
 
 -- or this is why it didn't: it stopped on the way, or a call failed where nothing stood in the way
 abbrev pub StopsFrame : {T : Type 0} → tx.Ghosts T → T → Contents → ℕ → Inputs → Inputs → ℕ → ℕ → SendStop → Type 0
 StopsFrame sender t schedule len before after faults now (Sender stop) = StopsInFrame sender t schedule len stop before after faults now
-StopsFrame sender t schedule len before after faults now TakeFailed = HaltsNext sender.meaning sender.stands_at t schedule len before after × (now ≡ one_more faults)
+StopsFrame sender t schedule len before after faults now TakeFailed = HaltsNext sender.meaning sender.stands_at t (plan_of schedule) len before after × (now ≡ one_more faults)
 StopsFrame sender t schedule len before after faults now WriteFailed = ⊥
 
 -- its first bits, so many, were sent, with this code in its frames

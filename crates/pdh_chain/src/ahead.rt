@@ -7,6 +7,7 @@ ghost use Rattle.pdh_chain.specs.Calls.{KeepsFree};
 
 use pdh_clock::Schedule;
 use pdh_edge::Feed;
+use pdh_slips::NoSlips;
 use pdh_tx::Tx;
 
 // For how many frames a sender is asked at once, at most.
@@ -51,7 +52,7 @@ impl Ahead {
             return self;
         }
         let frames = self.frames.min(left);
-        let clear = sender.quiet(clock, feed, len.saturating_mul(frames as usize));
+        let clear = sender.quiet::<F, NoSlips>(clock, feed, len.saturating_mul(frames as usize));
         if clear >= len {
             let frames = self.frames.saturating_mul(2).min(MOST_FRAMES);
             return Ahead { clear, frames };
@@ -63,7 +64,7 @@ impl Ahead {
             };
         }
         Ahead {
-            clear: sender.quiet(clock, feed, len),
+            clear: sender.quiet::<F, NoSlips>(clock, feed, len),
             frames: 1,
         }
     }

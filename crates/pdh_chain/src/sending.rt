@@ -85,7 +85,7 @@ fn make_frame<T: Tx, F: Feed>(
         };
     }
     frame.clear();
-    match sender.make_clear(clock, feed, len as usize, frame) {
+    match sender.make_clear(clock, feed, &mut NoSlips, len as usize, frame) {
         Ok(()) => Ok(()),
         Err(Failed) => Err(SendStop::TakeFailed),
     }

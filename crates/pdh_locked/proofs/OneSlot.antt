@@ -69,7 +69,7 @@ reads_is s source n t i (Control k copy) h = absurd (cc h)
 
 module _ (s : FrameShape) (locked : eqb s.copies 0 ≡ true) where
   -- all that is taken is read
-  pub read_locked : (counts : ℕ → ℕ) (n t j : ℕ) → read_before s j counts n t ≡ locked_to s n t j
+  read_locked : (counts : ℕ → ℕ) (n t j : ℕ) → read_before s j counts n t ≡ locked_to s n t j
   read_locked counts n t j = ap (λ more. sent s counts n + reads_below s j more t) (sends_more-locked s counts n locked) ∙ ap (λ k. k + reads_below s j false t) (sent-locked s counts n locked)
 
   -- no frame carries an additional bit, and nothing slips
@@ -89,17 +89,25 @@ module _ (s : FrameShape) (locked : eqb s.copies 0 ≡ true) where
   slip_edits j counts n t =
       ap (λ l. l ++ edits_in s j counts n t) (flat_nothing (λ m. edits_in s j counts m s.len) 0 n (λ m l h. none_edited j counts m s.len)) ∙ none_edited j counts n t
 
-  more_by : (mode : Mode) (j : ℕ) (counts : ℕ → ℕ) (n : ℕ) → (carriage mode s j counts).more n ≡ false
+  pub more_by : (mode : Mode) (j : ℕ) (counts : ℕ → ℕ) (n : ℕ) → (carriage mode s j counts).more n ≡ false
   more_by Plain j counts n = sends_more-locked s counts n locked
   more_by Slipping j counts n = slip_more counts n (start_of s j counts n)
 
+  pub edits_none : (mode : Mode) (j : ℕ) (counts : ℕ → ℕ) (n t : ℕ) → (carriage mode s j counts).edits n t ≡ []
+  edits_none Plain j counts n t = refl
+  edits_none Slipping j counts n t = slip_edits j counts n t
+
+  pub read_by : (mode : Mode) (j : ℕ) (counts : ℕ → ℕ) (n t : ℕ) → (carriage mode s j counts).sent n + reads_below s j ((carriage mode s j counts).more n) t ≡ locked_to s n t j
+  read_by Plain j counts n t = read_locked counts n t j
+  read_by Slipping j counts n t =
+      let start = start_of s j counts n in
+      ap (λ more. start.sent + reads_below s j more t) (slip_more counts n start) ∙ ap (λ k. k + reads_below s j false t) (slip_sent j counts n)
+
   bit_by : (mode : Mode) (j : ℕ) (counts : ℕ → ℕ) (inputs : ℕ → Bool) (n t : ℕ)
       → edited ((carriage mode s j counts).edits n (suc t)) inputs ((carriage mode s j counts).sent n + reads_below s j ((carriage mode s j counts).more n) t) ≡ inputs (locked_to s n t j)
-  bit_by Plain j counts inputs n t = ap inputs (read_locked counts n t j)
-  bit_by Slipping j counts inputs n t =
-      let start = start_of s j counts n in
-      ap (λ l. edited l inputs (start.sent + reads_below s j (carries_at s counts n start) t)) (slip_edits j counts n (suc t))
-      ∙ ap inputs (ap (λ more. start.sent + reads_below s j more t) (slip_more counts n start) ∙ ap (λ k. k + reads_below s j false t) (slip_sent j counts n))
+  bit_by mode j counts inputs n t =
+      let c = carriage mode s j counts in
+      ap (λ l. edited l inputs (c.sent n + reads_below s j (c.more n) t)) (edits_none mode j counts n (suc t)) ∙ ap inputs (read_by mode j counts n t)
 
   more_locked : (source : Source) (k n : ℕ) → more_in s source k n ≡ false
   more_locked source k n = more_by source.mode k (source.counts k) n

@@ -58,11 +58,11 @@ abbrev pub filled_in : {C : Type 0} → Ghosts C → FrameShape → ℕ → ℕ 
 filled_in tx s j first len from old new column supply made read =
     StandsFor tx new supply made × FillsColumn s j false first len (map ((tx.meaning old).line supply) (range_with_len from (carried_in s j false first len))) column
 
--- it has made some bits by this schedule, and nothing stands in the way of the next ones, so many
-pub record FillsFreely {C : Type 0} (tx : Ghosts C) (child : C) (schedule : Contents) (count : ℕ) (inputs : Inputs) : Type 0 where
+-- it has made some bits by this plan, and nothing stands in the way of the next ones, so many
+pub record FillsFreely {C : Type 0} (tx : Ghosts C) (child : C) (plan : Plan) (count : ℕ) (inputs : Inputs) : Type 0 where
   pub made : ℕ
-  pub stands : Stands tx child (plan_of schedule) made
-  pub clear : IsClear (tx.meaning child) (plan_of schedule) made (made + count) inputs
+  pub stands : Stands tx child plan made
+  pub clear : IsClear (tx.meaning child) plan made (made + count) inputs
 
 -- its bits of a piece of a frame went into the column of child j
 pub record FillsBits {C : Type 0} (tx : Ghosts C) (s : FrameShape) (j first len : ℕ) (old new : C) (column : List Bool) (plan : Plan) (made : ℕ) (before after : Inputs) : Type 0 where
@@ -70,13 +70,13 @@ pub record FillsBits {C : Type 0} (tx : Ghosts C) (s : FrameShape) (j first len 
   pub gains : Gains (tx.meaning old) plan (held_in tx old) (filled_in tx s j first len made old new column) made (made + carried_in s j false first len) made made before after
 
 -- and the column is as long as the piece wants it
-pub record FillsOne {C : Type 0} (tx : Ghosts C) (s : FrameShape) (j first len : ℕ) (old new : C) (column : List Bool) (schedule : Contents) (before after : Inputs) : Type 0 where
-  pub bits : (made : ℕ) → Stands tx old (plan_of schedule) made → FillsBits tx s j first len old new column (plan_of schedule) made before after
+pub record FillsOne {C : Type 0} (tx : Ghosts C) (s : FrameShape) (j first len : ℕ) (old new : C) (column : List Bool) (plan : Plan) (before after : Inputs) : Type 0 where
+  pub bits : (made : ℕ) → Stands tx old plan made → FillsBits tx s j first len old new column plan made before after
   pub rows : length column ≡ rows s first len
 
 -- a call failed on the way of its next bits, so many
-abbrev pub HaltsFilling : {C : Type 0} → Ghosts C → C → Contents → ℕ → Inputs → Inputs → Type 0
-HaltsFilling tx child schedule count before after = (made : ℕ) → Stands tx child (plan_of schedule) made → Halts (tx.meaning child) (plan_of schedule) made (made + count) Failed before after
+abbrev pub HaltsFilling : {C : Type 0} → Ghosts C → C → Plan → ℕ → Inputs → Inputs → Type 0
+HaltsFilling tx child plan count before after = (made : ℕ) → Stands tx child plan made → Halts (tx.meaning child) plan made (made + count) Failed before after
 
 -- ---- all of them
 
@@ -180,33 +180,33 @@ module _ {S C : Type 0} {shape : shape.Ghosts S} {tx : Ghosts C} where
   filled_to cs n t len = up_to (locked_to shape.shape n t) (locked_to shape.shape n (t + len))
 
   -- the first i have filled their slots
-  abbrev pub HaveFilled : Children S C shape tx → Contents → ℕ → ℕ → ℕ → ℕ → Type 0
-  HaveFilled cs schedule n t len i = HaveMade cs (plan_of schedule) (filled_to cs n t len i)
+  abbrev pub HaveFilled : Children S C shape tx → Plan → ℕ → ℕ → ℕ → ℕ → Type 0
+  HaveFilled cs plan n t len i = HaveMade cs plan (filled_to cs n t len i)
 
   -- nothing stands in the way of child j
-  abbrev pub IsPassable : Children S C shape tx → Contents → ℕ → ℕ → ℕ → Inputs → ℕ → Type 0
-  IsPassable cs schedule n t len inputs j = (m : Meaning) → slice_get (meanings cs) j ≡ Some m → IsClear m (plan_of schedule) (locked_to shape.shape n t j) (locked_to shape.shape n (t + len) j) inputs
+  abbrev pub IsPassable : Children S C shape tx → Plan → ℕ → ℕ → ℕ → Inputs → ℕ → Type 0
+  IsPassable cs plan n t len inputs j = (m : Meaning) → slice_get (meanings cs) j ≡ Some m → IsClear m plan (locked_to shape.shape n t j) (locked_to shape.shape n (t + len) j) inputs
 
   -- those from i up to k filled their slots, and wrote this
-  abbrev pub FillOn : Children S C shape tx → Children S C shape tx → Contents → ℕ → ℕ → ℕ → ℕ → ℕ → Inputs → Inputs → (Source → Type 0) → Type 0
-  FillOn old new schedule n t len i k before after written =
-      (path : Path) → Passes (held_in tx) path (meanings old) (plan_of schedule) old.list.items new.list.items (filled_to old n t len i) (filled_to old n t len k) (filled_to old n t len i) (filled_to old n t len k) before after written
+  abbrev pub FillOn : Children S C shape tx → Children S C shape tx → Plan → ℕ → ℕ → ℕ → ℕ → ℕ → Inputs → Inputs → (Source → Type 0) → Type 0
+  FillOn old new plan n t len i k before after written =
+      (path : Path) → Passes (held_in tx) path (meanings old) plan old.list.items new.list.items (filled_to old n t len i) (filled_to old n t len k) (filled_to old n t len i) (filled_to old n t len k) before after written
 
   -- child i filled its slots, whose bits stand in its column
-  pub record FillOne (old new : Children S C shape tx) (schedule : Contents) (n t len i : ℕ) (before after : Inputs) : Type 0 where
-    pub placed : HaveFilled new schedule n t len (suc i)
-    pub fills : FillOn old new schedule n t len i (suc i) before after (λ source. HoldsBitsOf shape.shape source n t len (columns new) i)
+  pub record FillOne (old new : Children S C shape tx) (plan : Plan) (n t len i : ℕ) (before after : Inputs) : Type 0 where
+    pub placed : HaveFilled new plan n t len (suc i)
+    pub fills : FillOn old new plan n t len i (suc i) before after (λ source. HoldsBitsOf shape.shape source n t len (columns new) i)
     pub rows : HasRowsOf shape.shape t len (columns new) i
 
   -- the first so many did, which are all of them
-  pub record FillAll (old new : Children S C shape tx) (schedule : Contents) (n t len count : ℕ) (before after : Inputs) : Type 0 where
-    pub placed : HaveFilled new schedule n t len count
-    pub fills : FillOn old new schedule n t len 0 count before after (λ source. HoldsBits shape.shape source n t len (columns new) count)
+  pub record FillAll (old new : Children S C shape tx) (plan : Plan) (n t len count : ℕ) (before after : Inputs) : Type 0 where
+    pub placed : HaveFilled new plan n t len count
+    pub fills : FillOn old new plan n t len 0 count before after (λ source. HoldsBits shape.shape source n t len (columns new) count)
     pub rows : HasRows shape.shape t len (columns new) count
 
   -- a call failed on the way of those from i on
-  abbrev pub FailFrom : Children S C shape tx → Contents → ℕ → ℕ → ℕ → ℕ → Inputs → Inputs → Type 0
-  FailFrom cs schedule n t len i = Stays (meanings cs) (plan_of schedule) (filled_to cs n t len i) (locked_to shape.shape n (t + len)) Failed
+  abbrev pub FailFrom : Children S C shape tx → Plan → ℕ → ℕ → ℕ → ℕ → Inputs → Inputs → Type 0
+  FailFrom cs plan n t len i = Stays (meanings cs) plan (filled_to cs n t len i) (locked_to shape.shape n (t + len)) Failed
 
   -- what no call that fills slots changes: what they mean, and the overhead that is written
   pub record KeepAll (old new : Children S C shape tx) : Type 0 where

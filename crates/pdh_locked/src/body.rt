@@ -45,7 +45,7 @@ impl<S: Shape, C: Tx> Body<S> for Children<S, C> {
         }
     }
 
-    fn quiet<F: Feed>(
+    fn quiet<F: Feed, G: SlipLog>(
         &self,
         path: Path,
         frame: u64,
@@ -56,25 +56,26 @@ impl<S: Shape, C: Tx> Body<S> for Children<S, C> {
     ) -> usize {
         let slots = slots_scheduled::<S>(path, frame, slot, clock, most.min(MOST_ASKED));
         let bits = frames_of::<S>(slot, slots) * u64::from(S::LOW);
-        if !self.all_stay_free(bits as usize, clock, feed) {
+        if !self.all_stay_free::<F, G>(bits as usize, clock, feed) {
             return 0;
         }
         slots
     }
 
-    fn piece<F: Feed>(
+    fn piece<F: Feed, G: SlipLog>(
         &mut self,
         at: Piece,
         say: &Service,
         odd: bool,
         clock: &Schedule,
         feed: &mut F,
+        log: &mut G,
         into: &mut Packed,
     ) -> Result<bool, Failed> {
         // the number of the frame after it fits, since the count of frames does
         let _fits = clock.frames(&at.path);
         write_overhead::<S, ()>(&self.layout, at, say, odd, &(), &mut self.scratch.overhead);
-        self.fill_all(at.frame, at.slot, at.len, clock, feed)?;
+        self.fill_all(at.frame, at.slot, at.len, clock, feed, log)?;
         Ok(
             self.layout.assemble(
                 at.slot,

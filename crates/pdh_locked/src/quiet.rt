@@ -4,7 +4,7 @@
 ghost use Rattle.std.specs.Prelude.{◌≡◌, ◌<◌, ◌≤◌, ◌+◌, ◌*◌, ◌^◌, ℕ, true, slice_get, Some, IsSome};
 ghost use Rattle.pdh_levels.specs.Levels.{level_at};
 ghost use Rattle.pdh_line.specs.Paths.{steps_of};
-ghost use Rattle.pdh_tx.specs.Meaning.{plan_of};
+ghost use Rattle.pdh_tx.specs.Meaning.{plan_in};
 ghost use Rattle.pdh_tx.specs.Calls.{GoesFree};
 ghost use Rattle.pdh_locked.specs.Children.{AreFed, HaveMadeSome, AreScheduled};
 
@@ -12,6 +12,7 @@ use crate::children::Children;
 use pdh_clock::Schedule;
 use pdh_edge::Feed;
 use pdh_shape::{Path, Shape};
+use pdh_slips::SlipLog;
 use pdh_tx::Tx;
 
 /// The most slots that are looked at for one answer, so that sums over them fit.
@@ -49,15 +50,20 @@ pub fn slots_scheduled<S: Shape>(
 }
 
 impl<S: Shape, C: Tx> Children<S, C> {
-    /// Whether so many next bits of each child surely meet nothing.
-    pub fn all_stay_free<F: Feed>(&self, bits: usize, clock: &Schedule, feed: &F) -> bool
+    /// Whether so many next bits of each child surely meet nothing, and so bring no slip where logs of type `G` take slips.
+    pub fn all_stay_free<F: Feed, G: SlipLog>(
+        &self,
+        bits: usize,
+        clock: &Schedule,
+        feed: &F,
+    ) -> bool
         requires fed { AreFed self.now clock.now (F.inputs feed.now) }
-        requires placed { HaveMadeSome self.now (plan_of clock.now) }
+        requires placed { HaveMadeSome self.now (plan_in clock.now G.takes) }
         ensures { result ≡ true → (j : ℕ) (child : _) → slice_get self.now.list.items j ≡ Some child
-            → GoesFree C.meaning C.stands_at child clock.now bits (F.inputs feed.now) }
+            → GoesFree C.meaning C.stands_at child (plan_in clock.now G.takes) bits (F.inputs feed.now) }
     {
         for trib in 0..S::TRIBS {
-            if self.list[trib as usize].quiet(clock, feed, bits) < bits {
+            if self.list[trib as usize].quiet::<F, G>(clock, feed, bits) < bits {
                 return false;
             }
         }

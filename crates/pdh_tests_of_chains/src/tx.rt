@@ -13,7 +13,7 @@ use pdh_eframes::E2;
 use pdh_packed::Packed;
 use pdh_runs::Layout;
 use pdh_shape::TOP;
-use pdh_slips::{NoSlips, SlipLog};
+use pdh_slips::{KeptSlips, NoSlips, SlipLog};
 use pdh_tx::{Leaf, Node, Tx, TxStop};
 use std::alloc::{AllocError, Global};
 use std::rc::Rc;
@@ -114,7 +114,10 @@ fn tells_that_a_frame_meets_nothing(rt: HostRuntime) -> Result<(), Fail> {
     let feed = zeros(alloc)?;
     let node = node(alloc)?;
     for (most, quiet) in [(1, 1), (848, 848), (849, 0)] {
-        assert_eq!(rt; node.quiet(&clock, &feed, most), quiet, "of {most}");
+        let plain = node.quiet::<MemPort, NoSlips>(&clock, &feed, most);
+        let slipping = node.quiet::<MemPort, KeptSlips>(&clock, &feed, most);
+        assert_eq!(rt; plain, quiet, "of {most}");
+        assert_eq!(rt; slipping, quiet, "of {most}, where stores slip");
     }
     Ok(())
 }

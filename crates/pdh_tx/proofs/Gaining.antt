@@ -74,7 +74,7 @@ no_first None p h = refl
 no_first (Some x) p h = h
 
 -- no event stops nothing, and is no slip
-pub no_stop : (mode : Mode) (event : Bool) → event ≡ false → stops mode event ≡ false
+no_stop : (mode : Mode) (event : Bool) → event ≡ false → stops mode event ≡ false
 no_stop Plain event none = none
 no_stop Slipping event none = refl
 

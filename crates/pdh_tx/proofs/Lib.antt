@@ -32,4 +32,5 @@ mod Begun
 pub mod NodePieces
 pub mod MakingAll
 mod LeafPieces
+mod QuietStores
 mod QuietSlots

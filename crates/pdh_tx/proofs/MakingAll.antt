@@ -45,6 +45,7 @@ clear_rest {now = now} m placed old mid plan a b c to xs x y p most clear = reco
   size = clear.size;
   fits = λ k leaf. omega (arith, clear.fits k leaf, p.gives.exact k leaf, p.gives.takes.counts k);
   clear = λ k from below. clear.clear k (omega (arith, p.count)) (omega arith);
+  no_slip = λ k from below. clear.no_slip k (omega (arith, p.count)) (omega arith);
 }
 
 -- what was made before a call that failed, and what that call took

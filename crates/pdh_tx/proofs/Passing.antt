@@ -9,15 +9,17 @@ use Rattle.pdh_packed.specs.Gaining.{gained, IsGrown}
 use Rattle.pdh_packed.proofs.GainingLaws.{grown_long}
 use Rattle.pdh_edge.specs.Ports.{Inputs}
 use Rattle.pdh_shape.specs.declared.role.Service.{Service}
-use Rattle.pdh_shape.specs.Frame.{FrameShape}
+use Rattle.pdh_shape.specs.Frame.{FrameShape, idle}
 use Rattle.pdh_shape.specs.Tributary.{reads_from, reads_below, turned}
+use Rattle.pdh_line.specs.Edits.{edited}
 use Rattle.pdh_line.proofs.Ranges.{range_append}
 use Rattle.pdh_tx.specs.Meaning.{Meaning, Plan, Supply}
-use Rattle.pdh_tx.specs.Held.{IsPart, Placed, Held, unslipped, Gains}
+use Rattle.pdh_tx.specs.Held.{IsPart, Held, Readout, Gains}
 use Rattle.pdh_tx.specs.Making.{MakesAll}
 use Rattle.pdh_runs.specs.Pieces.{FillsColumn}
 use Rattle.pdh_runs.proofs.Counts.{before_grows, before_less}
 use Rattle.pdh_tx.specs.Passing.{carried_in, HeldAndFilled}
+use Rattle.pdh_tx.proofs.NodePieces.{part_of}
 
 -- ---- parts of a line
 
@@ -64,35 +66,40 @@ fills_part s j more first len gone line queue column from all enough part fills 
 
 -- ---- a tributary that took many bits of its child, of which many went into their column
 
-module _ {C : Type 0} (stands_at : C → Plan → ℕ → Type 0) (stands_for : C → Supply → ℕ → Type 0) (meaning : C → Meaning) (says : C → Service) (is_stopped : C → Bool) (old new : C) (plan : Plan) (store bits : List Bool) (made read gone : ℕ) where
+module _ {C : Type 0} (stands_at : C → Plan → ℕ → Type 0) (stands_for : C → Supply → ℕ → Type 0) (meaning : C → Meaning) (says : C → Service) (old new : C) (plan : Plan) (store bits : List Bool) (made : ℕ) (out : Readout) (gone : ℕ) where
   -- `column` is filled with what the queue begins with
   pub pass_gains : (a b : Inputs) (to : ℕ) (s : FrameShape) (j : ℕ) (more : Bool) (first len : ℕ) (column : List Bool) → meaning new ≡ meaning old → gone ≤ length (store ++ bits)
       → reads_below s j more first + gone ≡ reads_below s j more (first + len)
-      → Placed stands_at says is_stopped old store plan made (unslipped read)
+      → says old ≡ idle
       → MakesAll (meaning old) (says old) (stands_at new plan) (stands_for old) (stands_for new) plan made to bits a b
       → FillsColumn s j more first len (store ++ bits) column
-      → Gains (meaning old) plan (λ supply made read. Held stands_for meaning old store supply made (unslipped read)) (HeldAndFilled stands_for meaning s j more first len gone new (drop gone (store ++ bits)) column) made to read read a b
-  pass_gains a b to s j more first len column same enough all placed makes fills = record {
+      → Gains (meaning old) plan (Held stands_for meaning old store) (HeldAndFilled stands_for meaning s j more first len gone new (drop gone (store ++ bits)) column) made to out out a b
+  pass_gains a b to s j more first len column same enough all idles makes fills = record {
     given = makes.given;
     takes = makes.gives.takes;
     others = makes.gives.others;
     exact = makes.gives.exact;
     onward = λ supply plan_is was agrees.
-        let line : ℕ → Bool = (meaning new).line supply in
-        let next = makes.onward supply (record { plan_is = plan_is; said = λ y l h n e. was.quiet n ∙ sym placed.idles; stands = was.made_for; agrees = agrees }) in
-        let P : Meaning → Type 0 = λ m. IsPart (m.line supply) store read in
+        let own : ℕ → Bool = (meaning new).line supply in
+        let line : ℕ → Bool = edited out.edits own in
+        let next = makes.onward supply (record { plan_is = plan_is; said = λ y l h n e. was.quiet n ∙ sym idles; stands = was.made_for; agrees = agrees }) in
+        let P : Meaning → Type 0 = λ m. IsPart (edited out.edits (m.line supply)) store out.read in
         let Q : Meaning → Type 0 = λ m. IsPart (m.line supply) bits made in
-        let whole : IsPart line (store ++ bits) read = part_then line store bits read made placed.count (subst P (sym same) was.holds) (subst Q (sym same) next.0) in (
+        let A : Meaning → Type 0 = λ m. (k : ℕ) → edited out.edits (m.line supply) (out.read + length store + k) ≡ m.line supply (made + k) in
+        let ahead : A (meaning new) = subst A (sym same) was.ahead in
+        let part : IsPart line bits (out.read + length store) = part_of line bits (out.read + length store) false (λ v h. part_at own bits made v false (subst Q (sym same) next.0) h ∙ sym (ahead v)) in
+        let whole : IsPart line (store ++ bits) out.read = part_then line store bits out.read (out.read + length store) refl (subst P (sym same) was.holds) part in (
           record {
             quiet = was.quiet;
             made_for = next.1;
-            holds = part_drop line (store ++ bits) read gone enough whole;
+            holds = part_drop line (store ++ bits) out.read gone enough whole;
             ahead = λ k.
                 let rest = length-drop gone (store ++ bits) in
-                let same : read + gone + length (drop gone (store ++ bits)) + k ≡ to + k = omega (arith, rest, length-append store bits, placed.count, makes.count, enough) in
-                ap line same;
+                let here : out.read + gone + length (drop gone (store ++ bits)) + k ≡ out.read + length store + (length bits + k) = omega (arith, rest, length-append store bits, enough) in
+                let there : made + (length bits + k) ≡ to + k = omega (arith, makes.count) in
+                ap line here ∙ ahead (length bits + k) ∙ ap own there;
           },
-          fills_part s j more first len gone line (store ++ bits) column read all enough whole fills,
+          fills_part s j more first len gone line (store ++ bits) column out.read all enough whole fills,
         );
   }
 

@@ -15,8 +15,7 @@ use Rattle.std.proofs.lemmas.Nat.{le-div}
 use Rattle.std.proofs.Math.Nat.{div-mul-le_self, mul-le-mul_right}
 use Rattle.pdh_shape.specs.Frame.{FrameShape, IsFrame}
 use Rattle.pdh_shape.specs.Tributary.{reads_from, reads_below, turned}
-use Rattle.pdh_line.specs.Sending.{Mode, carriage, Source, sends_more, came_before, read_before, arrived_in, sent, more_in, input_bit, slot_bit}
-use Rattle.pdh_line.specs.Sending.Mode.{Plain}
+use Rattle.pdh_line.specs.Sending.{Carriage, Source, came_before, arrived_in, more_in, input_bit, slot_bit}
 use Rattle.pdh_line.specs.Edits.{edited}
 use Rattle.pdh_line.proofs.SendingLaws.{came_before_grows, arrived_in-all}
 use Rattle.pdh_tx.specs.declared.tx.TxStop.{TxStop}
@@ -27,7 +26,8 @@ use Rattle.pdh_tx.specs.Making.{IsClear}
 use Rattle.pdh_tx.specs.Node.{below, source_of, line_of, any_leaf, given_by, IsDisjoint, EachPlaced, EachHeld, Stays, came_at}
 use Rattle.pdh_tx.specs.laws.Growing.{grows_to}
 use Rattle.pdh_runs.specs.Pieces.{row, rows, FillsColumn}
-use Rattle.pdh_tx.specs.Passing.{up_to, made_through, CanPass, HoldsBits, HoldsBitsOf, HasRows, HasRowsOf, Passes}
+use Rattle.pdh_tx.specs.Slipping.{carriage_in, read_to}
+use Rattle.pdh_tx.specs.Passing.{up_to, edits_by, made_through, CanPass, HoldsBits, HoldsBitsOf, HasRows, HasRowsOf, Passes}
 use Rattle.pdh_runs.proofs.Counts.{before_grows, before_less}
 use Rattle.pdh_tx.proofs.Moving.{takes_join, takes_none, agrees_left, agrees_right, leaf_of, not_leaf, given_at, given_same, slice_get_set}
 use Rattle.pdh_tx.proofs.Advancing.{upto_here, upto_next, upto_other}
@@ -41,8 +41,8 @@ differ h = cc
 
 -- ---- one tributary among all, and one after another
 
-module _ {W : Type 0} (placed : W → Plan → ℕ → ℕ → Type 0) (held : W → Supply → ℕ → ℕ → Type 0) (meaning : W → Meaning) (path : Path) (plan : Plan) where
-  pub passes_none : (ms : List Meaning) (ws : List W) (made gone : ℕ → ℕ) (a : Inputs) (written : Source → Type 0) → ((source : Source) → written source) → Passes held path ms plan ws ws made made gone gone a a written
+module _ {W R : Type 0} (placed : W → Plan → ℕ → R → Type 0) (held : W → Supply → ℕ → R → Type 0) (meaning : W → Meaning) (path : Path) (plan : Plan) where
+  pub passes_none : (ms : List Meaning) (ws : List W) (made : ℕ → ℕ) (gone : ℕ → R) (a : Inputs) (written : Source → Type 0) → ((source : Source) → written source) → Passes held path ms plan ws ws made made gone gone a a written
   passes_none ms ws made gone a written none = record {
     given = nothing;
     takes = takes_none a;
@@ -51,7 +51,7 @@ module _ {W : Type 0} (placed : W → Plan → ℕ → ℕ → Type 0) (held : W
     onward = λ supply is each agrees. (each, none (source_of path ms supply));
   }
 
-  pub passes_join : (ms : List Meaning) (u v w : List W) (x y z p q r : ℕ → ℕ) (a b c : Inputs) (one two both : Source → Type 0) → ((supply : Supply) → supply.plan ≡ plan → one (source_of path ms supply) → two (source_of path ms supply) → both (source_of path ms supply))
+  pub passes_join : (ms : List Meaning) (u v w : List W) (x y z : ℕ → ℕ) (p q r : ℕ → R) (a b c : Inputs) (one two both : Source → Type 0) → ((supply : Supply) → supply.plan ≡ plan → one (source_of path ms supply) → two (source_of path ms supply) → both (source_of path ms supply))
       → Passes held path ms plan u v x y p q a b one → Passes held path ms plan v w y z q r b c two → Passes held path ms plan u w x z p r a c both
   passes_join ms u v w x y z p q r a b c one two both join first second = record {
     given = λ k. first.given k ++ second.given k;
@@ -64,22 +64,22 @@ module _ {W : Type 0} (placed : W → Plan → ℕ → ℕ → Type 0) (held : W
         (there.0, join supply is here.1 there.1);
   }
 
-  pub placed_one : (old : List W) (i : ℕ) (w' : W) (f g h l : ℕ → ℕ) → EachPlaced placed old plan (up_to f g i) (up_to h l i) → placed w' plan (g i) (l i) → EachPlaced placed (slice_set old i w') plan (up_to f g (suc i)) (up_to h l (suc i))
+  pub placed_one : (old : List W) (i : ℕ) (w' : W) (f g : ℕ → ℕ) (h l : ℕ → R) → EachPlaced placed old plan (up_to f g i) (up_to h l i) → placed w' plan (g i) (l i) → EachPlaced placed (slice_set old i w') plan (up_to f g (suc i)) (up_to h l (suc i))
   placed_one old i w' f g h l each now j c e = elim (slice_get_set old i j w' c e) [
     | inl p ↦
         let Q : ℕ → Type 0 = λ v. placed w' plan (up_to f g (suc i) v) (up_to h l (suc i) v) in
-        let R : W → Type 0 = λ v. placed v plan (up_to f g (suc i) j) (up_to h l (suc i) j) in
+        let V : W → Type 0 = λ v. placed v plan (up_to f g (suc i) j) (up_to h l (suc i) j) in
         let M : ℕ → Type 0 = λ n. placed w' plan n (l i) in
-        let N : ℕ → Type 0 = λ n. placed w' plan (up_to f g (suc i) i) n in
-        subst R p.1 (subst Q (sym p.0) (subst N (sym (upto_next h l i)) (subst M (sym (upto_next f g i)) now)))
+        let N : R → Type 0 = λ n. placed w' plan (up_to f g (suc i) i) n in
+        subst V p.1 (subst Q (sym p.0) (subst N (sym (upto_next h l i)) (subst M (sym (upto_next f g i)) now)))
     | inr p ↦
         let M : ℕ → Type 0 = λ n. placed c plan n (up_to h l i j) in
-        let N : ℕ → Type 0 = λ n. placed c plan (up_to f g (suc i) j) n in
+        let N : R → Type 0 = λ n. placed c plan (up_to f g (suc i) j) n in
         subst N (upto_other h l i j p.0) (subst M (upto_other f g i j p.0) (each j c p.1))
   ]
 
   -- `new` is what the tributary holds and has written
-  pub passes_one : (old : List W) (i : ℕ) (w w' : W) (f g h l : ℕ → ℕ) (new : Supply → ℕ → ℕ → Type 0) (written : Source → Type 0) (a b : Inputs) → IsDisjoint (map meaning old) → slice_get old i ≡ Some w
+  pub passes_one : (old : List W) (i : ℕ) (w w' : W) (f g : ℕ → ℕ) (h l : ℕ → R) (new : Supply → ℕ → R → Type 0) (written : Source → Type 0) (a b : Inputs) → IsDisjoint (map meaning old) → slice_get old i ≡ Some w
       → Gains (meaning w) plan (held w) new (f i) (g i) (h i) (h i) a b
       → ((supply : Supply) → supply.plan ≡ plan → new (below supply) (g i) (h i) → held w' (below supply) (g i) (l i) × written (source_of path (map meaning old) supply))
       → Passes held path (map meaning old) plan old (slice_set old i w') (up_to f g i) (up_to f g (suc i)) (up_to h l i) (up_to h l (suc i)) a b written
@@ -105,7 +105,7 @@ module _ {W : Type 0} (placed : W → Plan → ℕ → ℕ → Type 0) (held : W
         ];
         onward = λ supply is each agrees.
             let M : ℕ → Type 0 = λ n. held w (below supply) n (up_to h l i i) in
-            let N : ℕ → Type 0 = λ n. held w (below supply) (f i) n in
+            let N : R → Type 0 = λ n. held w (below supply) (f i) n in
             let was : held w (below supply) (f i) (h i) = subst N (upto_here h l i) (subst M (upto_here f g i) (each i w at)) in
             let now = gains.onward (below supply) is was
             (λ k leaf n lt. agrees k (leaf_of ms i k m maker leaf) n lt ∙ ap (λ v. supply.lists k (v + n)) (given_at ms plan (up_to f g i) i k m dis maker leaf ∙ ap (λ v. m.given plan v k) (upto_here f g i))) in
@@ -117,13 +117,13 @@ module _ {W : Type 0} (placed : W → Plan → ℕ → ℕ → Type 0) (held : W
       placed_held supply now each j c e = elim (slice_get_set old i j w' c e) [
         | inl p ↦
             let Q : ℕ → Type 0 = λ v. held w' (below supply) (up_to f g (suc i) v) (up_to h l (suc i) v) in
-            let R : W → Type 0 = λ v. held v (below supply) (up_to f g (suc i) j) (up_to h l (suc i) j) in
+            let V : W → Type 0 = λ v. held v (below supply) (up_to f g (suc i) j) (up_to h l (suc i) j) in
             let M : ℕ → Type 0 = λ n. held w' (below supply) n (l i) in
-            let N : ℕ → Type 0 = λ n. held w' (below supply) (up_to f g (suc i) i) n in
-            subst R p.1 (subst Q (sym p.0) (subst N (sym (upto_next h l i)) (subst M (sym (upto_next f g i)) now)))
+            let N : R → Type 0 = λ n. held w' (below supply) (up_to f g (suc i) i) n in
+            subst V p.1 (subst Q (sym p.0) (subst N (sym (upto_next h l i)) (subst M (sym (upto_next f g i)) now)))
         | inr p ↦
             let M : ℕ → Type 0 = λ n. held c (below supply) n (up_to h l i j) in
-            let N : ℕ → Type 0 = λ n. held c (below supply) (up_to f g (suc i) j) n in
+            let N : R → Type 0 = λ n. held c (below supply) (up_to f g (suc i) j) n in
             subst N (upto_other h l i j p.0) (subst M (upto_other f g i j p.0) (each j c p.1))
       ]
 
@@ -176,27 +176,31 @@ spare_is s source n t i (ServiceSlot k) own none = absurd (differ own)
 spare_is s source n t i (Control k copy) own none = absurd (differ own)
 
 -- what a column is filled with are the bits of the tributary's slots
-pub holds_from : (s : FrameShape) (path : Path) (ms : List Meaning) (plan : Plan) (supply : Supply) (n t len i gone : ℕ) (more : Bool) (m : Meaning) (columns : List (List Bool)) (column : List Bool) → supply.plan ≡ plan → plan.mode ≡ Plain → more ≡ sends_more s (plan.counts path i) n
+pub holds_from : (s : FrameShape) (path : Path) (ms : List Meaning) (plan : Plan) (supply : Supply) (n t len i gone : ℕ) (more : Bool) (m : Meaning) (columns : List (List Bool)) (column : List Bool) → supply.plan ≡ plan → more ≡ (carriage_in s path plan i).more n
     → slice_get ms i ≡ Some m → slice_index_or columns i [] ≡ column → reads_below s i more t + gone ≡ reads_below s i more (t + len)
-    → FillsColumn s i more t len (map (m.line (below supply)) (range_with_len (read_before s i (plan.counts path i) n t) gone)) column → HoldsBitsOf s (source_of path ms supply) n t len columns i
-holds_from s path ms plan supply n t len i gone more m columns column is plain carries at own all fills v within reads =
-    let counts : ℕ → ℕ = plan.counts path i in
-    let line : ℕ → Bool = m.line (below supply) in
+    → ((v : ℕ) → v ≤ len → edits_by s path plan n (t + v) i ≡ edits_by s path plan n t i)
+    → FillsColumn s i more t len (map (edited (edits_by s path plan n t i) (m.line (below supply))) (range_with_len (read_to s path plan n t i).read gone)) column → HoldsBitsOf s (source_of path ms supply) n t len columns i
+holds_from s path ms plan supply n t len i gone more m columns column is carries at own all unchanged fills v within reads =
+    let c : Carriage = carriage_in s path plan i in
+    let line : ℕ → Bool = edited (c.edits n t) (m.line (below supply)) in
     let source : Source = source_of path ms supply in
     let r : Role = s.role (t + v) in
-    let bit_of : Mode → (ℕ → ℕ) → Bool = λ mode counts. let c = carriage mode s i counts in turned (s.inverted i) (edited (c.edits n (suc (t + v))) (line_of (slice_get ms i) (below supply)) (c.sent n + reads_below s i (c.more n) (t + v))) in
-    let same : more_in s source i n ≡ more = ap (λ (p : Plan). (carriage p.mode s i (p.counts path i)).more n) is ∙ ap (λ mode. (carriage mode s i counts).more n) plain ∙ sym carries in
+    let bit_of : Plan → Bool = λ p. let c = carriage_in s path p i in turned (s.inverted i) (edited (c.edits n (suc (t + v))) (line_of (slice_get ms i) (below supply)) (c.sent n + reads_below s i (c.more n) (t + v))) in
+    let same : more_in s source i n ≡ more = ap (λ (p : Plan). (carriage_in s path p i).more n) is ∙ sym carries in
     ap (λ l. slice_index_or l (row s t v) false) own ∙ elim (cases_Bool (reads_from i more r)) [
       | inl carried ↦
           let p : ℕ → Bool = λ x. reads_from i more (s.role x) in
           let k : ℕ = reads_below s i more (t + v) - reads_below s i more t in
           let number : reads_below s i more t + k ≡ reads_below s i more (t + v) = omega (arith, before_grows p t (t + v) (omega arith)) in
           let few : k < gone = omega (arith, all, number, before_less p (t + v) (t + len) carried (omega arith)) in
-          let there : read_before s i counts n t + k ≡ read_before s i counts n (t + v) = ap (λ b. sent s counts n + reads_below s i b t + k) (sym carries) ∙ omega (arith, number) ∙ ap (λ b. sent s counts n + reads_below s i b (t + v)) carries in
-          let bit : slot_bit s source n (t + v) r ≡ turned (s.inverted i) (line (read_before s i counts n (t + v))) =
-          read_is s source n (t + v) i r (ap (λ b. reads_from i b r) same ∙ carried) ∙ ap (λ (p : Plan). bit_of p.mode (p.counts path i)) is ∙ ap (λ mode. bit_of mode counts) plain
-          ∙ ap (λ o. turned (s.inverted i) (line_of o (below supply) (read_before s i counts n (t + v)))) at in
-          fills.carried v k within carried number ∙ ap (turned (s.inverted i)) (get_or-map-range_with_len line (read_before s i counts n t) gone k (read_before s i counts n (t + v)) false few there) ∙ sym bit
+          let place : ℕ = c.sent n + reads_below s i (c.more n) (t + v) in
+          let there : c.sent n + reads_below s i (c.more n) t + k ≡ place = ap (λ b. c.sent n + reads_below s i b t + k) (sym carries) ∙ omega (arith, number) ∙ ap (λ b. c.sent n + reads_below s i b (t + v)) carries in
+          let next : suc (t + v) ≡ t + suc v = omega arith in
+          let bit : slot_bit s source n (t + v) r ≡ turned (s.inverted i) (line place) =
+          read_is s source n (t + v) i r (ap (λ b. reads_from i b r) same ∙ carried) ∙ ap bit_of is
+          ∙ ap (λ o. turned (s.inverted i) (edited (c.edits n (suc (t + v))) (line_of o (below supply)) place)) at
+          ∙ ap (λ e. turned (s.inverted i) (edited e (m.line (below supply)) place)) (ap (c.edits n) next ∙ unchanged (suc v) (omega (arith, within))) in
+          fills.carried v k within carried number ∙ ap (turned (s.inverted i)) (get_or-map-range_with_len line (c.sent n + reads_below s i (c.more n) t) gone k place false few there) ∙ sym bit
       | inr spare ↦ fills.justified v within reads spare ∙ sym (spare_is s source n (t + v) i r reads (ap (λ b. reads_from i b r) same ∙ spare))
     ]
 
@@ -215,14 +219,14 @@ arrived_most s count t frame h =
 
 -- ---- one call after another
 
-pub upto_past : (f g : ℕ → ℕ) (i j : ℕ) → i ≤ j → up_to f g i j ≡ f j
+pub upto_past : {X : Type 0} (f g : ℕ → X) (i j : ℕ) → i ≤ j → up_to f g i j ≡ f j
 upto_past f g i j h = ap (λ b. cond b (g j) (f j)) (le-ltb j i h)
 
-pub upto_below : (f g : ℕ → ℕ) (i j : ℕ) → j < i → up_to f g i j ≡ g j
+pub upto_below : {X : Type 0} (f g : ℕ → X) (i j : ℕ) → j < i → up_to f g i j ≡ g j
 upto_below f g i j h = ap (λ b. cond b (g j) (f j)) (lt-ltb j i h)
 
 -- what tributaries before it took leaves the way of one clear
-pub clear_kept : {W : Type 0} (held : W → Supply → ℕ → ℕ → Type 0) (path : Path) (plan : Plan) (ms : List Meaning) (u v : List W) (f g p q : ℕ → ℕ) (a b : Inputs) (written : Source → Type 0) (i j to : ℕ) (m : Meaning) → IsDisjoint ms → i ≤ j → slice_get ms j ≡ Some m
+pub clear_kept : {W R : Type 0} (held : W → Supply → ℕ → R → Type 0) (path : Path) (plan : Plan) (ms : List Meaning) (u v : List W) (f g : ℕ → ℕ) (p q : ℕ → R) (a b : Inputs) (written : Source → Type 0) (i j to : ℕ) (m : Meaning) → IsDisjoint ms → i ≤ j → slice_get ms j ≡ Some m
     → Passes held path ms plan u v (up_to f g 0) (up_to f g i) p q a b written → IsClear m plan (f j) to a → IsClear m plan (f j) to b
 clear_kept held path plan ms u v f g p q a b written i j to m dis past at passes clear = record {
   size = clear.size;
@@ -234,9 +238,10 @@ clear_kept held path plan ms u v f g p q a b written i j to m dis past at passes
       let then : given_by ms plan (up_to f g i) k ≡ m.given plan (f j) k = given_at ms plan (up_to f g i) j k m dis at leaf ∙ ap (λ n. m.given plan n k) (upto_past f g i j past) in
       omega arith;
   clear = clear.clear;
+  no_slip = clear.no_slip;
 }
 
-pub stays_after : {W : Type 0} (held : W → Supply → ℕ → ℕ → Type 0) (path : Path) (plan : Plan) (ms : List Meaning) (u v : List W) (x y p q most : ℕ → ℕ) (stop : TxStop) (a b c : Inputs) (written : Source → Type 0)
+pub stays_after : {W R : Type 0} (held : W → Supply → ℕ → R → Type 0) (path : Path) (plan : Plan) (ms : List Meaning) (u v : List W) (x y : ℕ → ℕ) (p q : ℕ → R) (most : ℕ → ℕ) (stop : TxStop) (a b c : Inputs) (written : Source → Type 0)
     → Passes held path ms plan u v x y p q a b written → Stays ms plan y most stop b c → Stays ms plan x most stop a c
 stays_after held path plan ms u v x y p q most stop a b c written first second = record {
   given = λ k. first.given k ++ second.given k;
@@ -247,10 +252,11 @@ stays_after held path plan ms u v x y p q most stop a b c written first second =
 }
 
 -- and so of a piece
-pub passable_kept : {W : Type 0} (held : W → Supply → ℕ → ℕ → Type 0) (s : FrameShape) (plan : Plan) (at : Piece) (ms : List Meaning) (u v : List W) (p q : ℕ → ℕ) (a b : Inputs) (written : Source → Type 0) (i j : ℕ) (m : Meaning) → IsDisjoint ms → i ≤ j → slice_get ms j ≡ Some m
+pub passable_kept : {W R : Type 0} (held : W → Supply → ℕ → R → Type 0) (s : FrameShape) (plan : Plan) (at : Piece) (ms : List Meaning) (u v : List W) (p q : ℕ → R) (a b : Inputs) (written : Source → Type 0) (i j : ℕ) (m : Meaning) → IsDisjoint ms → i ≤ j → slice_get ms j ≡ Some m
     → Passes held at.path ms plan u v (made_through s plan at 0) (made_through s plan at i) p q a b written → CanPass s plan at j m a → CanPass s plan at j m b
 passable_kept held s plan at ms u v p q a b written i j m dis past here passes can = record {
   clear = clear_kept held at.path plan ms u v (came_at s at.path plan at.frame at.slot) (came_at s at.path plan at.frame (at.slot + at.len)) p q a b written i j _ m dis past here passes can.clear;
+  unchanged = can.unchanged;
   enough = can.enough;
   few = can.few;
 }

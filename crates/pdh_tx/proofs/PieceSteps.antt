@@ -17,7 +17,9 @@ use Rattle.pdh_tx.specs.declared.tx.TxStop.{TxStop}
 use Rattle.pdh_tx.specs.declared.tributary.FrameShare.{FrameShare}
 use Rattle.pdh_tx.specs.declared.tx.TxStop.TheVariants.{Failed}
 use Rattle.pdh_tx.specs.Meaning.{Meaning, Plan, Supply}
-use Rattle.pdh_tx.specs.Node.{below, source_of, any_leaf, given_by, carried_by, overhead_bit, came_to, read_at, taken_to, EachPlaced, EachHeld, IsDecided, Advance, Stays, came_at}
+use Rattle.pdh_tx.specs.Node.{below, source_of, any_leaf, given_by, carried_by, overhead_bit, came_to, taken_to, EachPlaced, EachHeld, IsDecided, Advance, Stays, came_at}
+use Rattle.pdh_tx.specs.Held.{Readout}
+use Rattle.pdh_tx.specs.Slipping.{read_to}
 use Rattle.pdh_runs.specs.Pieces.{overhead_before, Assembled}
 use Rattle.pdh_tx.specs.Passing.{up_to, HoldsBits, HoldsLine, HoldsOverhead, Passes}
 use Rattle.pdh_tx.specs.Stored.{MakesPiece}
@@ -62,23 +64,23 @@ not_carried shares (Align b) h = refl
 not_carried shares (ServiceSlot k) h = refl
 not_carried shares (Control k copy) h = refl
 
-module _ {W : Type 0} (placed : W → Plan → ℕ → ℕ → Type 0) (held : W → Supply → ℕ → ℕ → Type 0) (meaning : W → Meaning) (share : W → FrameShare) (s : FrameShape) (has : HasTributaries s) (path : Path) (plan : Plan) (n t u : ℕ) where
+module _ {W : Type 0} (placed : W → Plan → ℕ → Readout → Type 0) (held : W → Supply → ℕ → Readout → Type 0) (meaning : W → Meaning) (share : W → FrameShare) (s : FrameShape) (has : HasTributaries s) (path : Path) (plan : Plan) (n t u : ℕ) where
   abbrev f : ℕ → ℕ
   f = came_at s path plan n t
 
   abbrev f' : ℕ → ℕ
   f' = came_at s path plan n u
 
-  abbrev h : ℕ → ℕ
-  h = read_at s path plan n t
+  abbrev h : ℕ → Readout
+  h = read_to s path plan n t
 
-  abbrev h' : ℕ → ℕ
-  h' = read_at s path plan n u
+  abbrev h' : ℕ → Readout
+  h' = read_to s path plan n u
 
   pub came_first : came_to s path plan n t 0 ≡ up_to f f' 0
   came_first = fun_ext (λ j. ap (λ b. cond b (came_before s (plan.counts path j) n (suc t)) (came_before s (plan.counts path j) n t)) (le-ltb j 0 (omega arith)) ∙ sym (upto_past f f' 0 j (omega arith)))
 
-  pub read_first : read_at s path plan n t ≡ up_to h h' 0
+  pub read_first : read_to s path plan n t ≡ up_to h h' 0
   read_first = fun_ext (λ j. sym (upto_past h h' 0 j (omega arith)))
 
   -- each slot holds its bit
@@ -95,10 +97,10 @@ module _ {W : Type 0} (placed : W → Plan → ℕ → ℕ → Type 0) (held : W
   pub piece_makes : (ms : List Meaning) (old mid new : List W) (say : Service) (odd : Bool) (len : ℕ) (overhead bits : List Bool) (columns : List (List Bool)) (steps : (ℕ → ℕ) → List (Option TxStop)) (a b c : Inputs) → length ms ≡ s.tribs → length mid ≡ s.tribs → length new ≡ s.tribs → length bits ≡ len → t + len ≤ s.len
       → IsDecided share s path plan n mid → IsDecided share s path plan n new → n < plan.frames path → suc n < 2 ^ 64
       → HoldsOverhead s say odd (map share mid) t len overhead → Assembled s t len overhead columns bits
-      → Advance placed held ms plan old mid (taken_to s path plan n t) (came_to s path plan n t 0) (read_at s path plan n t) (read_at s path plan n t) steps a b
+      → Advance placed held ms plan old mid (taken_to s path plan n t) (came_to s path plan n t 0) (read_to s path plan n t) (read_to s path plan n t) steps a b
       → EachPlaced placed new plan (up_to f f' s.tribs) (up_to h h' s.tribs)
       → Passes held path ms plan mid new (up_to f f' 0) (up_to f f' s.tribs) (up_to h h' 0) (up_to h h' s.tribs) b c (λ source. HoldsBits s source n t len columns s.tribs)
-      → MakesPiece placed held share s path plan (read_at s path plan) ms old new n t u say odd bits a c
+      → MakesPiece placed held share s path plan (read_to s path plan) ms old new n t u say odd bits a c
   piece_makes ms old mid new say odd len overhead bits columns steps a b c ms_long mid_long new_long long most decided decided_new scheduled bounded over assembled advance place passes =
       let moves = advance.moves in
       let start : (k : ℕ) → given_by ms plan (came_to s path plan n t 0) k ≡ given_by ms plan (up_to f f' 0) k = λ k. ap (λ made. given_by ms plan made k) came_first in
@@ -117,7 +119,7 @@ module _ {W : Type 0} (placed : W → Plan → ℕ → ℕ → Type 0) (held : W
           made = λ j w e.
               let known : j < s.tribs = (let i = inside new j w e in omega arith) in
               let P : ℕ → Type 0 = λ x. placed w plan x (up_to h h' s.tribs j) in
-              let Q : ℕ → Type 0 = λ x. placed w plan (f' j) x in
+              let Q : Readout → Type 0 = λ x. placed w plan (f' j) x in
               subst Q (upto_below h h' s.tribs j known) (subst P (upto_below f f' s.tribs j known) (place j w e));
           decided = decided_new;
           scheduled = scheduled;
@@ -126,15 +128,15 @@ module _ {W : Type 0} (placed : W → Plan → ℕ → ℕ → Type 0) (held : W
         bounded = bounded;
         onward = λ supply is each said parity agrees.
             let here = moves.onward (below supply) is each (agrees_left (any_leaf ms) supply.lists (given_by ms plan (taken_to s path plan n t)) moves.given passes.given agrees) in
-            let P : (ℕ → ℕ) → Type 0 = λ made. EachHeld held mid (below supply) made (read_at s path plan n t) in
-            let Q : (ℕ → ℕ) → Type 0 = λ gone. EachHeld held mid (below supply) (up_to f f' 0) gone in
+            let P : (ℕ → ℕ) → Type 0 = λ made. EachHeld held mid (below supply) made (read_to s path plan n t) in
+            let Q : (ℕ → Readout) → Type 0 = λ gone. EachHeld held mid (below supply) (up_to f f' 0) gone in
             let there = passes.onward supply is (subst Q read_first (subst P came_first here))
             (agrees_right (any_leaf ms) supply.lists (given_by ms plan (taken_to s path plan n t)) (given_by ms plan (up_to f f' 0)) moves.given passes.given (λ k leaf. moves.exact k leaf ∙ start k) agrees) in (
               piece_line ms mid supply say odd len overhead bits columns mid_long long most is decided said parity over assembled there.1,
               λ j w e.
                   let known : j < s.tribs = (let i = inside new j w e in omega arith) in
                   let R : ℕ → Type 0 = λ x. held w (below supply) x (up_to h h' s.tribs j) in
-                  let T : ℕ → Type 0 = λ x. held w (below supply) (f' j) x in
+                  let T : Readout → Type 0 = λ x. held w (below supply) (f' j) x in
                   subst T (upto_below h h' s.tribs j known) (subst R (upto_below f f' s.tribs j known) (there.0 j w e)),
             );
       }

@@ -1,5 +1,5 @@
 -- Slots that surely meet nothing, by the stores of a multiplexer, by its children, and by its frames' being scheduled.
-use Rattle.std.proofs.Common.{◌≡◌, ℕ, suc, ◌+◌, ◌-◌, ◌*◌, ◌/◌, ◌%◌, ◌<◌, ◌≤◌, min, Bool, true, false, ◌&&◌, List, [], ◌∷◌, ◌++◌, length, cond, eqb, refl, sym, ap, ◌∙◌, subst, inl, inr, arith, Option, Some, None, slice_get}
+use Rattle.std.proofs.Common.{◌≡◌, ℕ, suc, ◌+◌, ◌-◌, ◌*◌, ◌/◌, ◌%◌, ◌<◌, ◌≤◌, min, Bool, true, false, ◌&&◌, List, [], ◌∷◌, ◌++◌, length, cond, eqb, refl, sym, ap, ◌∙◌, subst, inl, inr, arith, leb, Option, Some, None, slice_get}
 use Rattle.std.specs.List.{range_with_len}
 use Rattle.std.specs.Option.{option_map_or}
 use Rattle.std.proofs.lemmas.Bool.{cases_Bool, cases_lt, eqb-true, ltb-true}
@@ -12,34 +12,40 @@ use Rattle.pdh_shape.specs.declared.place.Level.{Level}
 use Rattle.pdh_shape.specs.declared.place.Path.{Path}
 use Rattle.pdh_shape.specs.Frame.{FrameShape, IsFrame}
 use Rattle.pdh_shape.specs.Tributary.{reads_from, reads_below}
-use Rattle.pdh_shape.specs.OwnNumbers.{lead}
+use Rattle.pdh_shape.specs.OwnNumbers.{lead, threshold}
 use Rattle.pdh_line.specs.Paths.{steps_of}
 use Rattle.pdh_line.specs.Progress.{arrived, came_by, by_stores}
 use Rattle.pdh_line.specs.Progress.Stores.{Elastic, Locked}
-use Rattle.pdh_line.specs.Sending.{HasStores, arrives_at, arrived_in, sent, sends_more, came_before, read_before, taken}
-use Rattle.pdh_line.specs.Events.{overflows, underflows}
-use Rattle.pdh_line.specs.Tolerance.{HoldsAt}
+use Rattle.pdh_line.specs.Edits.{Edit}
+use Rattle.pdh_line.specs.Sending.{HasStores, Mode, Carriage, arrives_at, arrived_in, came_before, taken}
+use Rattle.pdh_line.specs.Sending.Mode.{Plain, Slipping}
+use Rattle.pdh_line.specs.Events.{Kind, overflows, underflows, overflow_at, underflow_at, one_if}
 use Rattle.pdh_line.proofs.FrameBounds.{lt_of_mul}
 use Rattle.pdh_line.proofs.Ranges.{and_true}
 use Rattle.pdh_line.proofs.SameLines.{taken-grows}
-use Rattle.pdh_line.proofs.SendingLaws.{arrived-zero, sent-zero, came_before-first, came_before-start, came_before-next, came_before_grows, arrived-grows, read_before-start}
+use Rattle.pdh_line.proofs.SendingLaws.{came_before-first, came_before-start, came_before-next, came_before_grows, arrived-grows}
 use Rattle.pdh_levels.specs.Levels.{level_stores, stores_at, low_at, len_at}
 use Rattle.pdh_clock.specs.Begun.{taken as bits_taken}
 use Rattle.pdh_tx.specs.declared.tx.Tx.{Ghosts}
 use Rattle.pdh_tx.specs.declared.tx.TxStop.{TxStop}
 use Rattle.pdh_tx.specs.declared.tx.TxStop.TheVariants.{Overflow, Underflow}
 use Rattle.pdh_tx.specs.Meaning.{Plan, Meaning, IsNodeOf}
-use Rattle.pdh_tx.specs.Making.{IsFree}
-use Rattle.pdh_tx.specs.Held.{first_some, some_if, stops}
+use Rattle.pdh_slips.specs.declared.slip.Slip.{Slip}
+use Rattle.pdh_tx.specs.Making.{IsUneventful}
+use Rattle.pdh_tx.specs.Held.{first_some, some_if, stops, slips, slip_if, Readout, unslipped, gone_with, put_with}
+use Rattle.pdh_tx.specs.Slipping.{has_any, carriage_in, read_to, slips_over, slips_under}
+use Rattle.pdh_tx.specs.Quiet.{HoldsFrom, HasNoEvent}
 use Rattle.pdh_tx.specs.Tributary.{placed_in, held_in, meaning_in}
-use Rattle.pdh_tx.specs.Node.{node_frame, place_at, obstacle_of, lead_at, leads, beginning, arrival_at, arrivals, reads, steps, taken_to, read_at, IsDisjoint, AllFit}
+use Rattle.pdh_tx.specs.Node.{node_frame, place_at, obstacle_of, lead_at, leads, beginning, arrival_at, arrivals, reads, steps, taken_to, slips_below, lead_slips, leads_slips, beginning_slips, arrival_slips, arrivals_slips, read_slips, slot_slips, IsDisjoint, AllFit}
 use Rattle.pdh_tx.specs.laws.Stepping.{taken_is, taken_later, came_follows, following}
 use Rattle.pdh_tx.proofs.Firsts.{first_after, flat_none, map_none}
 use Rattle.pdh_tx.proofs.FrameStarts.{steps_inside, steps_later, steps_first, elastic_level, all_stores}
-use Rattle.pdh_tx.proofs.Gaining.{no_stop}
-use Rattle.pdh_tx.proofs.Lists.{get_at}
+use Rattle.pdh_tx.proofs.Lists.{get_at, flat_nothing}
 use Rattle.pdh_tx.proofs.Moving.{fit_one}
 use Rattle.pdh_tx.proofs.PassingAll.{came_grows}
+use Rattle.pdh_tx.proofs.QuietStores.{start_holds}
+use Rattle.pdh_tx.proofs.Readouts.{IsCount, none-by}
+use Rattle.pdh_tx.proofs.SlipSteps.{gone-more, put-more}
 
 -- ---- numbers
 
@@ -133,25 +139,39 @@ module _ (s : FrameShape) (path : Path) (levels : List Level) (stores : HasStore
 
 -- ---- the fill of a store at the start of the frame of the next bit
 
-module _ (s : FrameShape) (path : Path) (plan : Plan) (n t j : ℕ) (frame : IsFrame s) where
+module _ (s : FrameShape) (path : Path) (plan : Plan) (n t j : ℕ) (frame : IsFrame s) (stores : HasStores s) where
+  abbrev counts : ℕ → ℕ
+  counts = plan.counts path j
+
+  -- so many bits stand in the store
+  abbrev pub HoldsNow : ℕ → Type 0
+  HoldsNow fill = IsCount s j counts (read_to s path plan n t j) fill (taken_to s path plan n t j)
+
   -- before the first bit it's the lead
-  pub first_fill : n ≡ 0 → HoldsAt s (plan.counts path j) n lead
-  first_fill first = subst (λ m. HoldsAt s (plan.counts path j) m lead) (sym first) (omega (arith, sent-zero s (plan.counts path j), arrived-zero (plan.counts path j)))
+  pub first_fill : n ≡ 0 → t ≡ 0 → HoldsFrom plan.mode s j counts n t lead
+  first_fill first start =
+      let P : Readout → Type 0 = λ out. IsCount s j counts out lead (came_before s counts 0 0) in
+      let none : P (unslipped 0) = omega (arith, came_before-first s counts frame) in
+      subst (λ m. HoldsFrom plan.mode s j counts m t lead) (sym first) (subst (λ u. HoldsFrom plan.mode s j counts 0 u lead) (sym start)
+      (start_holds s j counts plan.mode 0 lead frame stores (subst P (sym (none-by s j counts plan.mode stores)) none)))
 
   -- at another frame's start it's what the store holds
-  pub frame_fill : (fill : ℕ) → t ≡ 0 → 0 < n + t → read_at s path plan n t j + fill ≡ taken_to s path plan n t j → HoldsAt s (plan.counts path j) n fill
+  pub frame_fill : (fill : ℕ) → t ≡ 0 → 0 < n + t → HoldsNow fill → HoldsFrom plan.mode s j counts n t fill
   frame_fill fill start some held =
-      let came : taken_to s path plan n t j ≡ lead + arrived (plan.counts path j) n =
-      taken_later s path plan n t j some ∙ ap (came_before s (plan.counts path j) n) start ∙ came_before-start s (plan.counts path j) n frame in
-      let read : read_at s path plan n t j ≡ sent s (plan.counts path j) n = ap (read_before s j (plan.counts path j) n) start ∙ read_before-start s j (plan.counts path j) n in
-      omega (arith, came, read, held)
+      let P : ℕ → Type 0 = λ u. IsCount s j counts (read_to s path plan n u j) fill (came_before s counts n u) in
+      let here : P t = held ∙ ap (put_with (read_to s path plan n t j).edits) (taken_later s path plan n t j some) in
+      subst (λ u. HoldsFrom plan.mode s j counts n u fill) (sym start) (start_holds s j counts plan.mode n fill frame stores (subst P start here))
 
   -- inside a frame it's what the store would hold, had the frame brought and carried nothing
-  pub slot_fill : (fill carried arrived : ℕ) → 0 < t → read_at s path plan n t j + fill ≡ taken_to s path plan n t j → carried ≡ reads_below s j (sends_more s (plan.counts path j) n) t → arrived ≡ arrived_in s (plan.counts path j n) t
-      → 0 < fill + carried - arrived → HoldsAt s (plan.counts path j) n (fill + carried - arrived)
-  slot_fill fill carried arrived inside held reads arrives some =
-      let came = taken_later s path plan n t j (omega (arith, inside)) in
-      omega (arith, came, held, reads, arrives, some)
+  pub slot_fill : (fill carried arrived : ℕ) → 0 < t → HoldsNow fill → carried ≡ reads_below s j ((carriage_in s path plan j).more n) t → arrived ≡ arrived_in s (counts n) t
+      → 0 < fill + carried - arrived → leb threshold (fill + carried - arrived) ≡ (carriage_in s path plan j).more n → HoldsFrom plan.mode s j counts n t (fill + carried - arrived)
+  slot_fill fill carried arrives inside held reads comes some more =
+      let c : Carriage = carriage_in s path plan j in
+      let E : List Edit = c.edits n t in
+      let came : put_with E (taken_to s path plan n t j) ≡ put_with E (lead + arrived counts n) + arrived_in s (counts n) t =
+      ap (put_with E) (taken_later s path plan n t j (omega (arith, inside))) ∙ put-more E (lead + arrived counts n) (arrived_in s (counts n) t) in
+      let gone : gone_with E (c.sent n + reads_below s j (c.more n) t) ≡ gone_with E (c.sent n) + reads_below s j (c.more n) t = gone-more E (c.sent n) (reads_below s j (c.more n) t) in
+      record { held = omega (arith, came, gone, held, reads, comes, some); more = more }
 
 -- ---- no slot meets anything
 
@@ -183,12 +203,25 @@ came_later s counts n t m u frame within later from = elim (cases_lt n m) [
 
 -- what the store and the child of tributary j tell of the bits from slot t of frame n up to so many
 pub record MeetsNone (s : FrameShape) (path : Path) (plan : Plan) (j : ℕ) (m : Meaning) (n t end : ℕ) (inputs : Inputs) : Type 0 where
-  pub events : (k u : ℕ) → u < s.len → n * s.len + t ≤ k * s.len + u → k * s.len + u < end → (overflows s j (plan.counts path j) k u ≡ false) × (underflows s j (plan.counts path j) k u ≡ false)
-  pub free : IsFree m plan (taken_to s path plan n t j) (taken s (plan.counts path j) end) inputs
+  pub events : (k u : ℕ) → u < s.len → n * s.len + t ≤ k * s.len + u → k * s.len + u < end → HasNoEvent s path plan j k u
+  pub free : IsUneventful m plan (taken_to s path plan n t j) (taken s (plan.counts path j) end) inputs
+
+one_off : {X : Type 0} (b : Bool) (x : X) → one_if b x ≡ [] → b ≡ false
+one_off true x h = absurd (cc h)
+one_off false x h = refl
+
+module _ (s : FrameShape) (path : List ℕ) (j : ℕ) (counts : ℕ → ℕ) (m u : ℕ) where
+  -- a slot without an event doesn't end a line and brings no slip
+  not_over : (mode : Mode) → overflow_at mode s path j counts m u ≡ [] → (stops mode (overflows s j counts m u) ≡ false) × (slips mode (has_any (overflow_at Slipping s path j counts m u)) ≡ false)
+  not_over Plain none = (one_off (overflows s j counts m u) (record { kind = Kind.Overflow; path = path; trib = j; frame = m; slot = u }) none, refl)
+  not_over Slipping none = (refl, ap has_any none)
+
+  not_under : (mode : Mode) → underflow_at mode s path j counts m u ≡ [] → (stops mode (underflows s j counts m u) ≡ false) × (slips mode (has_any (underflow_at Slipping s path j counts m u)) ≡ false)
+  not_under Plain none = (one_off (underflows s j counts m u) (record { kind = Kind.Underflow; path = path; trib = j; frame = m; slot = u }) none, refl)
+  not_under Slipping none = (refl, ap has_any none)
 
 module _ {C : Type 0} (tx : Ghosts C) (s : FrameShape) (frame : IsFrame s) (path : Path) (plan : Plan) (ms : List Meaning) (long : length ms ≡ s.tribs) (dis : IsDisjoint ms)
     (n t end : ℕ) (inside : t < s.len) (scheduled : end ≤ plan.frames path * s.len) (a : Inputs) (quiet : (j : ℕ) (m : Meaning) → slice_get ms j ≡ Some m → MeetsNone s path plan j m n t end a)
-    (size : ℕ → ℕ) (fit : AllFit ms plan (taken_to s path plan n t) a size)
     (m u : ℕ) (slot : u < s.len) (from : n * s.len + t ≤ m * s.len + u) (to : m * s.len + u < end) where
   later : n ≤ m
   later = elim (cases_lt m n) [
@@ -199,19 +232,12 @@ module _ {C : Type 0} (tx : Ghosts C) (s : FrameShape) (frame : IsFrame s) (path
   before : m < plan.frames path
   before = lt_of_mul m (plan.frames path) s.len (omega (arith, to, scheduled))
 
-  events : (j : ℕ) → j < s.tribs → (overflows s j (plan.counts path j) m u ≡ false) × (underflows s j (plan.counts path j) m u ≡ false)
+  events : (j : ℕ) → j < s.tribs → HasNoEvent s path plan j m u
   events j known =
       let at = get_at ms j (omega (arith, known, long)) in
       (quiet j at.0 at.1).events m u slot from to
 
-  -- a child's bits up to those that the slots bring
-  child_free : (j y : ℕ) → j < s.tribs → taken_to s path plan n t j ≤ y → y < taken s (plan.counts path j) end → obstacle_of (slice_get ms j) plan size y ≡ None
-  child_free j y known first last =
-      let at = get_at ms j (omega (arith, known, long)) in
-      ap (λ o. obstacle_of o plan size y) at.1
-      ∙ (quiet j at.0 at.1).free size (fit_one (held_in tx) (meaning_in tx) plan ms j at.0 (taken_to s path plan n t) a size dis at.1 fit) y first last
-
-  -- the bits that have come by the slot's end are among them
+  -- the bits that have come by the slot's end are among those that the slots bring
   came_upto : (j : ℕ) → came_before s (plan.counts path j) m (suc u) ≤ taken s (plan.counts path j) end
   came_upto j =
       let next = following s m u slot in
@@ -220,62 +246,114 @@ module _ {C : Type 0} (tx : Ghosts C) (s : FrameShape) (frame : IsFrame s) (path
       came_follows s m u next.0 next.1 next.2 path plan j frame ∙ sym (taken_is s next.0 next.1 (suc (m * s.len + u)) place next.2.inside path plan j) in
       omega (arith, came, taken-grows s (plan.counts path j) (suc (m * s.len + u)) end frame to)
 
-  -- ---- the beginning
-
-  leads_free : m ≡ 0 → u ≡ 0 → first_some (leads s plan ms size) ≡ None
-  leads_free first start =
-      let n_is : n ≡ 0 = omega (arith, later, first) in
-      let none : m * s.len ≡ 0 = ap (λ v. v * s.len) first ∙ omega arith in
-      let t_is : t ≡ 0 = omega (arith, from, none, start) in
-      flat_none (lead_at plan ms size) 0 s.tribs
-      (λ j l h. map_none (obstacle_of (slice_get ms j) plan size) 0 lead
-      (λ i l' h'.
-      let none_taken : taken_to s path plan n t j ≡ 0 = ap (λ v. taken_to s path plan v t j) n_is ∙ ap (λ v. taken_to s path plan 0 v j) t_is in
-      let here : came_before s (plan.counts path j) m u ≡ lead = ap (λ v. came_before s (plan.counts path j) v u) first ∙ ap (came_before s (plan.counts path j) 0) start ∙ came_before-first s (plan.counts path j) frame in
-      child_free j i (omega (arith, h)) (omega (arith, none_taken)) (omega (arith, h', here, came_before_grows s (plan.counts path j) m u frame, came_upto j))))
-
-  beginning_free : first_some (beginning s path plan ms size m u) ≡ None
-  beginning_free = elim (cases_lt 0 u) [
-    | inl within ↦ ap first_some (steps_inside (placed_in tx) (held_in tx) (meaning_in tx) plan s path ms size m u within)
-    | inr none ↦
-        let start : u ≡ 0 = omega (arith, none) in
-        ap (λ v. first_some (beginning s path plan ms size m v)) start
-        ∙ elim (cases_lt 0 m) [
-          | inl some ↦ steps_later (placed_in tx) (held_in tx) (meaning_in tx) plan s path ms size m before some
-          | inr none' ↦
-              let first : m ≡ 0 = omega (arith, none') in
-              steps_first (placed_in tx) (held_in tx) (meaning_in tx) plan s path ms size m before first ∙ leads_free first start
-        ]
-  ]
-
-  -- ---- the arrivals
-
-  -- the bit that arrives is one of those that the slots bring
+  -- so is the bit that arrives
   bit_first : (j : ℕ) → taken_to s path plan n t j ≤ came_before s (plan.counts path j) m u
   bit_first j = omega (arith, taken_ahead s path plan n t j frame, came_later s (plan.counts path j) n t m u frame (omega (arith, inside)) later from)
 
   bit_last : (j : ℕ) → arrives_at s (plan.counts path j m) u ≡ true → came_before s (plan.counts path j) m u < taken s (plan.counts path j) end
   bit_last j is = omega (arith, came_upto j, ltb-true (arrived_in s (plan.counts path j m) u) (arrived_in s (plan.counts path j m) (suc u)) is)
 
-  arrival_free : (j : ℕ) → j < s.tribs → first_some (arrival_at s path plan ms size m u j) ≡ None
-  arrival_free j known =
-      let o : Option TxStop = obstacle_of (slice_get ms j) plan size (came_before s (plan.counts path j) m u) in
-      let p : Bool → Option TxStop = λ b. some_if (stops plan.mode b) (Overflow (place_at path j m u)) in
-      let full : Bool = overflows s j (plan.counts path j) m u in
+  -- and those of the lead in the first slot
+  module _ (first : m ≡ 0) (start : u ≡ 0) (j i : ℕ) (led : i < lead) where
+    lead_first : taken_to s path plan n t j ≤ i
+    lead_first =
+        let n_is : n ≡ 0 = omega (arith, later, first) in
+        let none : m * s.len ≡ 0 = ap (λ v. v * s.len) first ∙ omega arith in
+        let t_is : t ≡ 0 = omega (arith, from, none, start) in
+        let none_taken : taken_to s path plan n t j ≡ 0 = ap (λ v. taken_to s path plan v t j) n_is ∙ ap (λ v. taken_to s path plan 0 v j) t_is in
+        omega (arith, none_taken)
+
+    lead_last : i < taken s (plan.counts path j) end
+    lead_last =
+        let here : came_before s (plan.counts path j) m u ≡ lead = ap (λ v. came_before s (plan.counts path j) v u) first ∙ ap (came_before s (plan.counts path j) 0) start ∙ came_before-first s (plan.counts path j) frame in
+        omega (arith, led, here, came_before_grows s (plan.counts path j) m u frame, came_upto j)
+
+  -- ---- nothing stands in its way
+
+  module _ (size : ℕ → ℕ) (fit : AllFit ms plan (taken_to s path plan n t) a size) where
+    -- a child's bits up to those that the slots bring
+    child_free : (j y : ℕ) → j < s.tribs → taken_to s path plan n t j ≤ y → y < taken s (plan.counts path j) end → obstacle_of (slice_get ms j) plan size y ≡ None
+    child_free j y known first last =
+        let at = get_at ms j (omega (arith, known, long)) in
+        ap (λ o. obstacle_of o plan size y) at.1
+        ∙ (quiet j at.0 at.1).free.free size (fit_one (held_in tx) (meaning_in tx) plan ms j at.0 (taken_to s path plan n t) a size dis at.1 fit) y first last
+
+    leads_free : m ≡ 0 → u ≡ 0 → first_some (leads s plan ms size) ≡ None
+    leads_free first start =
+        flat_none (lead_at plan ms size) 0 s.tribs
+        (λ j l h. map_none (obstacle_of (slice_get ms j) plan size) 0 lead
+        (λ i l' h'. child_free j i (omega (arith, h)) (lead_first first start j i (omega (arith, h'))) (lead_last first start j i (omega (arith, h')))))
+
+    beginning_free : first_some (beginning s path plan ms size m u) ≡ None
+    beginning_free = elim (cases_lt 0 u) [
+      | inl within ↦ ap first_some (steps_inside (placed_in tx) (held_in tx) (meaning_in tx) plan s path ms size m u within)
+      | inr none ↦
+          let start : u ≡ 0 = omega (arith, none) in
+          ap (λ v. first_some (beginning s path plan ms size m v)) start
+          ∙ elim (cases_lt 0 m) [
+            | inl some ↦ steps_later (placed_in tx) (held_in tx) (meaning_in tx) plan s path ms size m before some
+            | inr none' ↦
+                let first : m ≡ 0 = omega (arith, none') in
+                steps_first (placed_in tx) (held_in tx) (meaning_in tx) plan s path ms size m before first ∙ leads_free first start
+          ]
+    ]
+
+    arrival_free : (j : ℕ) → j < s.tribs → first_some (arrival_at s path plan ms size m u j) ≡ None
+    arrival_free j known =
+        let o : Option TxStop = obstacle_of (slice_get ms j) plan size (came_before s (plan.counts path j) m u) in
+        let p : Bool → Option TxStop = λ b. some_if b (Overflow (place_at path j m u)) in
+        let full : Bool = stops plan.mode (overflows s j (plan.counts path j) m u) in
+        elim (cases_Bool (arrives_at s (plan.counts path j m) u)) [
+          | inl is ↦
+              ap (λ b. first_some (cond b (o ∷ p full ∷ []) [])) is
+              ∙ ap (λ v. first_some (v ∷ p full ∷ [])) (child_free j (came_before s (plan.counts path j) m u) known (bit_first j) (bit_last j is))
+              ∙ ap (λ b. first_some (p b ∷ [])) (not_over s (steps_of path) j (plan.counts path j) m u plan.mode (events j known).0).0
+          | inr none ↦ ap (λ b. first_some (cond b (o ∷ p full ∷ []) [])) none
+        ]
+
+    pub slot_free : first_some (steps s path plan ms size m u) ≡ None
+    slot_free =
+        first_after (beginning s path plan ms size m u) (arrivals s path plan ms size m u ++ reads s path plan m u) beginning_free
+        ∙ first_after (arrivals s path plan ms size m u) (reads s path plan m u) (flat_none (arrival_at s path plan ms size m u) 0 s.tribs (λ j l h. arrival_free j (omega (arith, h))))
+        ∙ map_none (λ j. some_if (stops plan.mode (underflows s j (plan.counts path j) m u)) (Underflow (place_at path j m u))) 0 s.tribs
+        (λ j l h. ap (λ b. some_if b (Underflow (place_at path j m u))) (not_under s (steps_of path) j (plan.counts path j) m u plan.mode (events j (omega (arith, h))).1).0)
+
+  -- ---- and it brings no slip
+
+  child_quiet : (j y : ℕ) → j < s.tribs → taken_to s path plan n t j ≤ y → y < taken s (plan.counts path j) end → slips_below (slice_get ms j) plan y ≡ []
+  child_quiet j y known first last =
+      let at = get_at ms j (omega (arith, known, long)) in
+      ap (λ o. slips_below o plan y) at.1 ∙ (quiet j at.0 at.1).free.no_slip y first last
+
+  leads_quiet : m ≡ 0 → u ≡ 0 → leads_slips s plan ms ≡ []
+  leads_quiet first start =
+      flat_nothing (lead_slips plan ms) 0 s.tribs
+      (λ j l h. flat_nothing (slips_below (slice_get ms j) plan) 0 lead
+      (λ i l' h'. child_quiet j i (omega (arith, h)) (lead_first first start j i (omega (arith, h'))) (lead_last first start j i (omega (arith, h')))))
+
+  beginning_quiet : beginning_slips s plan ms m u ≡ []
+  beginning_quiet = go (eqb u 0) (eqb m 0) (eqb-true u 0) (eqb-true m 0)
+    where
+      go : (b c : Bool) → (b ≡ true → u ≡ 0) → (c ≡ true → m ≡ 0) → cond b (cond c (leads_slips s plan ms) []) [] ≡ []
+      go true true start first = leads_quiet (first refl) (start refl)
+      go true false start first = refl
+      go false c start first = refl
+
+  arrival_quiet : (j : ℕ) → j < s.tribs → arrival_slips s path plan ms m u j ≡ []
+  arrival_quiet j known =
+      let o : List Slip = slips_below (slice_get ms j) plan (came_before s (plan.counts path j) m u) in
+      let p : Bool → List Slip = λ b. slip_if b true (place_at path j m u) in
+      let full : Bool = slips_over s path plan m u j in
       elim (cases_Bool (arrives_at s (plan.counts path j m) u)) [
         | inl is ↦
-            ap (λ b. first_some (cond b (o ∷ p full ∷ []) [])) is
-            ∙ ap (λ v. first_some (v ∷ p full ∷ [])) (child_free j (came_before s (plan.counts path j) m u) known (bit_first j) (bit_last j is))
-            ∙ ap (λ b. first_some (p b ∷ [])) (events j known).0
-            ∙ ap (λ b. first_some (some_if b (Overflow (place_at path j m u)) ∷ [])) (no_stop plan.mode false refl)
-        | inr none ↦ ap (λ b. first_some (cond b (o ∷ p full ∷ []) [])) none
+            ap (λ b. cond b (o ++ p full) []) is ∙ ap (λ l. l ++ p full) (child_quiet j (came_before s (plan.counts path j) m u) known (bit_first j) (bit_last j is))
+            ∙ ap p (not_over s (steps_of path) j (plan.counts path j) m u plan.mode (events j known).0).1
+        | inr none ↦ ap (λ b. cond b (o ++ p full) []) none
       ]
 
-  -- ---- the whole slot
-
-  pub slot_free : first_some (steps s path plan ms size m u) ≡ None
-  slot_free =
-      first_after (beginning s path plan ms size m u) (arrivals s path plan ms size m u ++ reads s path plan m u) beginning_free
-      ∙ first_after (arrivals s path plan ms size m u) (reads s path plan m u) (flat_none (arrival_at s path plan ms size m u) 0 s.tribs (λ j l h. arrival_free j (omega (arith, h))))
-      ∙ map_none (λ j. some_if (stops plan.mode (underflows s j (plan.counts path j) m u)) (Underflow (place_at path j m u))) 0 s.tribs
-      (λ j l h. ap (λ b. some_if b (Underflow (place_at path j m u))) (no_stop plan.mode (underflows s j (plan.counts path j) m u) (events j (omega (arith, h))).1))
+  pub slot_quiet : slot_slips s path plan ms m u ≡ []
+  slot_quiet =
+      ap (λ l. l ++ (arrivals_slips s path plan ms m u ++ read_slips s path plan m u)) beginning_quiet
+      ∙ ap (λ l. l ++ read_slips s path plan m u) (flat_nothing (arrival_slips s path plan ms m u) 0 s.tribs (λ j l h. arrival_quiet j (omega (arith, h))))
+      ∙ flat_nothing (λ j. slip_if (slips_under s path plan m u j) false (place_at path j m u)) 0 s.tribs
+      (λ j l h. ap (λ b. slip_if b false (place_at path j m u)) (not_under s (steps_of path) j (plan.counts path j) m u plan.mode (events j (omega (arith, h))).1).1)

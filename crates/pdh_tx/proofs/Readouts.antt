@@ -6,11 +6,11 @@ use Rattle.pdh_shape.specs.Frame.{FrameShape, IsFrame}
 use Rattle.pdh_shape.specs.Tributary.{reads_from, reads_below}
 use Rattle.pdh_shape.specs.OwnNumbers.{threshold, store_size}
 use Rattle.pdh_line.specs.Edits.{Edit}
-use Rattle.pdh_line.specs.Events.{overflow_at, underflow_at}
+use Rattle.pdh_line.specs.Events.{overflows, underflows, overflow_at, underflow_at}
 use Rattle.pdh_line.specs.Sending.{HasStores, Mode, arrives_at, came_before, read_before, carriage, Start, start_of, carries_at, edits_to}
 use Rattle.pdh_line.specs.Sending.Mode.{Plain, Slipping}
 use Rattle.pdh_line.proofs.SendingLaws.{sent-zero, sends_more-fill, reads_below-suc, read_before-start, read_before-suc, came_before-start, came_before_grows}
-use Rattle.pdh_tx.specs.Held.{slips, Readout, unslipped, with_read, with_slip, gone_with, put_with}
+use Rattle.pdh_tx.specs.Held.{stops, slips, Readout, unslipped, with_read, with_slip, gone_with, put_with}
 use Rattle.pdh_tx.specs.Slipping.{has_any, is_full, is_empty}
 use Rattle.pdh_tx.specs.laws.Carrying.{readout as readout_of}
 use Rattle.pdh_tx.proofs.SlipSteps.{gone-append, put-append}
@@ -29,17 +29,18 @@ empty_same gone put (suc held) count = ne_eqb (suc held) 0 (λ none. absurd (ome
 
 module _ (s : FrameShape) (j : ℕ) (counts : ℕ → ℕ) where
   -- by the mode
-  abbrev readout : Mode → ℕ → ℕ → Readout
+  abbrev pub readout : Mode → ℕ → ℕ → Readout
   readout mode n t = readout_of s j counts mode n t
 
   -- a bit arrives in slot t of frame n at a full store
-  abbrev overs : Mode → ℕ → ℕ → Bool
+  abbrev pub overs : Mode → ℕ → ℕ → Bool
   overs mode n t = arrives_at s (counts n) t && is_full (readout mode n t) (came_before s counts n t)
 
   abbrev pub arrived_out : Mode → ℕ → ℕ → Readout
   arrived_out mode n t = with_slip (slips mode (overs mode n t)) true (readout mode n t)
 
-  abbrev unders : Mode → ℕ → ℕ → Bool
+  -- slot t of frame n reads an empty store
+  abbrev pub unders : Mode → ℕ → ℕ → Bool
   unders mode n t = not (overs mode n t) && (reads_from j ((carriage mode s j counts).more n) (s.role t) && is_empty (readout mode n t) (came_before s counts n (suc t)))
 
   -- where a store holds so many bits with this, of which so many came
@@ -187,6 +188,29 @@ module _ (s : FrameShape) (j : ℕ) (counts : ℕ → ℕ) where
       ap (λ (r : ℕ). record { read = r; edits = out.edits }) same
       ∙ next-with n t 0 false stores (sym (reads_below-suc s j (more n) t ∙ ap (λ b. reads_below s j (more n) t + cond b 1 0) none))
       (λ o. refl) (λ o. sym (ap (λ b. b && is_empty (readout Slipping n t) (came_before s counts n (suc t))) none))
+
+  -- ---- a slot without an event
+
+  pub over-off : (mode : Mode) (path : List ℕ) (n t : ℕ) → HasStores s → stops mode (overflows s j counts n t) ≡ false → slips mode (has_any (overflow_at Slipping s path j counts n t)) ≡ false → overs mode n t ≡ false
+  over-off Plain path n t stores plain none = plain
+  over-off Slipping path n t stores plain none = sym (over-told Slipping path n t stores) ∙ none
+
+  pub under-off : (mode : Mode) (path : List ℕ) (n t : ℕ) → HasStores s → overs mode n t ≡ false → stops mode (underflows s j counts n t) ≡ false → slips mode (has_any (underflow_at Slipping s path j counts n t)) ≡ false
+      → unders mode n t ≡ false
+  under-off Plain path n t stores full plain none =
+      ap (λ b. not b && (reads_from j ((carriage Plain s j counts).more n) (s.role t) && is_empty (readout Plain n t) (came_before s counts n (suc t)))) full ∙ plain
+  under-off Slipping path n t stores full plain none = sym (under-told Slipping path n t stores) ∙ none
+
+  -- it changes no edits
+  pub calm-by : (mode : Mode) (n t : ℕ) → HasStores s → overs mode n t ≡ false → unders mode n t ≡ false → (carriage mode s j counts).edits n (suc t) ≡ (carriage mode s j counts).edits n t
+  calm-by Plain n t stores full none = refl
+  calm-by Slipping n t stores full none =
+      let E : List Edit = edits_to s j counts n t in
+      let u : Bool = is_empty (readout Slipping n t) (came_before s counts n (suc t)) in
+      let v : Bool = reads_from j (more n) (s.role t) && u in
+      let read : v ≡ false = sym (ap (λ b. not b && v) full) ∙ none in
+      edits-next s j counts stores n t ∙ ap (λ o. E ++ map (as_edit s j counts stores n) (slip_with s j counts stores n t o u)) full
+      ∙ ap (λ b. E ++ map (as_edit s j counts stores n) (cond b (record { over = false; slot = t; reads = reads_below s j (more n) t } ∷ []) [])) read ∙ append-nil E
 
   -- ---- a decision
 

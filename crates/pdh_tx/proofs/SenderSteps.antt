@@ -1,6 +1,6 @@
 -- The line of a multiplexer, from the bits that its tributaries gave.
 use mathlib.Core.Path.{fun_ext}
-use Rattle.std.proofs.Common.{◌≡◌, ℕ, suc, ◌+◌, ◌*◌, ◌/◌, ◌%◌, ◌<◌, ◌≤◌, Bool, true, false, List, [], ◌∷◌, length, cond, eqb, refl, sym, ap, ◌∙◌, subst, arith, Option, None}
+use Rattle.std.proofs.Common.{◌≡◌, ℕ, suc, ◌+◌, ◌*◌, ◌/◌, ◌%◌, ◌<◌, ◌≤◌, Bool, true, false, List, [], ◌∷◌, length, cond, eqb, refl, sym, ap, ◌∙◌, subst, arith, Option}
 use Rattle.std.proofs.lemmas.Nat.{div-add-mod', mod_below}
 use Rattle.pdh_edge.specs.Ports.{Inputs}
 use Rattle.pdh_shape.specs.declared.place.Path.{Path}
@@ -12,16 +12,23 @@ use Rattle.pdh_tx.specs.declared.tx.TxStop.{TxStop}
 use Rattle.pdh_tx.specs.declared.position.Position.{Position}
 use Rattle.pdh_tx.specs.Meaning.{Meaning, Plan, Supply, Makes, Stops}
 use Rattle.pdh_tx.specs.Held.{Halts, first_some}
-use Rattle.pdh_tx.specs.Making.{IsClear, IsFree, MakesAll}
+use Rattle.pdh_tx.specs.Making.{IsClear, IsUneventful, MakesAll}
 use Rattle.pdh_tx.specs.Node.{source_of, given_by, odd_within, AllFit, Blocked, Stays}
 use Rattle.pdh_tx.specs.NodeState.{HasParity, KeepsParity}
-use Rattle.pdh_tx.specs.Body.{Kind, IsKind, sender_meaning, SlotsClear, SlotFree, GivesSlots, SenderAt, SenderFor}
+use Rattle.pdh_tx.specs.Body.{Kind, IsKind, sender_meaning, SlotsClear, IsOneOf, AreSlotsFree, SlotFree, GivesSlots, SenderAt, SenderFor}
 use Rattle.pdh_tx.specs.Follows.{Follows}
 use Rattle.pdh_tx.specs.Passing.{HoldsLine}
 use Rattle.pdh_tx.specs.laws.Stepping.{frame_is, slot_is, following}
 use Rattle.pdh_tx.proofs.Moving.{inside, given_same}
 use Rattle.pdh_tx.proofs.NodePieces.{part_of}
 use Rattle.pdh_tx.proofs.Saying.{says_in}
+
+-- no slots meet nothing
+pub none_asked : (kind : Kind) (s : FrameShape) (ms : List Meaning) (path : Path) (plan : Plan) (n t : ℕ) (a : Inputs) → AreSlotsFree kind s ms path plan n t 0 a
+none_asked kind s ms path plan n t a = record {
+  free = λ size fit m u one. absurd (omega (arith, one.from, one.to));
+  no_slip = λ m u one. absurd (omega (arith, one.from, one.to));
+}
 
 module _ (s : FrameShape) (kind : Kind) (is_kind : IsKind s kind) (path : Path) (plan : Plan) (ms : List Meaning) (long : length ms ≡ s.tribs) where
   abbrev by : ℕ → ℕ → ℕ
@@ -38,6 +45,10 @@ module _ (s : FrameShape) (kind : Kind) (is_kind : IsKind s kind) (path : Path) 
 
     obstacle_is : (size : ℕ → ℕ) → (sender_meaning s kind path ms).obstacle plan size x ≡ first_some (steps size n t)
     obstacle_is size = ap (λ q. first_some (steps size q (x % s.len))) (frame_is s n t x place within) ∙ ap (λ r. first_some (steps size n r)) (slot_is s n t x place within)
+
+    -- the slips in making its bit
+    slips_is : (sender_meaning s kind path ms).slips plan x ≡ kind.slips path plan ms n t
+    slips_is = ap (λ q. kind.slips path plan ms q (x % s.len)) (frame_is s n t x place within) ∙ ap (kind.slips path plan ms n) (slot_is s n t x place within)
 
     -- and after the slot
     by_next : (k : ℕ) → given_by ms plan (by (suc x)) k ≡ given_by ms plan (kind.came path plan n (suc t)) k
@@ -66,7 +77,7 @@ module _ (s : FrameShape) (kind : Kind) (is_kind : IsKind s kind) (path : Path) 
     -- ---- the slips in making its bit
 
     pub sender_slips : (sender_meaning s kind path ms).slips plan x ≡ kind.slips path plan ms at.frame at.slot
-    sender_slips = ap (λ n. kind.slips path plan ms n (x % s.len)) (frame_is s at.frame at.slot x was.place was.inside) ∙ ap (kind.slips path plan ms at.frame) (slot_is s at.frame at.slot x was.place was.inside)
+    sender_slips = slips_is at.frame at.slot x was.place was.inside
 
     -- ---- it stopped
 
@@ -100,23 +111,29 @@ module _ (s : FrameShape) (kind : Kind) (is_kind : IsKind s kind) (path : Path) 
       used_up = stays.used_up;
     }
 
-    pub sender_clear : (len : ℕ) (a : Inputs) → at.slot + len ≤ s.len → IsClear (sender_meaning s kind path ms) plan x (x + len) a → SlotsClear (λ size. steps size at.frame) ms plan taken at.slot len a
+    pub sender_clear : (len : ℕ) (a : Inputs) → at.slot + len ≤ s.len → IsClear (sender_meaning s kind path ms) plan x (x + len) a → SlotsClear (λ size. steps size at.frame) (kind.slips path plan ms at.frame) ms plan taken at.slot len a
     sender_clear len a within clear = record {
       size = clear.size;
       fits = fit_now at.frame at.slot x was.place was.inside a clear.size clear.fits;
       clear = λ v h.
           let place : at.frame * s.len + (at.slot + v) ≡ x + v = (let p = was.place in omega arith) in
           sym (obstacle_is at.frame (at.slot + v) (x + v) place (omega arith) clear.size) ∙ clear.clear (x + v) (omega arith) (omega arith);
+      no_slip = λ v h.
+          let place : at.frame * s.len + (at.slot + v) ≡ x + v = (let p = was.place in omega arith) in
+          sym (slips_is at.frame (at.slot + v) (x + v) place (omega arith)) ∙ clear.no_slip (x + v) (omega arith) (omega arith);
     }
 
-    pub sender_free : (count : ℕ) (a : Inputs)
-        → ((size : ℕ → ℕ) → AllFit ms plan taken a size → (m u : ℕ) → u < s.len → at.frame * s.len + at.slot ≤ m * s.len + u → m * s.len + u < at.frame * s.len + at.slot + count → first_some (steps size m u) ≡ None)
-        → IsFree (sender_meaning s kind path ms) plan x (x + count) a
-    sender_free count a free size fit y from to =
-        let whole : y / s.len * s.len + y % s.len ≡ y = div-add-mod' y s.len in
-        let place = was.place in
-        free size (fit_now at.frame at.slot x was.place was.inside a size fit) (y / s.len) (y % s.len) (mod_below y s.len (omega (arith, was.inside)))
-        (omega (arith, whole, place, from)) (omega (arith, whole, place, to))
+    pub sender_free : (count : ℕ) (a : Inputs) → AreSlotsFree kind s ms path plan at.frame at.slot count a → IsUneventful (sender_meaning s kind path ms) plan x (x + count) a
+    sender_free count a free = record {
+      free = λ size fit y from to. free.free size (fit_now at.frame at.slot x was.place was.inside a size fit) (y / s.len) (y % s.len) (one y from to);
+      no_slip = λ y from to. free.no_slip (y / s.len) (y % s.len) (one y from to);
+    }
+      where
+        one : (y : ℕ) → x ≤ y → y < x + count → IsOneOf s at.frame at.slot count (y / s.len) (y % s.len)
+        one y from to =
+            let whole : y / s.len * s.len + y % s.len ≡ y = div-add-mod' y s.len in
+            let place = was.place in
+            record { inside = mod_below y s.len (omega (arith, was.inside)); from = omega (arith, whole, place, from); to = omega (arith, whole, place, to) }
 
     -- ---- it made bits
 

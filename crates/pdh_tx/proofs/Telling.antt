@@ -1,5 +1,5 @@
 -- What logs were told, one call after another.
-use Rattle.std.proofs.Common.{◌≡◌, ℕ, suc, ◌+◌, ◌-◌, ◌<◌, true, false, List, [], ◌++◌, refl, sym, ap, ◌∙◌, subst, arith, length-append, append_assoc, Result, Ok, Err}
+use Rattle.std.proofs.Common.{◌≡◌, ℕ, suc, ◌+◌, ◌-◌, ◌<◌, true, false, List, [], ◌∷◌, ◌++◌, length, refl, sym, ap, ◌∙◌, subst, arith, length-append, append_assoc, Result, Ok, Err}
 use Rattle.std.specs.Prelude.{flat_map}
 use Rattle.std.specs.List.{range_with_len}
 use Rattle.std.proofs.lemmas.List.{append-nil}
@@ -8,7 +8,7 @@ use Rattle.pdh_slips.specs.declared.slip.Slip.{Slip}
 use Rattle.pdh_tx.specs.declared.tx.TxStop.{TxStop}
 use Rattle.pdh_tx.specs.declared.tx.TxStop.TheVariants.{Overflow, Underflow, NoFrame, Failed, Ended, LogFailed}
 use Rattle.pdh_tx.specs.Meaning.{is_failed}
-use Rattle.pdh_tx.specs.Telling.{log_faults_met, Told, TellsFront, TellsAll, Tells}
+use Rattle.pdh_tx.specs.Telling.{log_faults_met, FailsAtLast, Told, TellsFront, TellsAll, TellsNone, Tells}
 use Rattle.pdh_tx.proofs.Advancing.{flat_push, flat_split}
 
 pub tells_err : {G T : Type 0} {logs : log.Ghosts G} {a b : G} {slips : List Slip} (r : Result T TxStop) (stop : TxStop) → r ≡ Err stop → TellsFront logs a b slips stop → Tells logs a b slips r
@@ -33,6 +33,37 @@ not_log_failed stop fine is = absurd (no (sym (ap is_failed is) ∙ fine))
   where
     no : true ≡ false → ⊥
     no h = cc
+
+-- ---- a call that brings no slip
+
+front_empty : (told rest slips : List Slip) → told ++ rest ≡ slips → slips ≡ [] → told ≡ []
+front_empty [] rest slips front none = refl
+front_empty (x ∷ told) rest slips front none = absurd (no (front ∙ none))
+  where
+    no : x ∷ (told ++ rest) ≡ [] → ⊥
+    no h = cc
+
+-- it told a log of none where it met nothing
+pub none_all : {G : Type 0} {logs : log.Ghosts G} {a b : G} {slips : List Slip} → slips ≡ [] → TellsAll logs a b slips → TellsNone logs a b
+none_all {logs = logs} {a = a} {b = b} none tells = subst (λ (l : List Slip). TellsAll logs a b l) none tells
+
+-- there was none of which the log couldn't be told
+pub none_failed : {G : Type 0} {logs : log.Ghosts G} {a b : G} {slips : List Slip} {stop : TxStop} → slips ≡ [] → TellsFront logs a b slips stop → stop ≡ LogFailed → ⊥
+none_failed {logs = logs} {a = a} {b = b} {slips = slips} none tells is =
+    let failed : FailsAtLast logs a b tells.told = subst (λ (stop : TxStop). Told logs a b stop tells.told) is tells.logs_them in
+    absurd (omega (arith, failed.some, ap length (front_empty tells.told tells.rest slips tells.front none)))
+
+-- and it told it of none where it stopped
+pub none_front : {G : Type 0} {logs : log.Ghosts G} {a b : G} {slips : List Slip} (stop : TxStop) → slips ≡ [] → TellsFront logs a b slips stop → TellsNone logs a b
+none_front {logs = logs} {a = a} {b = b} {slips = slips} stop none tells = go stop (none_failed none tells) (subst (λ (l : List Slip). Told logs a b stop l) (front_empty tells.told tells.rest slips tells.front none) tells.logs_them) tells.counted
+  where
+    go : (stop : TxStop) → (stop ≡ LogFailed → ⊥) → Told logs a b stop [] → logs.log_faults b ≡ log_faults_met stop (logs.log_faults a) → TellsNone logs a b
+    go LogFailed other told counted = absurd (other refl)
+    go (Overflow place) other told counted = record { logs_them = told; unfailed = counted }
+    go (Underflow place) other told counted = record { logs_them = told; unfailed = counted }
+    go (NoFrame node) other told counted = record { logs_them = told; unfailed = counted }
+    go Failed other told counted = record { logs_them = told; unfailed = counted }
+    go (Ended leaf) other told counted = record { logs_them = told; unfailed = counted }
 
 -- the laws of a log, as far as they are needed here
 pub record IsLog {G : Type 0} (logs : log.Ghosts G) : Type 0 where

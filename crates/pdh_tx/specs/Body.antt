@@ -13,7 +13,7 @@ use Rattle.pdh_tx.specs.declared.tx.TxStop.{TxStop}
 use Rattle.pdh_tx.specs.declared.tx.TxStop.TheVariants.{Failed}
 use Rattle.pdh_tx.specs.declared.pieces.Piece.{Piece}
 use Rattle.pdh_tx.specs.declared.position.Position.{Position}
-use Rattle.pdh_tx.specs.Meaning.{Plan, Supply, plan_of, Meaning, Agrees, IsNodeOf, HoldsAll}
+use Rattle.pdh_tx.specs.Meaning.{Plan, Supply, Meaning, Agrees, IsNodeOf, HoldsAll}
 use Rattle.pdh_tx.specs.Held.{first_some}
 use Rattle.pdh_tx.specs.Node.{source_of, any_leaf, given_by, node_frame, meaning_with, EachInChain, AllFit, Stays, Blocked}
 use Rattle.pdh_tx.specs.NodeState.{HasParity}
@@ -54,19 +54,25 @@ pub record AreFedBelow (s : FrameShape) (path : Path) (ms : List Meaning) (sched
   pub node : IsNodeOf schedule.levels (node_frame s path)
   pub nodes : EachInChain schedule.levels ms
 
--- nothing stands in the way of so many slots, from slot t on, before which the tributaries have made so many bits
-pub record SlotsClear (steps : (ℕ → ℕ) → ℕ → List (Option TxStop)) (ms : List Meaning) (plan : Plan) (made : ℕ → ℕ) (t len : ℕ) (inputs : Inputs) : Type 0 where
+-- nothing stands in the way of so many slots, from slot t on, before which the tributaries have made so many bits, and they bring no slip
+pub record SlotsClear (steps : (ℕ → ℕ) → ℕ → List (Option TxStop)) (slips : ℕ → List Slip) (ms : List Meaning) (plan : Plan) (made : ℕ → ℕ) (t len : ℕ) (inputs : Inputs) : Type 0 where
   -- how many bits the leaves' lists hold in all
   pub size : ℕ → ℕ
   pub fits : AllFit ms plan made inputs size
   pub clear : (v : ℕ) → v < len → first_some (steps size (t + v)) ≡ None
+  pub no_slip : (v : ℕ) → v < len → slips (t + v) ≡ []
 
--- nothing stands in the way of so many slots from slot t of frame n on, over the ends of frames, whatever the lists hold behind the bits
--- that they have
-abbrev pub AreSlotsFree : Kind → FrameShape → List Meaning → Path → Contents → ℕ → ℕ → ℕ → Inputs → Type 0
-AreSlotsFree kind s ms path schedule n t count inputs =
-    (size : ℕ → ℕ) → AllFit ms (plan_of schedule) (kind.taken path (plan_of schedule) n t) inputs size
-    → (m u : ℕ) → u < s.len → n * s.len + t ≤ m * s.len + u → m * s.len + u < n * s.len + t + count → first_some (kind.steps path (plan_of schedule) ms size m u) ≡ None
+-- slot u of frame m is one of so many from slot t of frame n on, over the ends of frames
+pub record IsOneOf (s : FrameShape) (n t count m u : ℕ) : Type 0 where
+  pub inside : u < s.len
+  pub from : n * s.len + t ≤ m * s.len + u
+  pub to : m * s.len + u < n * s.len + t + count
+
+-- nothing stands in the way of so many slots from slot t of frame n on, whatever the lists hold behind the bits that they have, and
+-- they bring no slip
+pub record AreSlotsFree (kind : Kind) (s : FrameShape) (ms : List Meaning) (path : Path) (plan : Plan) (n t count : ℕ) (inputs : Inputs) : Type 0 where
+  pub free : (size : ℕ → ℕ) → AllFit ms plan (kind.taken path plan n t) inputs size → (m u : ℕ) → IsOneOf s n t count m u → first_some (kind.steps path plan ms size m u) ≡ None
+  pub no_slip : (m u : ℕ) → IsOneOf s n t count m u → kind.slips path plan ms m u ≡ []
 
 -- ---- what they give
 
@@ -87,7 +93,7 @@ pub record GivesSlots (stood : Type 0) (old new : Supply → Type 0) (ms : List 
 abbrev pub SlotFree : ((ℕ → ℕ) → ℕ → List (Option TxStop)) → List Meaning → Plan → (ℕ → ℕ) → ℕ → Inputs → Type 0
 SlotFree steps ms plan made t inputs = (size : ℕ → ℕ) → AllFit ms plan made inputs size → first_some (steps size t) ≡ None
 
--- ---- what its calls leave, by the schedule or the plan that they go by
+-- ---- what its calls leave, by the plan that they go by
 
 -- the bit of slot t of frame n, in whose way nothing stood
 pub record GivesBit {B : Type 0} (kind : Kind) (meanings : B → List Meaning) (stood : B → Path → Plan → ℕ → ℕ → Type 0) (holds held : B → Path → Plan → Supply → ℕ → ℕ → Type 0) (s : FrameShape) (old new : B) (path : Path) (plan : Plan) (n t : ℕ) (say : Service) (odd bit : Bool)
@@ -104,22 +110,22 @@ StopsAtSlot kind ms path plan n t = Blocked ms plan (kind.taken path plan n t) (
 abbrev pub TellsSlot : {G T : Type 0} → Kind → List Meaning → Path → Plan → ℕ → ℕ → log.Ghosts G → G → G → Result T TxStop → Type 0
 TellsSlot kind ms path plan n t logs old new = Tells logs old new (kind.slips path plan ms n t)
 
--- nothing stands in the way of a piece
-abbrev pub IsPieceClear : Kind → List Meaning → Contents → Piece → Inputs → Type 0
-IsPieceClear kind ms schedule at =
-    SlotsClear (λ size. kind.steps at.path (plan_of schedule) ms size at.frame) ms (plan_of schedule) (kind.taken at.path (plan_of schedule) at.frame at.slot) at.slot at.len
+-- nothing stands in the way of a piece, and it brings no slip
+abbrev pub IsPieceClear : Kind → List Meaning → Plan → Piece → Inputs → Type 0
+IsPieceClear kind ms plan at =
+    SlotsClear (λ size. kind.steps at.path plan ms size at.frame) (kind.slips at.path plan ms at.frame) ms plan (kind.taken at.path plan at.frame at.slot) at.slot at.len
 
 -- the bits of a piece, whose information and justifiable slots hold an odd number of ones or not
-pub record GivesPiece {B : Type 0} (kind : Kind) (meanings : B → List Meaning) (stood : B → Path → Plan → ℕ → ℕ → Type 0) (holds held : B → Path → Plan → Supply → ℕ → ℕ → Type 0) (s : FrameShape) (old new : B) (schedule : Contents) (at : Piece) (say : Service) (odd is_odd : Bool)
+pub record GivesPiece {B : Type 0} (kind : Kind) (meanings : B → List Meaning) (stood : B → Path → Plan → ℕ → ℕ → Type 0) (holds held : B → Path → Plan → Supply → ℕ → ℕ → Type 0) (s : FrameShape) (old new : B) (plan : Plan) (at : Piece) (say : Service) (odd is_odd : Bool)
     (bits : List Bool) (before after : Inputs) : Type 0 where
-  pub gives : GivesSlots (stood new at.path (plan_of schedule) at.frame (at.slot + at.len)) (λ supply. holds old at.path (plan_of schedule) supply at.frame at.slot) (λ supply. held new at.path (plan_of schedule) supply at.frame (at.slot + at.len))
-      (meanings old) s at.path (plan_of schedule) (kind.taken at.path (plan_of schedule) at.frame at.slot) (kind.came at.path (plan_of schedule) at.frame (at.slot + at.len)) at.frame at.slot say odd bits before after
+  pub gives : GivesSlots (stood new at.path plan at.frame (at.slot + at.len)) (λ supply. holds old at.path plan supply at.frame at.slot) (λ supply. held new at.path plan supply at.frame (at.slot + at.len))
+      (meanings old) s at.path plan (kind.taken at.path plan at.frame at.slot) (kind.came at.path plan at.frame (at.slot + at.len)) at.frame at.slot say odd bits before after
   pub odd_is : is_odd ≡ (payload_ones s at.slot bits % 2 == 1)
 
 -- a call failed on the way through a piece
-abbrev pub HaltsInPiece : Kind → List Meaning → Contents → Piece → Inputs → Inputs → Type 0
-HaltsInPiece kind ms schedule at =
-    Stays ms (plan_of schedule) (kind.taken at.path (plan_of schedule) at.frame at.slot) (kind.came at.path (plan_of schedule) at.frame (at.slot + at.len)) Failed
+abbrev pub HaltsInPiece : Kind → List Meaning → Plan → Piece → Inputs → Inputs → Type 0
+HaltsInPiece kind ms plan at =
+    Stays ms plan (kind.taken at.path plan at.frame at.slot) (kind.came at.path plan at.frame (at.slot + at.len)) Failed
 
 -- ---- the multiplexer
 

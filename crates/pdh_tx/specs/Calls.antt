@@ -10,9 +10,9 @@ use Rattle.pdh_clock.specs.Contents.{Contents}
 use Rattle.pdh_slips.specs.declared.log.SlipLog as log
 use Rattle.pdh_tx.specs.declared.tx.TxStop.{TxStop}
 use Rattle.pdh_tx.specs.declared.tx.TxStop.TheVariants.{Failed}
-use Rattle.pdh_tx.specs.Meaning.{Plan, Supply, plan_of, Meaning, IsNodeOf, HoldsAll, Makes, Stops}
+use Rattle.pdh_tx.specs.Meaning.{Plan, Supply, Meaning, IsNodeOf, HoldsAll, Makes, Stops}
 use Rattle.pdh_tx.specs.Held.{Halts}
-use Rattle.pdh_tx.specs.Making.{IsClear, IsFree, MakesAll}
+use Rattle.pdh_tx.specs.Making.{IsClear, IsUneventful, MakesAll}
 use Rattle.pdh_tx.specs.Telling.{Tells}
 
 -- ---- the feed, and what is appended
@@ -63,13 +63,13 @@ pub record IsKept {T : Type 0} (meaning : T → Meaning) (says : T → Service) 
 abbrev pub StandsBy : {T : Type 0} → (T → Plan → ℕ → Type 0) → T → Plan → Type 0
 StandsBy stands_at t plan = (x : ℕ) × stands_at t plan x
 
--- and nothing stands in the way of its next bits, so many
-abbrev pub StandsClear : {T : Type 0} → (T → Meaning) → (T → Plan → ℕ → Type 0) → T → Contents → ℕ → Inputs → Type 0
-StandsClear meaning stands_at t schedule count inputs = (x : ℕ) × (stands_at t (plan_of schedule) x) × (IsClear (meaning t) (plan_of schedule) x (x + count) inputs)
+-- and nothing stands in the way of its next bits, so many, which bring no slip
+abbrev pub StandsClear : {T : Type 0} → (T → Meaning) → (T → Plan → ℕ → Type 0) → T → Plan → ℕ → Inputs → Type 0
+StandsClear meaning stands_at t plan count inputs = (x : ℕ) × (stands_at t plan x) × (IsClear (meaning t) plan x (x + count) inputs)
 
--- nothing stands in the way of its next bits, so many, whatever the lists hold behind the bits that they have
-abbrev pub GoesFree : {T : Type 0} → (T → Meaning) → (T → Plan → ℕ → Type 0) → T → Contents → ℕ → Inputs → Type 0
-GoesFree meaning stands_at t schedule count inputs = (x : ℕ) → stands_at t (plan_of schedule) x → IsFree (meaning t) (plan_of schedule) x (x + count) inputs
+-- the same, wherever it stands, and whatever the lists hold behind the bits that they have
+abbrev pub GoesFree : {T : Type 0} → (T → Meaning) → (T → Plan → ℕ → Type 0) → T → Plan → ℕ → Inputs → Type 0
+GoesFree meaning stands_at t plan count inputs = (x : ℕ) → stands_at t plan x → IsUneventful (meaning t) plan x (x + count) inputs
 
 -- it made its next bit
 abbrev pub MakesNext : {T : Type 0} → (T → Meaning) → (T → Service) → (T → Plan → ℕ → Type 0) → (T → Supply → ℕ → Type 0) → T → T → Plan → Bool → Inputs → Inputs → Type 0
@@ -86,11 +86,11 @@ abbrev pub TellsNext : {T G X : Type 0} → (T → Meaning) → (T → Plan → 
 TellsNext meaning stands_at t plan logs old new result = (x : ℕ) → stands_at t plan x → Tells logs old new ((meaning t).slips plan x) result
 
 -- it made its next bits, so many
-abbrev pub MakesNextAll : {T : Type 0} → (T → Meaning) → (T → Service) → (T → Plan → ℕ → Type 0) → (T → Supply → ℕ → Type 0) → T → T → Contents → ℕ → List Bool → Inputs → Inputs → Type 0
-MakesNextAll meaning says stands_at stands_for old new schedule count bits before after =
-    (x : ℕ) → stands_at old (plan_of schedule) x → MakesAll (meaning old) (says old) (stands_at new (plan_of schedule)) (stands_for old) (stands_for new) (plan_of schedule) x (x + count) bits before after
+abbrev pub MakesNextAll : {T : Type 0} → (T → Meaning) → (T → Service) → (T → Plan → ℕ → Type 0) → (T → Supply → ℕ → Type 0) → T → T → Plan → ℕ → List Bool → Inputs → Inputs → Type 0
+MakesNextAll meaning says stands_at stands_for old new plan count bits before after =
+    (x : ℕ) → stands_at old plan x → MakesAll (meaning old) (says old) (stands_at new plan) (stands_for old) (stands_for new) plan x (x + count) bits before after
 
 -- a call failed on the way of its next bits, so many
-abbrev pub HaltsNext : {T : Type 0} → (T → Meaning) → (T → Plan → ℕ → Type 0) → T → Contents → ℕ → Inputs → Inputs → Type 0
-HaltsNext meaning stands_at t schedule count before after =
-    (x : ℕ) → stands_at t (plan_of schedule) x → Halts (meaning t) (plan_of schedule) x (x + count) Failed before after
+abbrev pub HaltsNext : {T : Type 0} → (T → Meaning) → (T → Plan → ℕ → Type 0) → T → Plan → ℕ → Inputs → Inputs → Type 0
+HaltsNext meaning stands_at t plan count before after =
+    (x : ℕ) → stands_at t plan x → Halts (meaning t) plan x (x + count) Failed before after

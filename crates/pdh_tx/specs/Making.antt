@@ -26,16 +26,26 @@ pub record Gives (m : Meaning) (plan : Plan) (from to : ℕ) (given : ℕ → Li
   -- as many as the line takes there
   pub exact : (k : ℕ) → m.leaves k ≡ true → m.given plan from k + length (given k) ≡ m.given plan to k
 
--- nothing stands in the way of the bits between two places
+-- the bits between two places bring no slip
+abbrev pub BringsNoSlip : Meaning → Plan → ℕ → ℕ → Type 0
+BringsNoSlip m plan from to = (y : ℕ) → from ≤ y → y < to → m.slips plan y ≡ []
+
+-- nothing stands in the way of the bits between two places, and they bring no slip
 pub record IsClear (m : Meaning) (plan : Plan) (from to : ℕ) (inputs : Inputs) : Type 0 where
   -- how many bits the leaves' lists hold in all
   pub size : ℕ → ℕ
   pub fits : Fits m plan from inputs size
   pub clear : (y : ℕ) → from ≤ y → y < to → m.obstacle plan size y ≡ None
+  pub no_slip : BringsNoSlip m plan from to
 
--- the same, whatever the lists hold behind the bits that they have
+-- nothing stands in the way of them, whatever the lists hold behind the bits that they have
 abbrev pub IsFree : Meaning → Plan → ℕ → ℕ → Inputs → Type 0
 IsFree m plan from to inputs = (size : ℕ → ℕ) → Fits m plan from inputs size → (y : ℕ) → from ≤ y → y < to → m.obstacle plan size y ≡ None
+
+-- and they bring no slip
+pub record IsUneventful (m : Meaning) (plan : Plan) (from to : ℕ) (inputs : Inputs) : Type 0 where
+  pub free : IsFree m plan from to inputs
+  pub no_slip : BringsNoSlip m plan from to
 
 -- Bits of the line were made, between two places. `now` is what the frames say that they begin; `placed` tells how many bits
 -- the new state has made, and `old` and `new` which supplies the states stand for.

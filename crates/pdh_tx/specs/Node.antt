@@ -12,7 +12,7 @@ use Rattle.pdh_shape.specs.declared.role.Role.TheVariants.{Align, Service as Ser
 use Rattle.pdh_shape.specs.Frame.{FrameShape, idle}
 use Rattle.pdh_shape.specs.Tributary.{reads_below}
 use Rattle.pdh_shape.specs.OwnNumbers.{lead}
-use Rattle.pdh_line.specs.Sending.{Mode, arrives_at, came_before, read_before, taken, shape_numbers, carriage, Source, payload_bit, line_bit}
+use Rattle.pdh_line.specs.Sending.{Mode, arrives_at, came_before, taken, shape_numbers, carriage, Source, payload_bit, line_bit}
 use Rattle.pdh_line.specs.Events.{overflows, underflows}
 use Rattle.pdh_slips.specs.declared.slip.Slip.{Slip}
 use Rattle.pdh_tx.specs.declared.tx.TxStop.{TxStop}
@@ -192,10 +192,6 @@ came_to s path plan n t i j = (if nat_lt j i then came_before s (plan.counts pat
 -- how many bits of tributary j have come by slot t of frame n
 abbrev pub came_at : FrameShape → Path → Plan → ℕ → ℕ → ℕ → ℕ
 came_at s path plan n t j = came_before s (plan.counts path j) n t
-
--- how many bits of tributary j are read by slot t of frame n in plain mode
-abbrev pub read_at : FrameShape → Path → Plan → ℕ → ℕ → ℕ → ℕ
-read_at s path plan n t j = read_before s j (plan.counts path j) n t
 
 -- how many bits of tributary j a node has taken that has made all bits before slot t of frame n: none before its first bit
 abbrev pub taken_to : FrameShape → Path → Plan → ℕ → ℕ → ℕ → ℕ

@@ -1,5 +1,5 @@
 -- When the stores of a multiplexer slip, and what was read of them, slot by slot.
-use Rattle.std.specs.Prelude.{ℕ, ◌+◌, Bool, true, false, nat_le, nat_lt, ◌&&◌, List, [], ◌∷◌, if◌then◌else◌}
+use Rattle.std.specs.Prelude.{ℕ, ◌+◌, ◌≤◌, Bool, true, false, nat_le, nat_lt, ◌&&◌, List, [], ◌∷◌, if◌then◌else◌}
 use Rattle.pdh_shape.specs.declared.place.Path.{Path}
 use Rattle.pdh_shape.specs.Frame.{FrameShape}
 use Rattle.pdh_shape.specs.Tributary.{reads_below}
@@ -39,6 +39,14 @@ is_full out came = nat_le (gone_with out.edits out.read + store_size) (put_with 
 -- or empty
 abbrev pub is_empty : Readout → ℕ → Bool
 is_empty out came = nat_le (put_with out.edits came) (gone_with out.edits out.read)
+
+-- all that is gone from it came
+abbrev pub HasCome : Readout → ℕ → Type 0
+HasCome out came = gone_with out.edits out.read ≤ put_with out.edits came
+
+-- and it holds at most so many bits
+abbrev pub HoldsMost : Readout → ℕ → ℕ → Type 0
+HoldsMost out came most = put_with out.edits came ≤ gone_with out.edits out.read + most
 
 -- in slip mode, a bit of tributary j arrives in slot t of frame n at a full store
 abbrev pub arrives_full : FrameShape → Path → Plan → ℕ → ℕ → ℕ → Bool

@@ -1,6 +1,6 @@
 -- What calls for bits tell a log of slips, in step order. `logs` is what is told of the log's kind, `old` and `new` the log before
 -- and after a call.
-use Rattle.std.specs.Prelude.{◌≡◌, ℕ, ◌<◌, true, List, ◌++◌, length, Result, OnOk, IfErr}
+use Rattle.std.specs.Prelude.{◌≡◌, ℕ, ◌<◌, true, List, [], ◌++◌, length, Result, OnOk, IfErr}
 use Rattle.pdh_edge.specs.Counts.{one_more}
 use Rattle.pdh_slips.specs.declared.log.SlipLog as log
 use Rattle.pdh_slips.specs.declared.slip.Slip.{Slip}
@@ -35,6 +35,10 @@ pub record TellsFront {G : Type 0} (logs : log.Ghosts G) (old new : G) (slips : 
 pub record TellsAll {G : Type 0} (logs : log.Ghosts G) (old new : G) (slips : List Slip) : Type 0 where
   pub logs_them : logs.logged old slips new
   pub unfailed : logs.log_faults new ≡ logs.log_faults old
+
+-- a call that brought no slip told it of none
+abbrev pub TellsNone : {G : Type 0} → log.Ghosts G → G → G → Type 0
+TellsNone logs old new = TellsAll logs old new []
 
 -- what a call that comes by these slips told it
 pub record Tells {G T : Type 0} (logs : log.Ghosts G) (old new : G) (slips : List Slip) (result : Result T TxStop) : Type 0 where

@@ -21,10 +21,10 @@ use Rattle.pdh_tx.specs.declared.tributary.FrameShare.{FrameShare}
 use Rattle.pdh_tx.specs.declared.tributaries.Tributaries.{Tributaries}
 use Rattle.pdh_tx.specs.declared.pieces.Piece.{Piece}
 use Rattle.pdh_tx.specs.declared.tributary.Tributary.{Tributary}
-use Rattle.pdh_tx.specs.Meaning.{Plan, Supply, plan_of, Meaning, is_failed, faults_met}
+use Rattle.pdh_tx.specs.Meaning.{Plan, Supply, Meaning, is_failed, faults_met}
 use Rattle.pdh_tx.specs.Held.{first_some, stops, Readout, unslipped}
 use Rattle.pdh_tx.specs.Slipping.{read_to, arrived_to, arriving_to}
-use Rattle.pdh_tx.specs.Tributary.{placed_in, held_in, plain_placed_in, plain_held_in, meaning_in, share_in, after_read, LeavesNone, TellsOwn}
+use Rattle.pdh_tx.specs.Tributary.{placed_in, held_in, meaning_in, share_in, after_read, LeavesNone, TellsOwn}
 use Rattle.pdh_tx.specs.Node.{below, source_of, line_of, set_at, EachPlaced, EachHeld, IsDecided, Advance, Blocked, Stays, led_to, lead_at, leads, taken_to, came_to, came_at, beginning, arrival_at, arrivals, reads, lead_slips, leads_slips, beginning_slips, arrival_slips, arrivals_slips, read_slips}
 use Rattle.pdh_tx.specs.Body.{AreFedBelow, IsPieceClear, HaltsInPiece}
 use Rattle.pdh_tx.specs.Stored.{stored_kind, Before, Through, HoldBefore, HoldThrough}
@@ -232,34 +232,34 @@ module _ {S C : Type 0} {shape : shape.Ghosts S} {tx : Ghosts C} where
   -- ---- many slots
 
   -- the first i have passed their bits of a piece
-  abbrev pub HavePassed : Tributaries S C shape tx → Contents → Piece → ℕ → Type 0
-  HavePassed ts schedule at i = EachPlaced (plain_placed_in tx) ts.list.items (plan_of schedule) (made_through shape.shape (plan_of schedule) at i) (read_through shape.shape (plan_of schedule) at i)
+  abbrev pub HavePassed : Tributaries S C shape tx → Plan → Piece → ℕ → Type 0
+  HavePassed ts plan at i = EachPlaced (placed_in tx) ts.list.items plan (made_through shape.shape plan at i) (read_through shape.shape plan at i)
 
   -- nothing stands in the way of tributary j in a piece
-  abbrev pub IsPassable : Tributaries S C shape tx → Contents → Piece → Inputs → ℕ → Type 0
-  IsPassable ts schedule at inputs j = (m : Meaning) → slice_get (meanings ts) j ≡ Some m → CanPass shape.shape (plan_of schedule) at j m inputs
+  abbrev pub IsPassable : Tributaries S C shape tx → Plan → Piece → Inputs → ℕ → Type 0
+  IsPassable ts plan at inputs j = (m : Meaning) → slice_get (meanings ts) j ≡ Some m → CanPass shape.shape plan at j m inputs
 
   -- those from i up to k passed their bits of a piece, and wrote this
-  abbrev pub PassOn : Tributaries S C shape tx → Tributaries S C shape tx → Contents → Piece → ℕ → ℕ → Inputs → Inputs → (Source → Type 0) → Type 0
-  PassOn old new schedule at i k =
-      Passes (plain_held_in tx) at.path (meanings old) (plan_of schedule) old.list.items new.list.items (made_through shape.shape (plan_of schedule) at i) (made_through shape.shape (plan_of schedule) at k)
-      (read_through shape.shape (plan_of schedule) at i) (read_through shape.shape (plan_of schedule) at k)
+  abbrev pub PassOn : Tributaries S C shape tx → Tributaries S C shape tx → Plan → Piece → ℕ → ℕ → Inputs → Inputs → (Source → Type 0) → Type 0
+  PassOn old new plan at i k =
+      Passes (held_in tx) at.path (meanings old) plan old.list.items new.list.items (made_through shape.shape plan at i) (made_through shape.shape plan at k)
+      (read_through shape.shape plan at i) (read_through shape.shape plan at k)
 
   -- tributary i passed its bits, which stand in its column
-  pub record PassOne (old new : Tributaries S C shape tx) (schedule : Contents) (at : Piece) (i : ℕ) (before after : Inputs) : Type 0 where
-    pub placed : HavePassed new schedule at (suc i)
-    pub passes : PassOn old new schedule at i (suc i) before after (λ source. HoldsBitsOf shape.shape source at.frame at.slot at.len (columns new) i)
+  pub record PassOne (old new : Tributaries S C shape tx) (plan : Plan) (at : Piece) (i : ℕ) (before after : Inputs) : Type 0 where
+    pub placed : HavePassed new plan at (suc i)
+    pub passes : PassOn old new plan at i (suc i) before after (λ source. HoldsBitsOf shape.shape source at.frame at.slot at.len (columns new) i)
     pub rows : HasRowsOf shape.shape at.slot at.len (columns new) i
 
   -- the first so many did, which are all of them
-  pub record PassAll (old new : Tributaries S C shape tx) (schedule : Contents) (at : Piece) (count : ℕ) (before after : Inputs) : Type 0 where
-    pub placed : HavePassed new schedule at count
-    pub passes : PassOn old new schedule at 0 count before after (λ source. HoldsBits shape.shape source at.frame at.slot at.len (columns new) count)
+  pub record PassAll (old new : Tributaries S C shape tx) (plan : Plan) (at : Piece) (count : ℕ) (before after : Inputs) : Type 0 where
+    pub placed : HavePassed new plan at count
+    pub passes : PassOn old new plan at 0 count before after (λ source. HoldsBits shape.shape source at.frame at.slot at.len (columns new) count)
     pub rows : HasRows shape.shape at.slot at.len (columns new) count
 
   -- a call failed on the way of those from i on through a piece
-  abbrev pub FailFrom : Tributaries S C shape tx → Contents → Piece → ℕ → Inputs → Inputs → Type 0
-  FailFrom ts schedule at i = Stays (meanings ts) (plan_of schedule) (made_through shape.shape (plan_of schedule) at i) (came_at shape.shape at.path (plan_of schedule) at.frame (at.slot + at.len)) Failed
+  abbrev pub FailFrom : Tributaries S C shape tx → Plan → Piece → ℕ → Inputs → Inputs → Type 0
+  FailFrom ts plan at i = Stays (meanings ts) plan (made_through shape.shape plan at i) (came_at shape.shape at.path plan at.frame (at.slot + at.len)) Failed
 
   -- what no call that passes bits changes: what they mean, what the frame brings and carries of them, the overhead that is written
   pub record KeepAll (old new : Tributaries S C shape tx) : Type 0 where
@@ -273,11 +273,11 @@ module _ {S C : Type 0} {shape : shape.Ghosts S} {tx : Ghosts C} where
     pub earlier : (j : ℕ) → j < i → slice_index_or (columns new) j [] ≡ slice_index_or (columns old) j []
 
   -- nothing stands in the way of the slots of a piece, before which they stand
-  abbrev pub IsClearFor : Tributaries S C shape tx → Contents → Piece → Inputs → Type 0
+  abbrev pub IsClearFor : Tributaries S C shape tx → Plan → Piece → Inputs → Type 0
   IsClearFor ts = IsPieceClear (stored_kind shape.shape) (meanings ts)
 
   -- a call failed on the way through a piece
-  abbrev pub FailIn : Tributaries S C shape tx → Contents → Piece → Inputs → Inputs → Type 0
+  abbrev pub FailIn : Tributaries S C shape tx → Plan → Piece → Inputs → Inputs → Type 0
   FailIn ts = HaltsInPiece (stored_kind shape.shape) (meanings ts)
 
   -- ---- their node

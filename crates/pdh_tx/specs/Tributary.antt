@@ -29,9 +29,6 @@ held_in tx w = Held tx.stands_for tx.meaning w.child w.store
 abbrev pub plain_placed_in : {C : Type 0} → Ghosts C → Tributary C → Plan → ℕ → ℕ → Type 0
 plain_placed_in tx w plan made read = placed_in tx w plan made (unslipped read)
 
-abbrev pub plain_held_in : {C : Type 0} → Ghosts C → Tributary C → Supply → ℕ → ℕ → Type 0
-plain_held_in tx w supply made read = held_in tx w supply made (unslipped read)
-
 -- what its child makes, takes and meets
 abbrev pub meaning_in : {C : Type 0} → Ghosts C → Tributary C → Meaning
 meaning_in tx w = tx.meaning w.child

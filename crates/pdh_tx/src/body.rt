@@ -3,10 +3,11 @@
 ghost use Rattle.std.specs.Prelude.{◌≡◌, ◌+◌, ◌<◌, ◌≤◌, ℕ, suc, List, length, IfOk, IfErr, OnErr};
 ghost use Rattle.pdh_packed.specs.Gaining.{gained};
 ghost use Rattle.pdh_shape.specs.declared.place.Path.{Path};
-ghost use Rattle.pdh_tx.specs.Meaning.{Plan, Supply, Meaning, plan_in, plan_of};
+ghost use Rattle.pdh_tx.specs.Meaning.{Plan, Supply, Meaning, plan_in};
 ghost use Rattle.pdh_tx.specs.Calls.{Draws, DrawsClear, Appends, IsPieceOf};
 ghost use Rattle.pdh_tx.specs.Follows.{Follows};
 ghost use Rattle.pdh_tx.specs.Body.{Kind, IsKind, sender_meaning, AreFedBelow, AreSlotsFree, GivesBit, StopsAtSlot, TellsSlot, IsPieceClear, GivesPiece, HaltsInPiece};
+ghost use Rattle.pdh_tx.specs.Telling.{TellsNone};
 
 use crate::TxStop;
 use crate::pieces::Piece;
@@ -61,8 +62,9 @@ pub trait Body<S: Shape>: Drop {
         ensures fed { Draws F.Feed feed.old feed.new result }
         ensures same { meanings self.new ≡ meanings self.old };
 
-    /// How many slots from one on, up to so many and over the ends of frames, surely meet nothing.
-    fn quiet<F: Feed>(
+    /// How many slots from one on, up to so many and over the ends of frames, surely meet nothing, and so bring no slip where
+    /// logs of type `G` take slips.
+    fn quiet<F: Feed, G: SlipLog>(
         &self,
         path: Path,
         frame: u64,
@@ -73,33 +75,35 @@ pub trait Body<S: Shape>: Drop {
     ) -> usize
         requires slot { slot < S.LEN }
         requires fed { AreFedBelow S.shape path (meanings self.now) clock.now (F.inputs feed.now) }
-        requires placed { stands self.now path (plan_of clock.now) frame slot }
+        requires placed { stands self.now path (plan_in clock.now G.takes) frame slot }
         ensures most { result ≤ most }
-        ensures free { AreSlotsFree kind S.shape (meanings self.now) path clock.now frame slot result (F.inputs feed.now) };
+        ensures free { AreSlotsFree kind S.shape (meanings self.now) path (plan_in clock.now G.takes) frame slot result (F.inputs feed.now) };
 
-    /// Makes the bits of a piece of a frame, with all their steps, in whose way nothing stands,
-    /// appends them to `into`, and answers whether its information and justifiable slots hold an odd
-    /// number of ones.
-    fn piece<F: Feed>(
+    /// Makes the bits of a piece of a frame, with all their steps, in whose way nothing stands and which
+    /// bring no slip, appends them to `into`, and answers whether its information and justifiable slots
+    /// hold an odd number of ones.
+    fn piece<F: Feed, G: SlipLog>(
         &mut self,
         at: Piece,
         say: &Service,
         odd: bool,
         clock: &Schedule,
         feed: &mut F,
+        log: &mut G,
         into: &mut Packed,
     ) -> Result<bool, Failed>
         requires piece { IsPieceOf S.LEN at.slot at.len }
         requires room { length into.old.bits + at.len ≤ into.old.capacity }
         requires fed { AreFedBelow S.shape at.path (meanings self.old) clock.now (F.inputs feed.old) }
-        requires placed { stands self.old at.path (plan_of clock.now) at.frame at.slot }
-        requires clear { IsPieceClear kind (meanings self.old) clock.now at (F.inputs feed.old) }
+        requires placed { stands self.old at.path (plan_in clock.now G.takes) at.frame at.slot }
+        requires clear { IsPieceClear kind (meanings self.old) (plan_in clock.now G.takes) at (F.inputs feed.old) }
         ensures appended { Appends into.old into.new at.len result }
         ensures made { IfOk result (λ is_odd.
-            GivesPiece kind meanings stood holds held S.shape self.old self.new clock.now at say.now odd is_odd
+            GivesPiece kind meanings stood holds held S.shape self.old self.new (plan_in clock.now G.takes) at say.now odd is_odd
             (gained into.old into.new) (F.inputs feed.old) (F.inputs feed.new)) }
-        ensures halts { OnErr result (HaltsInPiece kind (meanings self.old) clock.now at
+        ensures halts { OnErr result (HaltsInPiece kind (meanings self.old) (plan_in clock.now G.takes) at
             (F.inputs feed.old) (F.inputs feed.new)) }
+        ensures told { TellsNone G.SlipLog log.old log.new }
         ensures fed { DrawsClear F.Feed feed.old feed.new result }
         ensures same { meanings self.new ≡ meanings self.old };
 

@@ -69,15 +69,16 @@ impl Tx for Leaf {
         }
     }
 
-    fn quiet<F: Feed>(&self, _clock: &Schedule, feed: &F, most: usize) -> usize {
+    fn quiet<F: Feed, G: SlipLog>(&self, _clock: &Schedule, feed: &F, most: usize) -> usize {
         feed.left(self.leaf).min(most as u64) as usize
     }
 
     #[inline(always)]
-    fn make_clear<F: Feed>(
+    fn make_clear<F: Feed, G: SlipLog>(
         &mut self,
         _clock: &Schedule,
         feed: &mut F,
+        _log: &mut G,
         count: usize,
         into: &mut Packed,
     ) -> Result<(), Failed> {

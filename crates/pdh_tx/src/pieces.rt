@@ -3,8 +3,9 @@
 
 ghost use Rattle.std.specs.Prelude.{◌≡◌, ◌+◌, ◌<◌, ◌≤◌, ℕ, OnOk, OnErr};
 ghost use Rattle.pdh_line.specs.Sending.{arrived_in};
-ghost use Rattle.pdh_tx.specs.Meaning.{plan_of};
+ghost use Rattle.pdh_tx.specs.Meaning.{plan_in};
 ghost use Rattle.pdh_tx.specs.Calls.{DrawsClear};
+ghost use Rattle.pdh_tx.specs.Telling.{TellsNone};
 ghost use Rattle.pdh_tx.specs.Tributaries.{AreFed, HaveDecided, HavePassed, IsPassable, PassOne, PassAll, FailFrom, KeepAll, KeepFirst};
 
 use crate::Tx;
@@ -12,6 +13,7 @@ use crate::tributaries::Tributaries;
 use pdh_clock::Schedule;
 use pdh_edge::{Failed, Feed};
 use pdh_shape::{Path, Shape};
+use pdh_slips::SlipLog;
 
 /// A piece of a node's frame.
 #[derive(Clone, Copy, Debug, PartialEq, Eq)]
@@ -40,27 +42,29 @@ pub fn arriving<S: Shape>(count: u32, first: u32, len: usize) -> usize
 impl<S: Shape, C: Tx> Tributaries<S, C> {
     // Passes the bits of a tributary through a piece of a frame, in whose way nothing stands, into
     // its column.
-    fn pass_one<F: Feed>(
+    fn pass_one<F: Feed, G: SlipLog>(
         &mut self,
         trib: u8,
         at: Piece,
         clock: &Schedule,
         feed: &mut F,
+        log: &mut G,
     ) -> Result<(), Failed>
         requires trib { trib < S.TRIBS }
         requires inside { at.slot + at.len ≤ S.LEN }
-        requires decided { HaveDecided self.old at.path (plan_of clock.now) at.frame }
+        requires decided { HaveDecided self.old at.path (plan_in clock.now G.takes) at.frame }
         requires fed { AreFed self.old at.path clock.now (F.inputs feed.old) }
-        requires placed { HavePassed self.old clock.now at trib }
-        requires clear { IsPassable self.old clock.now at (F.inputs feed.old) trib }
-        ensures ok { OnOk result (PassOne self.old self.new clock.now at trib (F.inputs feed.old) (F.inputs feed.new)) }
-        ensures halts { OnErr result (FailFrom self.old clock.now at trib (F.inputs feed.old) (F.inputs feed.new)) }
+        requires placed { HavePassed self.old (plan_in clock.now G.takes) at trib }
+        requires clear { IsPassable self.old (plan_in clock.now G.takes) at (F.inputs feed.old) trib }
+        ensures ok { OnOk result (PassOne self.old self.new (plan_in clock.now G.takes) at trib (F.inputs feed.old) (F.inputs feed.new)) }
+        ensures halts { OnErr result (FailFrom self.old (plan_in clock.now G.takes) at trib (F.inputs feed.old) (F.inputs feed.new)) }
+        ensures told { TellsNone G.SlipLog log.old log.new }
         ensures fed { DrawsClear F.Feed feed.old feed.new result }
         ensures kept { KeepFirst self.old self.new trib }
     {
         let tributary = &mut self.list[trib as usize];
         let arriving = arriving::<S>(tributary.share.arriving, at.slot, at.len);
-        tributary.pass::<S, F>(
+        tributary.pass::<S, F, G>(
             trib,
             arriving,
             &self.layout,
@@ -68,6 +72,7 @@ impl<S: Shape, C: Tx> Tributaries<S, C> {
             at.len,
             clock,
             feed,
+            log,
             &mut self.scratch.queue,
             &mut self.scratch.columns[trib as usize],
         )
@@ -75,24 +80,26 @@ impl<S: Shape, C: Tx> Tributaries<S, C> {
 
     /// Passes the bits of all tributaries through a piece of a frame, in whose way nothing stands,
     /// into their columns.
-    pub fn pass_all<F: Feed>(
+    pub fn pass_all<F: Feed, G: SlipLog>(
         &mut self,
         at: Piece,
         clock: &Schedule,
         feed: &mut F,
+        log: &mut G,
     ) -> Result<(), Failed>
         requires inside { at.slot + at.len ≤ S.LEN }
-        requires decided { HaveDecided self.old at.path (plan_of clock.now) at.frame }
+        requires decided { HaveDecided self.old at.path (plan_in clock.now G.takes) at.frame }
         requires fed { AreFed self.old at.path clock.now (F.inputs feed.old) }
-        requires placed { HavePassed self.old clock.now at 0 }
-        requires clear { (j : ℕ) → IsPassable self.old clock.now at (F.inputs feed.old) j }
-        ensures ok { OnOk result (PassAll self.old self.new clock.now at S.TRIBS (F.inputs feed.old) (F.inputs feed.new)) }
-        ensures halts { OnErr result (FailFrom self.old clock.now at 0 (F.inputs feed.old) (F.inputs feed.new)) }
+        requires placed { HavePassed self.old (plan_in clock.now G.takes) at 0 }
+        requires clear { (j : ℕ) → IsPassable self.old (plan_in clock.now G.takes) at (F.inputs feed.old) j }
+        ensures ok { OnOk result (PassAll self.old self.new (plan_in clock.now G.takes) at S.TRIBS (F.inputs feed.old) (F.inputs feed.new)) }
+        ensures halts { OnErr result (FailFrom self.old (plan_in clock.now G.takes) at 0 (F.inputs feed.old) (F.inputs feed.new)) }
+        ensures told { TellsNone G.SlipLog log.old log.new }
         ensures fed { DrawsClear F.Feed feed.old feed.new result }
         ensures kept { KeepAll self.old self.new }
     {
         for trib in 0..S::TRIBS {
-            self.pass_one(trib, at, clock, feed)?;
+            self.pass_one(trib, at, clock, feed, log)?;
         }
         Ok(())
     }

@@ -5,6 +5,7 @@ ghost use Rattle.std.specs.Prelude.{◌≡◌, ◌≤◌, ◌+◌, ℕ, length, 
 ghost use Rattle.pdh_packed.specs.Gaining.{gained};
 ghost use Rattle.pdh_tx.specs.Meaning.{Plan, Supply, plan_in, IsFresh};
 ghost use Rattle.pdh_tx.specs.Calls.{Draws, DrawsClear, Appends, IsPieceOf, IsKept, StandsBy, StandsClear, MakesNext, StopsNext, TellsNext, MakesNextAll, HaltsNext};
+ghost use Rattle.pdh_tx.specs.Telling.{TellsNone};
 ghost use Rattle.pdh_tx.specs.Body.{sender_meaning, AreFedBelow, SenderAt, SenderFor};
 
 use crate::body::Body;
@@ -113,12 +114,13 @@ impl<S: Shape, B: Body<S>> Sender<S, B> {
         Ok(bit)
     }
 
-    // Makes the next bits, so many within a frame, in whose way nothing stands, and appends them to
-    // `into`.
-    fn piece<F: Feed>(
+    // Makes the next bits, so many within a frame, in whose way nothing stands and which bring no slip,
+    // and appends them to `into`.
+    fn piece<F: Feed, G: SlipLog>(
         &mut self,
         clock: &Schedule,
         feed: &mut F,
+        log: &mut G,
         len: usize,
         into: &mut Packed,
     ) -> Result<(), Failed>
@@ -126,13 +128,14 @@ impl<S: Shape, B: Body<S>> Sender<S, B> {
         requires piece { IsPieceOf S.LEN self.old.at.slot len }
         requires room { length into.old.bits + len ≤ into.old.capacity }
         requires clear { let tx = ⟦<Sender<S, B> as Tx>⟧ in
-            StandsClear tx.meaning tx.stands_at self.old clock.now len (F.inputs feed.old) }
+            StandsClear tx.meaning tx.stands_at self.old (plan_in clock.now G.takes) len (F.inputs feed.old) }
         ensures appended { Appends into.old into.new len result }
         ensures made { let tx = ⟦<Sender<S, B> as Tx>⟧ in OnOk result
-            (MakesNextAll tx.meaning tx.says tx.stands_at tx.stands_for self.old self.new clock.now len
+            (MakesNextAll tx.meaning tx.says tx.stands_at tx.stands_for self.old self.new (plan_in clock.now G.takes) len
             (gained into.old into.new) (F.inputs feed.old) (F.inputs feed.new)) }
         ensures halts { let tx = ⟦<Sender<S, B> as Tx>⟧ in OnErr result
-            (HaltsNext tx.meaning tx.stands_at self.old clock.now len (F.inputs feed.old) (F.inputs feed.new)) }
+            (HaltsNext tx.meaning tx.stands_at self.old (plan_in clock.now G.takes) len (F.inputs feed.old) (F.inputs feed.new)) }
+        ensures told { TellsNone G.SlipLog log.old log.new }
         ensures running { self.new.stopped ≡ self.old.stopped }
         ensures fed { DrawsClear F.Feed feed.old feed.new result }
         ensures kept { let tx = ⟦<Sender<S, B> as Tx>⟧ in IsKept tx.meaning tx.says self.old self.new }
@@ -146,7 +149,7 @@ impl<S: Shape, B: Body<S>> Sender<S, B> {
         };
         let odd = self
             .body
-            .piece(at, &say, self.at.last_odd, clock, feed, into)?;
+            .piece(at, &say, self.at.last_odd, clock, feed, log, into)?;
         let last = (at.slot as usize + len - 1) as u32;
         self.say = say;
         self.at = moved::<S>(self.at, last, self.at.is_odd ^ odd);
@@ -186,15 +189,16 @@ impl<S: Shape, B: Body<S>> Tx for Sender<S, B> {
         }
     }
 
-    fn quiet<F: Feed>(&self, clock: &Schedule, feed: &F, most: usize) -> usize {
+    fn quiet<F: Feed, G: SlipLog>(&self, clock: &Schedule, feed: &F, most: usize) -> usize {
         self.body
-            .quiet(self.path, self.at.frame, self.at.slot, clock, feed, most)
+            .quiet::<F, G>(self.path, self.at.frame, self.at.slot, clock, feed, most)
     }
 
-    fn make_clear<F: Feed>(
+    fn make_clear<F: Feed, G: SlipLog>(
         &mut self,
         clock: &Schedule,
         feed: &mut F,
+        log: &mut G,
         count: usize,
         into: &mut Packed,
     ) -> Result<(), Failed> {
@@ -202,7 +206,7 @@ impl<S: Shape, B: Body<S>> Tx for Sender<S, B> {
         while made < count {
             let rest = (S::LEN - self.at.slot) as usize;
             let len = rest.min(count - made);
-            match self.piece(clock, feed, len, into) {
+            match self.piece(clock, feed, log, len, into) {
                 Ok(()) => made += len,
                 Err(Failed) => {
                     self.stopped = true;

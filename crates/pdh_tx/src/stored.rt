@@ -17,7 +17,7 @@ use pdh_clock::Schedule;
 use pdh_edge::{Failed, Feed};
 use pdh_packed::Packed;
 use pdh_shape::{Path, Service, Shape};
-use pdh_slips::{NoSlips, SlipLog};
+use pdh_slips::SlipLog;
 
 impl<S: Shape, C: Tx> Body<S> for Tributaries<S, C> {
     ghost kind = { stored_kind S.shape };
@@ -48,7 +48,7 @@ impl<S: Shape, C: Tx> Body<S> for Tributaries<S, C> {
         self.slot_bit(path, frame, slot, say, odd, log)
     }
 
-    fn quiet<F: Feed>(
+    fn quiet<F: Feed, G: SlipLog>(
         &self,
         path: Path,
         frame: u64,
@@ -72,22 +72,23 @@ impl<S: Shape, C: Tx> Body<S> for Tributaries<S, C> {
             end,
             end_frame: end_frame as u64,
         };
-        if !self.meet_nothing(next, clock, feed) {
+        if !self.meet_nothing::<F, G>(next, clock, feed) {
             return 0;
         }
         most
     }
 
-    fn piece<F: Feed>(
+    fn piece<F: Feed, G: SlipLog>(
         &mut self,
         at: Piece,
         say: &Service,
         odd: bool,
         clock: &Schedule,
         feed: &mut F,
+        log: &mut G,
         into: &mut Packed,
     ) -> Result<bool, Failed> {
-        match self.begin(at.path, at.frame, at.slot, clock, feed, &mut NoSlips) {
+        match self.begin(at.path, at.frame, at.slot, clock, feed, log) {
             Ok(()) => {
                 write_overhead::<S, Vec<Tributary<C>>>(
                     &self.layout,
@@ -97,7 +98,7 @@ impl<S: Shape, C: Tx> Body<S> for Tributaries<S, C> {
                     &self.list,
                     &mut self.scratch.overhead,
                 );
-                self.pass_all(at, clock, feed)?;
+                self.pass_all(at, clock, feed, log)?;
                 Ok(
                     self.layout.assemble(
                         at.slot,

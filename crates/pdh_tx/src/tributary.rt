@@ -6,7 +6,7 @@ ghost use Rattle.pdh_tx.specs.Meaning.{mode_of, plan_in};
 ghost use Rattle.pdh_tx.specs.Calls.{Draws, DrawsClear, HasRoomFor, HasSameRoom, IsFed};
 ghost use Rattle.pdh_tx.specs.Tributary.{plain_placed_in, meaning_in, DropsHalf, HasRoomIn, AddsHalf, LeavesBit, LeavesNone, TellsOwn, KeepsShare, StandsIn, TakesNext, StopsAtNext, TellsArrival, TakesLead, StopsInLead, TellsLead};
 ghost use Rattle.pdh_tx.specs.declared.tx.TxStop.TheVariants.{LogFailed};
-ghost use Rattle.pdh_tx.specs.Telling.{Tells};
+ghost use Rattle.pdh_tx.specs.Telling.{Tells, TellsNone};
 ghost use Rattle.pdh_slips.specs.Logs.{slip_at};
 ghost use Rattle.pdh_tx.specs.Passing.{PassesFreely, PassesColumn, HaltsPassing};
 
@@ -105,7 +105,7 @@ impl<C: Tx> Tributary<C> {
     /// many slots from `first` on, into its column; the others stand in the store. Nothing stands in
     /// the way.
     #[inline(always)]
-    pub fn pass<S: Shape, F: Feed>(
+    pub fn pass<S: Shape, F: Feed, G: SlipLog>(
         &mut self,
         trib: u8,
         arriving: usize,
@@ -114,6 +114,7 @@ impl<C: Tx> Tributary<C> {
         len: usize,
         clock: &Schedule,
         feed: &mut F,
+        log: &mut G,
         queue: &mut Packed,
         column: &mut Packed,
     ) -> Result<(), Failed>
@@ -121,11 +122,12 @@ impl<C: Tx> Tributary<C> {
         requires trib { trib < S.TRIBS }
         requires inside { first + len ≤ S.LEN }
         requires room { HasRoomFor (arriving + store_size) (S.LOW + 1) queue.old column.old }
-        requires clear { PassesFreely C.Tx S.shape trib first len arriving self.old clock.now (F.inputs feed.old) }
+        requires clear { PassesFreely C.Tx S.shape trib first len arriving self.old (plan_in clock.now G.takes) (F.inputs feed.old) }
         ensures ok { OnOk result (PassesColumn C.Tx S.shape trib first len arriving self.old self.new
-            column.new.bits clock.now (F.inputs feed.old) (F.inputs feed.new)) }
-        ensures halts { OnErr result (HaltsPassing C.Tx arriving self.old clock.now
+            column.new.bits (plan_in clock.now G.takes) (F.inputs feed.old) (F.inputs feed.new)) }
+        ensures halts { OnErr result (HaltsPassing C.Tx arriving self.old (plan_in clock.now G.takes)
             (F.inputs feed.old) (F.inputs feed.new)) }
+        ensures told { TellsNone G.SlipLog log.old log.new }
         ensures fed { DrawsClear F.Feed feed.old feed.new result }
         ensures kept { KeepsShare C.Tx self.old self.new }
         ensures room { HasSameRoom queue.old queue.new column.old column.new }
@@ -133,7 +135,7 @@ impl<C: Tx> Tributary<C> {
         let more = self.share.more;
         queue.clear();
         self.store.move_to(queue);
-        self.child.make_clear(clock, feed, arriving, queue)?;
+        self.child.make_clear(clock, feed, log, arriving, queue)?;
         let gone = layout.carried(trib, more, first, len);
         layout.fill_column(trib, more, first, len, queue, column);
         self.store.put_from(queue, gone, queue.len() - gone);

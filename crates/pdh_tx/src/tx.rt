@@ -3,8 +3,9 @@
 ghost use Rattle.std.specs.Prelude.{◌≡◌, ◌≤◌, ◌+◌, ℕ, suc, Bool, false, is_err, length, IfOk, OnOk, IfErr, OnErr};
 ghost use Rattle.pdh_packed.specs.Gaining.{gained};
 ghost use Rattle.pdh_shape.specs.declared.role.Service.{Service};
-ghost use Rattle.pdh_tx.specs.Meaning.{Supply, Plan, plan_in, plan_of, Meaning};
+ghost use Rattle.pdh_tx.specs.Meaning.{Supply, Plan, plan_in, Meaning};
 ghost use Rattle.pdh_tx.specs.Calls.{Draws, DrawsClear, Appends, IsFed, IsKept, StandsBy, StandsClear, GoesFree, MakesNext, StopsNext, TellsNext, MakesNextAll, HaltsNext};
+ghost use Rattle.pdh_tx.specs.Telling.{TellsNone};
 
 use pdh_clock::Schedule;
 use pdh_edge::{Failed, Feed};
@@ -80,32 +81,35 @@ pub trait Tx: Drop {
         ensures kept { IsKept meaning says self.old self.new };
 
     /// How many next bits of the line, up to so many, surely meet nothing: no event of a store, its own or one below, and no
-    /// end of a node's frames or of a leaf's list. More bits may meet nothing than it answers.
-    fn quiet<F: Feed>(&self, clock: &Schedule, feed: &F, most: usize) -> usize
+    /// end of a node's frames or of a leaf's list. So they bring no slip where logs of type `G` take slips. More bits may meet
+    /// nothing than it answers.
+    fn quiet<F: Feed, G: SlipLog>(&self, clock: &Schedule, feed: &F, most: usize) -> usize
         requires fed { IsFed (meaning self.now) clock.now (F.inputs feed.now) }
-        requires stands { StandsBy stands_at self.now (plan_of clock.now) }
+        requires stands { StandsBy stands_at self.now (plan_in clock.now G.takes) }
         ensures most { result ≤ most }
-        ensures free { GoesFree meaning stands_at self.now clock.now result (F.inputs feed.now) };
+        ensures free { GoesFree meaning stands_at self.now (plan_in clock.now G.takes) result (F.inputs feed.now) };
 
-    /// Makes the next bits of the line, so many, in whose way nothing stands, and appends them to
-    /// `into`; it fails only where the feed's count of faults rose, and the leaves gave no more than
-    /// these bits take. Each frame that they begin says the same.
-    fn make_clear<F: Feed>(
+    /// Makes the next bits of the line, so many, in whose way nothing stands and which bring no slip, and
+    /// appends them to `into`; it fails only where the feed's count of faults rose, and the leaves gave no
+    /// more than these bits take. Each frame that they begin says the same. The log is told of nothing.
+    fn make_clear<F: Feed, G: SlipLog>(
         &mut self,
         clock: &Schedule,
         feed: &mut F,
+        log: &mut G,
         count: usize,
         into: &mut Packed,
     ) -> Result<(), Failed>
         requires running { is_stopped self.old ≡ false }
         requires fed { IsFed (meaning self.old) clock.now (F.inputs feed.old) }
         requires room { length into.old.bits + count ≤ into.old.capacity }
-        requires clear { StandsClear meaning stands_at self.old clock.now count (F.inputs feed.old) }
+        requires clear { StandsClear meaning stands_at self.old (plan_in clock.now G.takes) count (F.inputs feed.old) }
         ensures appended { Appends into.old into.new count result }
-        ensures made { OnOk result (MakesNextAll meaning says stands_at stands_for self.old self.new clock.now count
+        ensures made { OnOk result (MakesNextAll meaning says stands_at stands_for self.old self.new (plan_in clock.now G.takes) count
             (gained into.old into.new) (F.inputs feed.old) (F.inputs feed.new)) }
-        ensures halts { OnErr result (HaltsNext meaning stands_at self.old clock.now count
+        ensures halts { OnErr result (HaltsNext meaning stands_at self.old (plan_in clock.now G.takes) count
             (F.inputs feed.old) (F.inputs feed.new)) }
+        ensures told { TellsNone G.SlipLog log.old log.new }
         ensures stopped { is_stopped self.new ≡ is_err result }
         ensures fed { DrawsClear F.Feed feed.old feed.new result }
         ensures kept { IsKept meaning says self.old self.new };

@@ -34,7 +34,7 @@ returns-in-Ok-make_clear-clause-made g c x says here free told =
     let len : ℕ = c.args.len in
     let bits : List Bool = c.make_clear.new.into.bits in
     let whole : gained c.clear.new.self c.make_clear.new.into ≡ bits = gained_whole c.clear.new.self c.make_clear.new.into (ap (λ (b : BoundedBits). b.bits) c.clear.ensures) in
-    makes_next m m says (g.T.Tx.says c.args.sender.now) _ _ _ plan x len len bits _ _ refl refl told (free_first m plan x (x + len) (x + c.args.clear) (g.F.Feed.inputs c.args.feed.now) (omega (arith, c.if-clear-len.false)) free)
+    makes_next m m says (g.T.Tx.says c.args.sender.now) _ _ _ plan x len len bits _ _ refl refl told (free_first m plan x (x + len) (x + c.args.clear) (g.F.Feed.inputs c.args.feed.now) (omega (arith, c.if-clear-len.false)) free).free
     (subst (λ (l : List Bool). MakesAll m (g.T.Tx.says c.args.sender.now) (g.T.Tx.stands_at c.make_clear.new.self plan) (g.T.Tx.stands_for c.args.sender.now) (g.T.Tx.stands_for c.make_clear.new.self) plan x (x + len) l (g.F.Feed.inputs c.args.feed.now) (g.F.Feed.inputs c.make_clear.new.feed)) whole
     (c.in-Ok-make_clear.ensures.made x here))
 

@@ -4,7 +4,7 @@ use Rattle.pdh_edge.proofs.Progress.{starts, both_counts}
 use Rattle.pdh_edge.proofs.Runs.{rose_of}
 use Rattle.pdh_edge.specs.Ports.{Inputs}
 use Rattle.pdh_tx.specs.Meaning.{plan_of, Meaning}
-use Rattle.pdh_tx.specs.Making.{IsFree}
+use Rattle.pdh_tx.specs.Making.{IsUneventful}
 use Rattle.pdh_chain.specs.Muxing.{MakesBits}
 use Rattle.pdh_chain.specs.Saying.{says_of}
 use Rattle.pdh_chain.proofs.Frames.{is_told, sending_none, sending_more, sending_sends, sending_fails, frame_end, frame_ends, frame_counts, free_none, free_after}
@@ -35,7 +35,7 @@ make_frame-requires-clause-free g c =
     let inv = c.loop-whole.invariant in
     let x : ℕ = c.loop-whole.whole * c.args.len in
     let set = is_told g.T.Tx c.args.sender.now c.loop-whole.sender c.set.new.self plan (says_of c.args.feac) c.args.len c.loop-whole.whole _ _ _ _ c.requires.sender.frames inv.same c.set.ensures.meaning (λ n. c.set.ensures.placed plan n) (λ supply n. c.set.ensures.held supply n) (c.set.ensures.says ∙ c.next_service.ensures.says c.args.feac c.loop-whole.whole inv.said) inv.sends.does in
-    let known = subst (λ (m : Meaning). IsFree m plan x (x + c.loop-whole.ahead.clear) (g.P.Feed.inputs c.loop-whole.port)) (sym set.same) inv.ahead in
+    let known = subst (λ (m : Meaning). IsUneventful m plan x (x + c.loop-whole.ahead.clear) (g.P.Feed.inputs c.loop-whole.port)) (sym set.same) inv.ahead in
     (x, set.sending.makes.place, c.look-known.ensures x set.sending.makes.place known)
 
 pub returns-in-Err-clause-sent : goal.returns-in-Err-clause-sent
@@ -58,7 +58,7 @@ returns-in-Err-put_all-clause-sent g c =
     let plan = plan_of c.args.clock.now in
     let inv = c.loop-whole.invariant in
     let set = is_told g.T.Tx c.args.sender.now c.loop-whole.sender c.set.new.self plan (says_of c.args.feac) c.args.len c.loop-whole.whole _ _ _ _ c.requires.sender.frames inv.same c.set.ensures.meaning (λ n. c.set.ensures.placed plan n) (λ supply n. c.set.ensures.held supply n) (c.set.ensures.says ∙ c.next_service.ensures.says c.args.feac c.loop-whole.whole inv.said) inv.sends.does in
-    let known = subst (λ (m : Meaning). IsFree m plan (c.loop-whole.whole * c.args.len) (c.loop-whole.whole * c.args.len + c.loop-whole.ahead.clear) (g.P.Feed.inputs c.loop-whole.port)) (sym set.same) inv.ahead in
+    let known = subst (λ (m : Meaning). IsUneventful m plan (c.loop-whole.whole * c.args.len) (c.loop-whole.whole * c.args.len + c.loop-whole.ahead.clear) (g.P.Feed.inputs c.loop-whole.port)) (sym set.same) inv.ahead in
     let fed = g.met.P.Port.fed_keeps_outputs c.loop-whole.port c.make_frame.new.feed c.make_frame.ensures.fed.fed in
     let drained = g.met.P.Port.drained_keeps_inputs _ _ c.put_all.ensures.drained in
     let writes : g.P.Drain.drain_faults c.make_frame.new.feed ≡ g.P.Drain.drain_faults c.args.port.now = fed.1 ∙ ap (λ (k : ℕ × ℕ). k.1) inv.sends.counts in
@@ -76,7 +76,7 @@ loop-whole-preserved g c =
     let plan = plan_of c.args.clock.now in
     let inv = c.loop-whole.invariant in
     let set = is_told g.T.Tx c.args.sender.now c.loop-whole.sender c.set.new.self plan (says_of c.args.feac) c.args.len c.loop-whole.whole _ _ _ _ c.requires.sender.frames inv.same c.set.ensures.meaning (λ n. c.set.ensures.placed plan n) (λ supply n. c.set.ensures.held supply n) (c.set.ensures.says ∙ c.next_service.ensures.says c.args.feac c.loop-whole.whole inv.said) inv.sends.does in
-    let known = subst (λ (m : Meaning). IsFree m plan (c.loop-whole.whole * c.args.len) (c.loop-whole.whole * c.args.len + c.loop-whole.ahead.clear) (g.P.Feed.inputs c.loop-whole.port)) (sym set.same) inv.ahead in
+    let known = subst (λ (m : Meaning). IsUneventful m plan (c.loop-whole.whole * c.args.len) (c.loop-whole.whole * c.args.len + c.loop-whole.ahead.clear) (g.P.Feed.inputs c.loop-whole.port)) (sym set.same) inv.ahead in
     let fed = g.met.P.Port.fed_keeps_outputs c.loop-whole.port c.make_frame.new.feed c.make_frame.ensures.fed.fed in
     let drained = g.met.P.Port.drained_keeps_inputs c.make_frame.new.feed c.put_all.new.self c.put_all.ensures.drained in
     let moved = g.met.P.Port.kept_join _ _ _ (g.met.P.Port.fed_is_kept _ _ c.make_frame.ensures.fed.fed) (g.met.P.Port.drained_is_kept _ _ c.put_all.ensures.drained) in
@@ -85,12 +85,12 @@ loop-whole-preserved g c =
       said = c.next_service.ensures.said c.args.feac c.loop-whole.whole inv.said;
       same = c.make_frame.ensures.kept.same ∙ set.same;
       room = c.make_frame.ensures.room ∙ inv.room;
-      ahead = subst (λ (i : Inputs). IsFree (g.T.Tx.meaning c.args.sender.now) plan ((c.loop-whole.whole + 1) * c.args.len) ((c.loop-whole.whole + 1) * c.args.len + c.after-ahead.result.clear) i) (sym drained.0)
+      ahead = subst (λ (i : Inputs). IsUneventful (g.T.Tx.meaning c.args.sender.now) plan ((c.loop-whole.whole + 1) * c.args.len) ((c.loop-whole.whole + 1) * c.args.len + c.after-ahead.result.clear) i) (sym drained.0)
           (free_after (g.T.Tx.meaning c.args.sender.now) (says_of c.args.feac) (g.T.Tx.stands_at c.make_frame.new.sender plan) (g.T.Tx.stands_for c.set.new.self) (g.T.Tx.stands_for c.make_frame.new.sender) plan (c.loop-whole.whole * c.args.len) ((c.loop-whole.whole + 1) * c.args.len) _ c.look-known.result.clear c.args.len _ _ _
           (subst (λ (m : Meaning). MakesBits m (says_of c.args.feac) (g.T.Tx.stands_at c.make_frame.new.sender plan) (g.T.Tx.stands_for c.set.new.self) (g.T.Tx.stands_for c.make_frame.new.sender) plan (c.loop-whole.whole * c.args.len) ((c.loop-whole.whole + 1) * c.args.len) c.make_frame.new.frame.bits (g.P.Feed.inputs c.loop-whole.port) (g.P.Feed.inputs c.make_frame.new.feed)) set.same
           (subst (λ (to : ℕ). MakesBits (g.T.Tx.meaning c.set.new.self) (says_of c.args.feac) (g.T.Tx.stands_at c.make_frame.new.sender plan) (g.T.Tx.stands_for c.set.new.self) (g.T.Tx.stands_for c.make_frame.new.sender) plan (c.loop-whole.whole * c.args.len) to c.make_frame.new.frame.bits (g.P.Feed.inputs c.loop-whole.port) (g.P.Feed.inputs c.make_frame.new.feed)) (frame_end c.loop-whole.whole c.args.len) (c.in_default.ensures.made (c.loop-whole.whole * c.args.len) (says_of c.args.feac) set.sending.makes.place (c.look-known.ensures _ set.sending.makes.place known) (set.told _ set.same))))
           (sym (frame_end c.loop-whole.whole c.args.len)) (omega (arith, c.after-ahead.ensures))
-          (subst (λ (m : Meaning). IsFree m plan (c.loop-whole.whole * c.args.len) (c.loop-whole.whole * c.args.len + c.look-known.result.clear) (g.P.Feed.inputs c.loop-whole.port)) set.same (c.look-known.ensures _ set.sending.makes.place known)));
+          (subst (λ (m : Meaning). IsUneventful m plan (c.loop-whole.whole * c.args.len) (c.loop-whole.whole * c.args.len + c.look-known.result.clear) (g.P.Feed.inputs c.loop-whole.port)) set.same (c.look-known.ensures _ set.sending.makes.place known)));
       lists = ap (λ i. i.holds) drained.0 ∙ g.met.P.Feed.fed_holds c.loop-whole.port c.make_frame.new.feed c.make_frame.ensures.fed.fed ∙ inv.lists;
       lines = g.met.P.Drain.drained_holds c.make_frame.new.feed c.put_all.new.self c.put_all.ensures.drained ∙ ap (λ o. o.holds) fed.0 ∙ inv.lines;
       sends = record {

@@ -1,7 +1,7 @@
 use Rattle.std.proofs.Common.{◌≡◌, ◌+◌, ◌*◌, false, Ok}
 use Rattle.pdh_edge.specs.Progress.{Works, port_faults}
 use Rattle.pdh_tx.specs.Meaning.{plan_of}
-use Rattle.pdh_tx.specs.Making.{IsFree}
+use Rattle.pdh_tx.specs.Making.{IsUneventful}
 use Rattle.pdh_chain.specs.Calls.{SendStopsBy}
 use Rattle.pdh_chain.specs.Faults.{counted_at_send_stop}
 use Rattle.pdh_chain.specs.Saying.{says_of, HasSaid}
@@ -17,7 +17,7 @@ invariant-loop-whole g l = record {
   room : l.frame.capacity ≡ l.fn.frame.capacity;
   lists : (g.P.Feed.inputs l.port).holds ≡ (g.P.Feed.inputs l.fn.port).holds;
   lines : (g.P.Drain.outputs l.port).holds ≡ (g.P.Drain.outputs l.fn.port).holds;
-  ahead : IsFree (g.T.Tx.meaning l.fn.sender) (plan_of l.fn.clock) (l.whole * l.len) (l.whole * l.len + l.ahead.clear) (g.P.Feed.inputs l.port);
+  ahead : IsUneventful (g.T.Tx.meaning l.fn.sender) (plan_of l.fn.clock) (l.whole * l.len) (l.whole * l.len + l.ahead.clear) (g.P.Feed.inputs l.port);
   sends : Works {T = Unit {0}} g.P.Port.kept (port_faults g.P.Feed g.P.Drain) counted_at_send_stop
       (λ old new. Sending (g.T.Tx.meaning l.fn.sender) (says_of l.fn.feac) (g.T.Tx.stands_at l.sender (plan_of l.fn.clock)) (g.T.Tx.stands_for l.fn.sender) (g.T.Tx.stands_for l.sender) (plan_of l.fn.clock) (l.whole * l.len) (g.P.Feed.inputs old) (g.P.Feed.inputs new) (g.P.Drain.outputs old) (g.P.Drain.outputs new))
       (λ stop old new. SendStopsBy g.T.Tx g.P.Feed g.P.Drain l.fn.sender l.fn.clock l.fn.feac l.len l.fn.frames old new stop) l.fn.port l.port (Ok tt);

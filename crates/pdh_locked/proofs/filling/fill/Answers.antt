@@ -1,7 +1,7 @@
 use Rattle.std.proofs.Common.{◌≡◌, ◌+◌, ℕ, List, Bool, false, ◌++◌, sym, ap, ◌∙◌, subst, arith}
 use Rattle.pdh_packed.specs.Gaining.{gained}
 use Rattle.pdh_runs.specs.Pieces.{FillsColumn}
-use Rattle.pdh_tx.specs.Meaning.{plan_of}
+use Rattle.pdh_tx.specs.Meaning.{plan_in}
 use Rattle.pdh_tx.specs.Held.{Gains}
 use Rattle.pdh_tx.specs.Making.{IsClear}
 use Rattle.pdh_tx.specs.Passing.{carried_in}
@@ -13,7 +13,7 @@ use Rattle.pdh_locked.proofs.filling.fill.Goals as goal
 pub make_clear-requires-clause-clear : goal.make_clear-requires-clause-clear
 make_clear-requires-clause-clear g c =
     let same : c.carried-carried.result ≡ carried_in g.S.Shape.shape c.args.trib false c.args.first c.args.len = omega (arith, carried_is g.S.Shape.shape c.args.trib false c.args.first c.args.len, c.carried-carried.ensures) in
-    let P : ℕ → Type 0 = λ k. IsClear (g.C.Tx.meaning c.args.child.now) (plan_of c.args.clock.now) c.requires.clear.made (c.requires.clear.made + k) (g.F.Feed.inputs c.args.feed.now) in
+    let P : ℕ → Type 0 = λ k. IsClear (g.C.Tx.meaning c.args.child.now) (plan_in c.args.clock.now g.G.SlipLog.takes) c.requires.clear.made (c.requires.clear.made + k) (g.F.Feed.inputs c.args.feed.now) in
     (c.requires.clear.made, c.requires.clear.stands.place, subst P (sym same) c.requires.clear.clear)
 
 pub returns-clause-ok : goal.returns-clause-ok
@@ -21,7 +21,7 @@ returns-clause-ok g c = record {
   rows = c.fill_column.ensures.rows;
   bits = λ made was.
       let s = g.S.Shape.shape in
-      let plan = plan_of c.args.clock.now in
+      let plan = plan_in c.args.clock.now g.G.SlipLog.takes in
       let j : ℕ = c.args.trib in
       let first : ℕ = c.args.first in
       let len : ℕ = c.args.len in

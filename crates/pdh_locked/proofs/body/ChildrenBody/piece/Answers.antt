@@ -6,7 +6,7 @@ use Rattle.pdh_packed.specs.Gaining.{gained}
 use Rattle.pdh_shape.specs.Frame.{FrameShape}
 use Rattle.pdh_runs.specs.Pieces.{rows, Assembled}
 use Rattle.pdh_tx.specs.declared.tx.TxStop.TheVariants.{Failed}
-use Rattle.pdh_tx.specs.Meaning.{plan_of, Plan}
+use Rattle.pdh_tx.specs.Meaning.{plan_in, Plan}
 use Rattle.pdh_tx.specs.Node.{Stays}
 use Rattle.pdh_tx.specs.Passing.{HoldsBits, HasRows}
 use Rattle.pdh_tx.specs.Locked.{locked_to}
@@ -24,21 +24,21 @@ fill_all-requires-clause-fed g c = record { lists = c.requires.fed.lists; nodes 
 pub fill_all-requires-clause-placed : goal.fill_all-requires-clause-placed
 fill_all-requires-clause-placed g c =
     let s : FrameShape = g.S.Shape.shape in
-    let P : (ℕ → ℕ) → Type 0 = λ made. HaveMade c.args.self.now (plan_of c.args.clock.now) made in
+    let P : (ℕ → ℕ) → Type 0 = λ made. HaveMade c.args.self.now (plan_in c.args.clock.now g.G.SlipLog.takes) made in
     subst P (sym (upto_none (locked_to s c.args.at.frame c.args.at.slot) (locked_to s c.args.at.frame (c.args.at.slot + c.args.at.len)))) c.requires.placed.made
 
 pub fill_all-requires-clause-clear : goal.fill_all-requires-clause-clear
 fill_all-requires-clause-clear g c j m maker =
     let cs = c.args.self.now in
     let known = inside (meanings cs) j m maker in
-    passable g.C.Tx g.S.Shape.shape c.args.at.path (plan_of c.args.clock.now) cs.list.items c.args.at.frame c.args.at.slot c.args.at.len _ c.requires.clear j m cs.disjoint (omega (arith, known, length-map cs.list.items g.C.Tx.meaning, cs.count, g.met.S.Shape.tribs_is)) maker
+    passable g.C.Tx g.S.Shape.shape c.args.at.path (plan_in c.args.clock.now g.G.SlipLog.takes) cs.list.items c.args.at.frame c.args.at.slot c.args.at.len _ c.requires.clear j m cs.disjoint (omega (arith, known, length-map cs.list.items g.C.Tx.meaning, cs.count, g.met.S.Shape.tribs_is)) maker
 
 pub returns-in_err-fill_all-clause-halts : goal.returns-in_err-fill_all-clause-halts
 returns-in_err-fill_all-clause-halts g c =
     let s : FrameShape = g.S.Shape.shape in
     let f : ℕ → ℕ = locked_to s c.args.at.frame c.args.at.slot in
     let f' : ℕ → ℕ = locked_to s c.args.at.frame (c.args.at.slot + c.args.at.len) in
-    let P : (ℕ → ℕ) → Type 0 = λ made. Stays (meanings c.args.self.now) (plan_of c.args.clock.now) made f' Failed (g.F.Feed.inputs c.args.feed.now) (g.F.Feed.inputs c.fill_all.new.feed) in
+    let P : (ℕ → ℕ) → Type 0 = λ made. Stays (meanings c.args.self.now) (plan_in c.args.clock.now g.G.SlipLog.takes) made f' Failed (g.F.Feed.inputs c.args.feed.now) (g.F.Feed.inputs c.fill_all.new.feed) in
     on_err_from c.from_residual.result (subst P (upto_none f f') c.in_err-fill_all.ensures.halts)
 
 pub assemble-requires-clause-rows : goal.assemble-requires-clause-rows
@@ -51,7 +51,7 @@ assemble-requires-clause-rows g c =
 pub returns-clause-made : goal.returns-clause-made
 returns-clause-made g c =
     let s : FrameShape = g.S.Shape.shape in
-    let plan : Plan = plan_of c.args.clock.now in
+    let plan : Plan = plan_in c.args.clock.now g.G.SlipLog.takes in
     let n : ℕ = c.args.at.frame in
     let t : ℕ = c.args.at.slot in
     let len : ℕ = c.args.at.len in
@@ -65,11 +65,11 @@ returns-clause-made g c =
     let within : t + len ≤ s.len = omega (arith, c.requires.piece.inside, g.met.S.Shape.len_is) in
     let A : List Bool → List BoundedBits → Type 0 = λ overhead lists. Assembled s t len overhead (map (λ (column : BoundedBits). column.bits) lists) bits in
     let assembled : A overhead.bits new.scratch.columns.items = subst (λ (overhead : BoundedBits). A overhead.bits new.scratch.columns.items) ok.kept.overhead (subst (A new.scratch.overhead.bits) c.deref-3.ensures.value c.assemble.ensures.assembled) in
-    let F : ℕ → Type 0 = λ k. FillOn cs new c.args.clock.now n t len 0 k (inputs c.args.feed.now) (inputs c.fill_all.new.feed) (λ source. HoldsBits s source n t len (columns new) k) in
+    let F : ℕ → Type 0 = λ k. FillOn cs new plan n t len 0 k (inputs c.args.feed.now) (inputs c.fill_all.new.feed) (λ source. HoldsBits s source n t len (columns new) k) in
     let fills = subst F all ok.ok.fills in
     let begun : n < plan.frames c.args.at.path = scheduled g.C.Tx s c.args.at.path plan cs.list.items n t len _ c.requires.clear c.requires.piece.some c.requires.placed.scheduled in
     record {
       gives = filled_gives g.C.Tx s g.met.S.Shape.has_tributaries cs.locked c.args.at.path plan cs.list.items new.list.items n t (t + len) c.args.say.now c.args.odd len overhead.bits bits (columns new) _ _ (cs.count ∙ all) (new.count ∙ all) c.assemble.ensures.grown.count within
-          begun (omega (arith, begun, c.frames-fits.ensures)) c.write_overhead.ensures.bits assembled (subst (λ (k : ℕ). HaveFilled new c.args.clock.now n t len k) all ok.ok.placed) (fills c.args.at.path);
+          begun (omega (arith, begun, c.frames-fits.ensures)) c.write_overhead.ensures.bits assembled (subst (λ (k : ℕ). HaveFilled new plan n t len k) all ok.ok.placed) (fills c.args.at.path);
       odd_is = c.assemble.ensures.odd;
     }

@@ -1,4 +1,4 @@
-use Rattle.std.proofs.Common.{◌+◌, ◌≤◌, ℕ, Bool, false, List, length, map, slice_set, refl, sym, ap, ◌∙◌, subst, arith}
+use Rattle.std.proofs.Common.{◌≡◌, ◌+◌, ◌≤◌, ℕ, Bool, false, List, [], length, map, slice_set, refl, sym, ap, ◌∙◌, subst, arith}
 use Rattle.std.specs.List.{range_with_len}
 use Rattle.std.proofs.lemmas.List.{length-set}
 use Rattle.std.proofs.lemmas.List.Elements.{All-set}
@@ -7,17 +7,18 @@ use Rattle.std.proofs.lemmas.Result.{on_ok_weaker, on_err_weaker}
 use Rattle.std.proofs.Math.Seq.{map-set_same}
 use Rattle.pdh_shape.specs.Frame.{FrameShape}
 use Rattle.pdh_shape.specs.declared.place.Path.{Path}
-use Rattle.pdh_line.proofs.SendingLaws.{sends_more-locked}
+use Rattle.pdh_line.specs.Edits.{Edit, edited}
 use Rattle.pdh_bits.specs.BitOut.{BoundedBits}
 use Rattle.pdh_shape.specs.Tributary.{reads_from}
 use Rattle.pdh_runs.specs.Pieces.{FillsColumn}
 use Rattle.pdh_runs.proofs.Counts.{before_most}
 use Rattle.pdh_tx.specs.declared.tx.TxStop.TheVariants.{Failed}
-use Rattle.pdh_tx.specs.Meaning.{plan_of, Plan, Supply, Meaning}
+use Rattle.pdh_tx.specs.Meaning.{plan_in, Plan, Supply, Meaning}
 use Rattle.pdh_tx.specs.Held.{Gains, Halts}
 use Rattle.pdh_tx.specs.Making.{IsClear}
 use Rattle.pdh_tx.specs.Node.{IsDisjoint, below}
-use Rattle.pdh_tx.specs.Passing.{up_to, carried_in, HoldsBitsOf}
+use Rattle.pdh_tx.specs.Slipping.{read_to}
+use Rattle.pdh_tx.specs.Passing.{up_to, edits_by, carried_in, HoldsBitsOf}
 use Rattle.pdh_tx.specs.Locked.{locked_to}
 use Rattle.pdh_tx.specs.laws.Growing.{given_more}
 use Rattle.pdh_tx.proofs.Moving.{stays_one}
@@ -26,14 +27,14 @@ use Rattle.pdh_tx.proofs.Passing.{carried_is}
 use Rattle.pdh_tx.proofs.PassingAll.{placed_one, passes_one, holds_from, column_same, column_other}
 use Rattle.pdh_locked.specs.Children.{Stands, placed_in, held_in, filled_in}
 use Rattle.pdh_locked.specs.laws.LockedLaws.{below_grows}
-use Rattle.pdh_locked.proofs.OneSlot.{read_locked}
+use Rattle.pdh_locked.proofs.OneSlot.{more_by, edits_none, read_by}
 use Rattle.pdh_locked.proofs.Filled.{next_one, fed_one}
 use Rattle.pdh_locked.proofs.children.Children.fill_one.Goals as goal
 
 pub fill-requires-clause-fed : goal.fill-requires-clause-fed
 fill-requires-clause-fed g c =
     let here = slice_get_read _ _ c.args.trib _ refl (omega (arith, c.requires.trib, c.args.self.now.count)) c.index_mut.ensures.value in
-    let one = next_one g.C.Tx g.S.Shape.shape c.args.self.now.list.items (plan_of c.args.clock.now) c.args.frame c.args.slot _ c.args.trib _ c.args.len here refl c.requires.placed in
+    let one = next_one g.C.Tx g.S.Shape.shape c.args.self.now.list.items (plan_in c.args.clock.now g.G.SlipLog.takes) c.args.frame c.args.slot _ c.args.trib _ c.args.len here refl c.requires.placed in
     fed_one c.args.self.now c.args.clock.now (g.F.Feed.inputs c.args.feed.now) c.args.trib _ one.maker c.requires.fed
 
 pub fill-requires-clause-room : goal.fill-requires-clause-room
@@ -48,9 +49,9 @@ fill-requires-clause-room g c =
 
 pub fill-requires-clause-clear : goal.fill-requires-clause-clear
 fill-requires-clause-clear g c =
-    let plan : Plan = plan_of c.args.clock.now in
+    let plan : Plan = plan_in c.args.clock.now g.G.SlipLog.takes in
     let here = slice_get_read _ _ c.args.trib _ refl (omega (arith, c.requires.trib, c.args.self.now.count)) c.index_mut.ensures.value in
-    let one = next_one g.C.Tx g.S.Shape.shape c.args.self.now.list.items (plan_of c.args.clock.now) c.args.frame c.args.slot _ c.args.trib _ c.args.len here refl c.requires.placed in
+    let one = next_one g.C.Tx g.S.Shape.shape c.args.self.now.list.items (plan_in c.args.clock.now g.G.SlipLog.takes) c.args.frame c.args.slot _ c.args.trib _ c.args.len here refl c.requires.placed in
     let f : ℕ = locked_to g.S.Shape.shape c.args.frame c.args.slot c.args.trib in
     let K : ℕ → Type 0 = λ k. IsClear (g.C.Tx.meaning c.index_mut.result.now) plan f k (g.F.Feed.inputs c.args.feed.now) in
     record { made = f; stands = one.was; clear = subst K (sym one.left) (c.requires.clear _ one.maker) }
@@ -62,7 +63,7 @@ no_path = record { depth = 0; first = 0; second = 0 }
 pub returns-clause-ok : goal.returns-clause-ok
 returns-clause-ok g c =
     let s : FrameShape = g.S.Shape.shape in
-    let plan : Plan = plan_of c.args.clock.now in
+    let plan : Plan = plan_in c.args.clock.now g.G.SlipLog.takes in
     let i : ℕ = c.args.trib in
     let n : ℕ = c.args.frame in
     let t : ℕ = c.args.slot in
@@ -86,10 +87,13 @@ returns-clause-ok g c =
       placed = placed_one (placed_in g.C.Tx) (held_in g.C.Tx) g.C.Tx.meaning no_path plan cs i w' f f' f f' c.requires.placed (subst (Stands g.C.Tx w' plan) one.left now.placed);
       fills = λ path. passes_one (placed_in g.C.Tx) (held_in g.C.Tx) g.C.Tx.meaning path plan cs i w w' f f' f f' new (λ source. HoldsBitsOf s source n t len after i) _ _ c.args.self.now.disjoint here (subst X one.left now.gains)
           (λ supply is both.
-          let Y : ℕ → Type 0 = λ v. FillsColumn s i false t len (map ((g.C.Tx.meaning w).line (below supply)) (range_with_len v (carried_in s i false t len))) column in (
+          let locked = c.args.self.now.locked in
+          let counts : ℕ → ℕ = plan.counts path i in
+          let Y : List Edit → ℕ → Type 0 = λ e v. FillsColumn s i false t len (map (edited e ((g.C.Tx.meaning w).line (below supply))) (range_with_len v (carried_in s i false t len))) column in
+          let none : (u : ℕ) → edits_by s path plan n u i ≡ [] = λ u. edits_none s locked plan.mode i counts n u in (
             both.0,
-            holds_from s path (map g.C.Tx.meaning cs) plan supply n t len i (carried_in s i false t len) false (g.C.Tx.meaning w) after column is refl (sym (sends_more-locked s (plan.counts path i) n c.args.self.now.locked)) one.maker own (carried_is s i false t len)
-                (subst Y (sym (read_locked s c.args.self.now.locked (plan.counts path i) n t i)) both.1),
+            holds_from s path (map g.C.Tx.meaning cs) plan supply n t len i (carried_in s i false t len) false (g.C.Tx.meaning w) after column is (sym (more_by s locked plan.mode i counts n)) one.maker own (carried_is s i false t len) (λ v h. none (t + v) ∙ sym (none t))
+                (subst (λ e. Y e (read_to s path plan n t i).read) (sym (none t)) (subst (Y []) (sym (read_by s locked plan.mode i counts n t)) both.1)),
           ));
       rows = ap length own ∙ ok.rows;
     })
@@ -98,7 +102,7 @@ returns-clause-ok g c =
 pub returns-clause-halts : goal.returns-clause-halts
 returns-clause-halts g c =
     let s : FrameShape = g.S.Shape.shape in
-    let plan : Plan = plan_of c.args.clock.now in
+    let plan : Plan = plan_in c.args.clock.now g.G.SlipLog.takes in
     let i : ℕ = c.args.trib in
     let n : ℕ = c.args.frame in
     let t : ℕ = c.args.slot in

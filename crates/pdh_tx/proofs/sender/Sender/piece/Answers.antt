@@ -2,7 +2,7 @@ use Rattle.std.proofs.Common.{◌≡◌, ◌+◌, ◌-◌, ℕ, suc, Bool, not, 
 use Rattle.std.specs.Bool.{beq}
 use Rattle.pdh_packed.specs.Gaining.{gained}
 use Rattle.pdh_shape.specs.Payload.{payload_ones}
-use Rattle.pdh_tx.specs.Meaning.{plan_of}
+use Rattle.pdh_tx.specs.Meaning.{plan_in}
 use Rattle.pdh_tx.specs.Node.{odd_within}
 use Rattle.pdh_tx.proofs.Gaining.{on_err_from}
 use Rattle.pdh_tx.proofs.Parity.{odd_piece, odd_with}
@@ -12,7 +12,7 @@ use Rattle.pdh_tx.proofs.sender.Sender.piece.Goals as goal
 pub piece-requires-clause-clear : goal.piece-requires-clause-clear
 piece-requires-clause-clear g c =
     let body = g.met.B.Body in
-    sender_clear g.S.Shape.shape g.B.Body.kind (body.is_kind c.args.self.now.body) c.args.self.now.path (plan_of c.args.clock.now) (g.B.Body.meanings c.args.self.now.body) (body.count c.args.self.now.body) _ c.args.self.now.at c.requires.clear.0 c.requires.clear.1 c.args.len _
+    sender_clear g.S.Shape.shape g.B.Body.kind (body.is_kind c.args.self.now.body) c.args.self.now.path (plan_in c.args.clock.now g.G.SlipLog.takes) (g.B.Body.meanings c.args.self.now.body) (body.count c.args.self.now.body) _ c.args.self.now.at c.requires.clear.0 c.requires.clear.1 c.args.len _
     (omega (arith, c.requires.piece.inside, g.met.S.Shape.len_is)) c.requires.clear.2
 
 pub returns-in_err-odd-clause-halts : goal.returns-in_err-odd-clause-halts
@@ -21,7 +21,7 @@ returns-in_err-odd-clause-halts g c =
     let len : ℕ = c.args.len in
     let last : ℕ = c.args.self.now.at.slot + len - 1 in
     on_err_from c.from_residual.result
-    (λ x was. sender_halts g.S.Shape.shape g.B.Body.kind (body.is_kind c.args.self.now.body) c.args.self.now.path (plan_of c.args.clock.now) (g.B.Body.meanings c.args.self.now.body) (body.count c.args.self.now.body) _ c.args.self.now.at x was len last _ _ _
+    (λ x was. sender_halts g.S.Shape.shape g.B.Body.kind (body.is_kind c.args.self.now.body) c.args.self.now.path (plan_in c.args.clock.now g.G.SlipLog.takes) (g.B.Body.meanings c.args.self.now.body) (body.count c.args.self.now.body) _ c.args.self.now.at x was len last _ _ _
     (omega (arith, c.requires.piece.some)) (omega (arith, c.requires.piece.some, c.requires.piece.inside, g.met.S.Shape.len_is)) c.in_err-odd.ensures.halts)
 
 pub returns-clause-made : goal.returns-clause-made
@@ -31,7 +31,7 @@ returns-clause-made g c x was =
     let old = c.args.self.now in
     let new = c.piece.new.self in
     let at = c.moved-self.result in
-    let plan = plan_of c.args.clock.now in
+    let plan = plan_in c.args.clock.now g.G.SlipLog.takes in
     let ok = c.in_ok-odd.ensures in
     let bits : List Bool = gained c.args.into.now c.piece.new.into in
     let len : ℕ = c.args.len in

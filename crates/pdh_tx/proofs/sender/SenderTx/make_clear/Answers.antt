@@ -1,10 +1,11 @@
-use Rattle.std.proofs.Common.{ℕ, ◌+◌, ◌<◌, Bool, refl, sym, ◌∙◌, subst, arith}
+use Rattle.std.proofs.Common.{ℕ, ◌+◌, ◌<◌, Bool, [], refl, sym, ◌∙◌, subst, arith}
 use Rattle.std.specs.Prelude.{All, IsTrue}
 use Rattle.pdh_packed.specs.Gaining.{gained}
 use Rattle.pdh_packed.proofs.GainingLaws.{gained_none, grown_none, gained_then, grown_then}
-use Rattle.pdh_tx.specs.Meaning.{Meaning, IsNodeOf, plan_of}
+use Rattle.pdh_tx.specs.Meaning.{Meaning, IsNodeOf, plan_in}
 use Rattle.pdh_tx.proofs.NodeSteps.{fed_below}
-use Rattle.pdh_tx.proofs.MakingAll.{all_none, all_more, all_end, clear_next, halts_within}
+use Rattle.pdh_tx.proofs.Telling.{all_none, all_join}
+use Rattle.pdh_tx.proofs.MakingAll.{all_none as made_none, all_more, all_end, clear_next, halts_within}
 use Rattle.pdh_tx.proofs.sender.SenderTx.make_clear.Goals as goal
 
 pub loop-made-init : goal.loop-made-init
@@ -17,7 +18,8 @@ loop-made-init g c =
       same_says = refl;
       unfailed = refl;
       fed = g.met.F.Feed.fed_same _;
-      makes = λ x was. all_none _ _ _ _ x (x + 0) (gained c.args.into.now c.args.into.now) _ (omega arith) (gained_none c.args.into.now) was;
+      told = all_none g.G.SlipLog (record { nothing = g.met.G.SlipLog.logged_nothing; joins = g.met.G.SlipLog.logged_join; breaks = g.met.G.SlipLog.broken_join }) c.args.log.now;
+      makes = λ x was. made_none _ _ _ _ x (x + 0) (gained c.args.into.now c.args.into.now) _ (omega arith) (gained_none c.args.into.now) was;
     }
 
 pub overflow_sub-rest : goal.overflow_sub-rest
@@ -55,7 +57,10 @@ returns-in-Err-clause-halts g c x was =
     let made : ℕ = x + c.loop-made.made in
     let before = inv.makes x was in
     halts_within _ _ _ _ _ _ x made (made + c.min-len.result) (x + c.args.count) _ _ _ _ _ inv.same (omega (arith, inv.upto, c.min-len.ensures))
-    (λ n k. g.met.B.Body.grows c.args.self.now.body c.args.self.now.path (plan_of c.args.clock.now) n k) before (c.in-Err.ensures.halts made before.place)
+    (λ n k. g.met.B.Body.grows c.args.self.now.body c.args.self.now.path (plan_in c.args.clock.now g.G.SlipLog.takes) n k) before (c.in-Err.ensures.halts made before.place)
+
+pub returns-in-Err-clause-told : goal.returns-in-Err-clause-told
+returns-in-Err-clause-told g c = all_join g.G.SlipLog (record { nothing = g.met.G.SlipLog.logged_nothing; joins = g.met.G.SlipLog.logged_join; breaks = g.met.G.SlipLog.broken_join }) _ _ _ [] [] c.loop-made.invariant.told c.piece.ensures.told
 
 pub loop-made-smaller : goal.loop-made-smaller
 loop-made-smaller g c =
@@ -79,6 +84,7 @@ loop-made-preserved g c =
       same_says = c.piece.ensures.kept.same_says ∙ inv.same_says;
       unfailed = ok.fed.cause ∙ inv.unfailed;
       fed = g.met.F.Feed.fed_join _ _ _ inv.fed c.piece.ensures.fed.fed;
+      told = all_join g.G.SlipLog (record { nothing = g.met.G.SlipLog.logged_nothing; joins = g.met.G.SlipLog.logged_join; breaks = g.met.G.SlipLog.broken_join }) _ _ _ [] [] inv.told c.piece.ensures.told;
       makes = λ x was.
           let before = inv.makes x was in
           all_more _ _ _ _ _ _ _ _ x (x + c.loop-made.made) (x + c.loop-made.made + c.min-len.result) (x + (c.loop-made.made + c.min-len.result)) (gained old mid) (gained mid new) _ _ _ _ inv.same inv.same_says (omega arith)

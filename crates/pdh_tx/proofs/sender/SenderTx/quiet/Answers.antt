@@ -1,5 +1,5 @@
 use Rattle.std.proofs.Common.{arith}
-use Rattle.pdh_tx.specs.Meaning.{plan_of}
+use Rattle.pdh_tx.specs.Meaning.{plan_in}
 use Rattle.pdh_tx.proofs.NodeSteps.{fed_below}
 use Rattle.pdh_tx.proofs.SenderSteps.{sender_free}
 use Rattle.pdh_tx.proofs.sender.SenderTx.quiet.Goals as goal
@@ -16,5 +16,5 @@ quiet-requires-clause-placed g c = c.requires.stands.1.each
 pub returns-clause-free : goal.returns-clause-free
 returns-clause-free g c x was =
     let body = g.met.B.Body in
-    sender_free g.S.Shape.shape g.B.Body.kind (body.is_kind c.args.self.now.body) c.args.self.now.path (plan_of c.args.clock.now) (g.B.Body.meanings c.args.self.now.body) (body.count c.args.self.now.body) _ c.args.self.now.at x was
+    sender_free g.S.Shape.shape g.B.Body.kind (body.is_kind c.args.self.now.body) c.args.self.now.path (plan_in c.args.clock.now g.G.SlipLog.takes) (g.B.Body.meanings c.args.self.now.body) (body.count c.args.self.now.body) _ c.args.self.now.at x was
     c.quiet.result (g.F.Feed.inputs c.args.feed.now) c.quiet.ensures.free

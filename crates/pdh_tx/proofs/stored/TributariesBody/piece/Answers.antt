@@ -1,23 +1,22 @@
-use Rattle.std.proofs.Common.{◌≡◌, ◌+◌, ◌≤◌, ℕ, Bool, List, length, map, sym, ◌∙◌, subst, arith}
+use Rattle.std.proofs.Common.{◌≡◌, ◌+◌, ◌≤◌, ℕ, Bool, List, [], length, map, sym, ◌∙◌, subst, arith}
 use Rattle.std.specs.Prelude.{All}
 use Rattle.std.proofs.lemmas.List.{length-map}
 use Rattle.pdh_bits.specs.BitOut.{BoundedBits}
 use Rattle.pdh_packed.specs.Gaining.{gained}
 use Rattle.pdh_shape.specs.Frame.{FrameShape}
-use Rattle.pdh_line.specs.Sending.Mode.{Plain}
 use Rattle.pdh_runs.specs.Pieces.{rows, Assembled}
-use Rattle.pdh_tx.specs.Meaning.{plan_of, Plan, Meaning}
-use Rattle.pdh_tx.specs.Tributary.{plain_placed_in, plain_held_in, meaning_in, share_in}
+use Rattle.pdh_tx.specs.Meaning.{plan_in, Plan, Meaning}
+use Rattle.pdh_tx.specs.Tributary.{placed_in, held_in, meaning_in, share_in}
 use Rattle.pdh_tx.specs.Node.{IsShare}
 use Rattle.pdh_tx.specs.Passing.{made_through, read_through, HoldsBits, HasRows, Passes}
 use Rattle.pdh_tx.specs.Tributaries.{meanings, columns, HavePassed}
 use Rattle.pdh_tx.proofs.Feeding.{still_fed}
 use Rattle.pdh_tx.proofs.Lists.{transfer_one}
-use Rattle.pdh_tx.proofs.Telling.{told_all}
+use Rattle.pdh_tx.proofs.Telling.{all_join, none_all, none_failed, none_front}
 use Rattle.pdh_tx.proofs.Gaining.{on_err_from}
 use Rattle.pdh_tx.proofs.PassingAll.{rows_all}
 use Rattle.pdh_tx.proofs.PieceSteps.{piece_makes}
-use Rattle.pdh_tx.proofs.Begun.{begun_placed, begun_plainly, begun_passable, begun_halts, begin_halts, begin_failed}
+use Rattle.pdh_tx.proofs.Begun.{begun_placed, begun_passable, begun_halts, begins_quietly, begin_halts, begin_failed}
 use Rattle.pdh_tx.proofs.stored.TributariesBody.piece.Goals as goal
 
 pub pass_all-requires-clause-decided : goal.pass_all-requires-clause-decided
@@ -32,17 +31,17 @@ pass_all-requires-clause-fed g c =
 pub pass_all-requires-clause-placed : goal.pass_all-requires-clause-placed
 pass_all-requires-clause-placed g c =
     let within : c.args.at.slot + c.args.at.len ≤ g.S.Shape.shape.len = omega (arith, c.requires.piece.inside, g.met.S.Shape.len_is) in
-    begun_placed g.met.S.Shape.is_frame g.met.S.Shape.has_tributaries g.met.S.Shape.tribs_is c.args.self.now c.args.clock.now c.args.at within _ _ c.begin.new.self c.in-Ok.ensures.same c.in-Ok.ensures.ok
+    begun_placed g.met.S.Shape.is_frame g.met.S.Shape.has_tributaries g.met.S.Shape.tribs_is c.args.self.now (plan_in c.args.clock.now g.G.SlipLog.takes) c.args.at within _ _ c.begin.new.self c.in-Ok.ensures.same c.in-Ok.ensures.ok
 
 pub pass_all-requires-clause-clear : goal.pass_all-requires-clause-clear
 pass_all-requires-clause-clear g c =
     let within : c.args.at.slot + c.args.at.len ≤ g.S.Shape.shape.len = omega (arith, c.requires.piece.inside, g.met.S.Shape.len_is) in
-    begun_passable g.met.S.Shape.is_frame g.met.S.Shape.has_tributaries g.met.S.Shape.tribs_is c.args.self.now c.args.clock.now c.args.at within _ _ c.begin.new.self c.in-Ok.ensures.same c.in-Ok.ensures.ok c.in-Ok.ensures.decided c.requires.clear
+    begun_passable g.met.S.Shape.is_frame g.met.S.Shape.has_tributaries g.met.S.Shape.tribs_is c.args.self.now (plan_in c.args.clock.now g.G.SlipLog.takes) c.args.at within _ _ c.begin.new.self c.in-Ok.ensures.same c.in-Ok.ensures.ok c.in-Ok.ensures.decided c.requires.clear
 
 pub returns-in_err-pass_all-in-Ok-clause-halts : goal.returns-in_err-pass_all-in-Ok-clause-halts
 returns-in_err-pass_all-in-Ok-clause-halts g c =
     let within : c.args.at.slot + c.args.at.len ≤ g.S.Shape.shape.len = omega (arith, c.requires.piece.inside, g.met.S.Shape.len_is) in
-    on_err_from c.from_residual.result (begun_halts g.met.S.Shape.is_frame g.met.S.Shape.has_tributaries g.met.S.Shape.tribs_is c.args.self.now c.args.clock.now c.args.at within _ _ c.begin.new.self c.in-Ok.ensures.same c.in-Ok.ensures.ok _ c.in_err-pass_all-in-Ok.ensures.halts)
+    on_err_from c.from_residual.result (begun_halts g.met.S.Shape.is_frame g.met.S.Shape.has_tributaries g.met.S.Shape.tribs_is c.args.self.now (plan_in c.args.clock.now g.G.SlipLog.takes) c.args.at within _ _ c.begin.new.self c.in-Ok.ensures.same c.in-Ok.ensures.ok _ c.in_err-pass_all-in-Ok.ensures.halts)
 
 pub assemble-requires-clause-rows : goal.assemble-requires-clause-rows
 assemble-requires-clause-rows g c =
@@ -63,20 +62,19 @@ returns-in_ok-pass_all-in-Ok-clause-made g c =
     let ts = c.args.self.now in
     let mid = c.begin.new.self in
     let overhead = c.write_overhead.new.into in
-    let plan : Plan = plan_of c.args.clock.now in
+    let plan : Plan = plan_in c.args.clock.now g.G.SlipLog.takes in
     let within : at.slot + at.len ≤ s.len = omega (arith, c.requires.piece.inside, g.met.S.Shape.len_is) in
     let all : g.S.Shape.TRIBS ≡ s.tribs = sym g.met.S.Shape.tribs_is in
     let ms_long : length ms ≡ s.tribs = length-map ts.list.items (meaning_in g.C.Tx) ∙ ts.count ∙ all in
-    let decided_new = transfer_one share_in (λ share j. IsShare Plain s j (plan.counts at.path j) at.frame share) mid.list.items new.list.items ok.kept.same_shares c.in-Ok.ensures.decided in
-    let P : List Meaning → ℕ → Type 0 = λ ms k. Passes (plain_held_in g.C.Tx) at.path ms plan mid.list.items new.list.items (made_through s plan at 0) (made_through s plan at k) (read_through s plan at 0) (read_through s plan at k)
+    let decided_new = transfer_one share_in (λ share j. IsShare plan.mode s j (plan.counts at.path j) at.frame share) mid.list.items new.list.items ok.kept.same_shares c.in-Ok.ensures.decided in
+    let P : List Meaning → ℕ → Type 0 = λ ms k. Passes (held_in g.C.Tx) at.path ms plan mid.list.items new.list.items (made_through s plan at 0) (made_through s plan at k) (read_through s plan at 0) (read_through s plan at k)
     (inputs c.begin.new.feed) (inputs c.pass_all.new.feed) (λ source. HoldsBits s source at.frame at.slot at.len (columns new) k) in
     let A : List Bool → List BoundedBits → Type 0 = λ overhead lists. Assembled s at.slot at.len overhead (map (λ (column : BoundedBits). column.bits) lists) bits in
     let assembled : A overhead.bits new.scratch.columns.items = subst (λ (overhead : BoundedBits). A overhead.bits new.scratch.columns.items) ok.kept.overhead (subst (A new.scratch.overhead.bits) c.deref-in-Ok-2.ensures.value c.assemble.ensures.assembled) in
     let within : at.slot + at.len ≤ s.len = omega (arith, c.requires.piece.inside, g.met.S.Shape.len_is) in
-    let begun = begun_plainly g.met.S.Shape.is_frame g.met.S.Shape.has_tributaries g.met.S.Shape.tribs_is ts c.args.clock.now at within _ _ mid c.in-Ok.ensures.same c.in-Ok.ensures.ok in
-    let makes = piece_makes (plain_placed_in g.C.Tx) (plain_held_in g.C.Tx) (meaning_in g.C.Tx) share_in s g.met.S.Shape.has_tributaries at.path plan at.frame at.slot (at.slot + at.len) ms ts.list.items mid.list.items new.list.items c.args.say.now c.args.odd at.len overhead.bits bits (columns new) _ _ _ _
-    ms_long (mid.count ∙ all) (new.count ∙ all) c.assemble.ensures.grown.count within c.in-Ok.ensures.decided decided_new c.in-Ok.ensures.scheduled c.in-Ok.ensures.bounded c.write_overhead.ensures.bits assembled begun
-    (subst (λ (k : ℕ). HavePassed new c.args.clock.now at k) all ok.ok.placed) (subst (P ms) all (subst (λ (ms : List Meaning). P ms g.S.Shape.TRIBS) c.in-Ok.ensures.same ok.ok.passes)) in
+    let makes = piece_makes (placed_in g.C.Tx) (held_in g.C.Tx) (meaning_in g.C.Tx) share_in s g.met.S.Shape.has_tributaries at.path plan at.frame at.slot (at.slot + at.len) ms ts.list.items mid.list.items new.list.items c.args.say.now c.args.odd at.len overhead.bits bits (columns new) _ _ _ _
+    ms_long (mid.count ∙ all) (new.count ∙ all) c.assemble.ensures.grown.count within c.in-Ok.ensures.decided decided_new c.in-Ok.ensures.scheduled c.in-Ok.ensures.bounded c.write_overhead.ensures.bits assembled c.in-Ok.ensures.ok
+    (subst (λ (k : ℕ). HavePassed new plan at k) all ok.ok.placed) (subst (P ms) all (subst (λ (ms : List Meaning). P ms g.S.Shape.TRIBS) c.in-Ok.ensures.same ok.ok.passes)) in
     record {
       gives = record {
         given = makes.given;
@@ -92,10 +90,23 @@ returns-in_ok-pass_all-in-Ok-clause-made g c =
 
 pub returns-in-Err-clause-halts : goal.returns-in-Err-clause-halts
 returns-in-Err-clause-halts g c =
-    begin_halts g.met.S.Shape.is_frame g.met.S.Shape.has_tributaries g.met.S.Shape.tribs_is c.args.self.now c.args.clock.now c.args.at (omega (arith, c.requires.piece.inside, g.met.S.Shape.len_is)) _ _ _ _ _ c.in-Err.ensures.err (λ child n k. g.met.C.Tx.grows child _ n k)
+    begin_halts g.met.S.Shape.is_frame g.met.S.Shape.has_tributaries g.met.S.Shape.tribs_is c.args.self.now (plan_in c.args.clock.now g.G.SlipLog.takes) c.args.at (omega (arith, c.requires.piece.inside, g.met.S.Shape.len_is)) _ _ _ _ _ c.in-Err.ensures.err (λ child n k. g.met.C.Tx.grows child _ n k)
 
 pub returns-in-Err-clause-fed : goal.returns-in-Err-clause-fed
 returns-in-Err-clause-fed g c = record {
   fed = c.in-Err.ensures.fed.fed;
-  cause = begin_failed g.met.S.Shape.is_frame g.met.S.Shape.has_tributaries g.met.S.Shape.tribs_is c.args.self.now c.args.clock.now c.args.at (omega (arith, c.requires.piece.inside, g.met.S.Shape.len_is)) _ _ _ _ _ c.in-Err.ensures.err (told_all _ c.in-Err.ensures.told.front.counted) c.requires.piece.some c.requires.clear;
+  cause = begin_failed g.met.S.Shape.is_frame g.met.S.Shape.has_tributaries g.met.S.Shape.tribs_is c.args.self.now (plan_in c.args.clock.now g.G.SlipLog.takes) c.args.at (omega (arith, c.requires.piece.inside, g.met.S.Shape.len_is)) _ _ _ _ _ c.in-Err.ensures.err
+      (none_failed (begins_quietly g.met.S.Shape.is_frame g.met.S.Shape.has_tributaries g.met.S.Shape.tribs_is c.args.self.now (plan_in c.args.clock.now g.G.SlipLog.takes) c.args.at (omega (arith, c.requires.piece.inside, g.met.S.Shape.len_is)) _ (g.F.Feed.inputs c.args.feed.now) c.requires.piece.some c.requires.clear) c.in-Err.ensures.told.front) c.requires.piece.some c.requires.clear;
 }
+
+pub returns-in-Err-clause-told : goal.returns-in-Err-clause-told
+returns-in-Err-clause-told g c =
+    none_front _ (begins_quietly g.met.S.Shape.is_frame g.met.S.Shape.has_tributaries g.met.S.Shape.tribs_is c.args.self.now (plan_in c.args.clock.now g.G.SlipLog.takes) c.args.at (omega (arith, c.requires.piece.inside, g.met.S.Shape.len_is)) _ (g.F.Feed.inputs c.args.feed.now) c.requires.piece.some c.requires.clear) c.in-Err.ensures.told.front
+
+pub returns-in_err-pass_all-in-Ok-clause-told : goal.returns-in_err-pass_all-in-Ok-clause-told
+returns-in_err-pass_all-in-Ok-clause-told g c =
+    all_join g.G.SlipLog (record { nothing = g.met.G.SlipLog.logged_nothing; joins = g.met.G.SlipLog.logged_join; breaks = g.met.G.SlipLog.broken_join }) _ _ _ [] [] (none_all (begins_quietly g.met.S.Shape.is_frame g.met.S.Shape.has_tributaries g.met.S.Shape.tribs_is c.args.self.now (plan_in c.args.clock.now g.G.SlipLog.takes) c.args.at (omega (arith, c.requires.piece.inside, g.met.S.Shape.len_is)) _ (g.F.Feed.inputs c.args.feed.now) c.requires.piece.some c.requires.clear) c.in-Ok.ensures.told.all) c.in_err-pass_all-in-Ok.ensures.told
+
+pub returns-in_ok-pass_all-in-Ok-clause-told : goal.returns-in_ok-pass_all-in-Ok-clause-told
+returns-in_ok-pass_all-in-Ok-clause-told g c =
+    all_join g.G.SlipLog (record { nothing = g.met.G.SlipLog.logged_nothing; joins = g.met.G.SlipLog.logged_join; breaks = g.met.G.SlipLog.broken_join }) _ _ _ [] [] (none_all (begins_quietly g.met.S.Shape.is_frame g.met.S.Shape.has_tributaries g.met.S.Shape.tribs_is c.args.self.now (plan_in c.args.clock.now g.G.SlipLog.takes) c.args.at (omega (arith, c.requires.piece.inside, g.met.S.Shape.len_is)) _ (g.F.Feed.inputs c.args.feed.now) c.requires.piece.some c.requires.clear) c.in-Ok.ensures.told.all) c.in_ok-pass_all-in-Ok.ensures.told

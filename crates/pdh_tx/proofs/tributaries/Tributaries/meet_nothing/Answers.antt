@@ -1,6 +1,6 @@
 use Rattle.std.proofs.Common.{◌≡◌, ◌<◌, length, below_more, refl, sym, ◌∙◌, subst, arith, Some, slice_get}
 use Rattle.std.proofs.lemmas.Option.{slice_get_read}
-use Rattle.pdh_tx.specs.Meaning.{plan_of}
+use Rattle.pdh_tx.specs.Meaning.{plan_in}
 use Rattle.pdh_tx.specs.Quiet.{MeetsNothing}
 use Rattle.pdh_tx.proofs.Feeding.{fed_one}
 use Rattle.pdh_tx.proofs.Lists.{some_same}
@@ -28,7 +28,7 @@ meets_nothing-requires-clause-stands g c =
 pub loop-trib-preserved : goal.loop-trib-preserved
 loop-trib-preserved g c =
     let ws = c.args.self.now.list.items in
-    let plan = plan_of c.args.clock.now in
+    let plan = plan_in c.args.clock.now g.G.SlipLog.takes in
     let trib = c.loop-trib.trib in
     let within : trib < length ws = omega (arith, c.loop-trib-test.true, c.args.self.now.count) in
     let at : slice_get ws trib ≡ Some c.index.result.now = slice_get_read _ _ trib _ refl within c.index.ensures in

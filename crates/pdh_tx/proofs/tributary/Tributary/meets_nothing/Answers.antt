@@ -3,13 +3,16 @@ use Rattle.std.proofs.lemmas.Bool.{eqb-true}
 use Rattle.std.proofs.Math.Nat.{mul-le-mul_right}
 use Rattle.pdh_shape.specs.Frame.{FrameShape}
 use Rattle.pdh_line.specs.Sending.{taken}
-use Rattle.pdh_line.specs.Tolerance.{HoldsAt, StaysInside}
+use Rattle.pdh_line.specs.Paths.{steps_of}
+use Rattle.pdh_line.specs.Tolerance.{StaysInside}
 use Rattle.pdh_line.proofs.FrameBounds.{lt_of_mul}
-use Rattle.pdh_line.proofs.Inside.{first_inside, no_event}
-use Rattle.pdh_tx.specs.Meaning.{Plan, plan_of}
-use Rattle.pdh_tx.specs.Making.{IsFree}
+use Rattle.pdh_line.proofs.Inside.{first_inside}
+use Rattle.pdh_tx.specs.Meaning.{Plan, plan_in}
+use Rattle.pdh_tx.specs.Making.{IsUneventful}
+use Rattle.pdh_tx.specs.Quiet.{HoldsFrom}
 use Rattle.pdh_tx.specs.Tributary.{meaning_in}
 use Rattle.pdh_tx.specs.Node.{taken_to}
+use Rattle.pdh_tx.proofs.QuietStores.{calm}
 use Rattle.pdh_tx.proofs.QuietSlots.{node_stores, node_low, node_len, node_takes}
 use Rattle.pdh_tx.proofs.tributary.Tributary.meets_nothing.Goals as goal
 
@@ -56,7 +59,7 @@ pub overflow_sub-behind : goal.overflow_sub-behind
 overflow_sub-behind g c =
     let is = c.requires.next in
     let next = c.args.next in
-    let takes = node_takes g.S.Shape.shape next.path c.args.clock.now.levels c.requires.stores is.node (plan_of c.args.clock.now) c.args.trib next.frame next.slot next.made next.end c.taken-before.result c.taken-behind.result
+    let takes = node_takes g.S.Shape.shape next.path c.args.clock.now.levels c.requires.stores is.node (plan_in c.args.clock.now g.G.SlipLog.takes) c.args.trib next.frame next.slot next.made next.end c.taken-before.result c.taken-behind.result
     g.met.S.Shape.is_frame is.first is.inside is.longer (c.taken-before.ensures is.node.level is.node.at) (c.taken-behind.ensures is.node.level is.node.at) in
     takes.grows
 
@@ -69,7 +72,7 @@ returns g c = λ yes.
     let laws = g.met.S.Shape in
     let next = c.args.next in
     let is = c.requires.next in
-    let plan : Plan = plan_of c.args.clock.now in
+    let plan : Plan = plan_in c.args.clock.now g.G.SlipLog.takes in
     let counts : ℕ → ℕ = plan.counts next.path c.args.trib in
     let known : c.args.trib < s.tribs = omega (arith, c.requires.trib, laws.tribs_is) in
     let fill : ℕ = c.start_fill-fill.result in
@@ -82,10 +85,10 @@ returns g c = λ yes.
       events = λ m u slot from to.
           let upto : m < next.end_frame = lt_of_mul m next.end_frame s.len (omega (arith, to, is.last)) in
           let later : next.frame < suc m = lt_of_mul next.frame (suc m) s.len (omega (arith, from, is.first, slot)) in
-          let held : HoldsAt s counts next.frame fill = c.start_fill-fill.ensures plan c.requires.stands (omega (arith, first_inside s.low counts next.frame fill frames inside (omega (arith, upto, later)))) in
-          no_event s c.args.trib counts laws.is_frame laws.has_tributaries c.requires.stores laws.reads_evenly known next.frame fill frames m u held inside (omega (arith, later)) (omega (arith, upto, later)) slot;
+          let held : HoldsFrom plan.mode s c.args.trib counts next.frame next.slot fill = c.start_fill-fill.ensures plan c.requires.stands (omega (arith, first_inside s.low counts next.frame fill frames inside (omega (arith, upto, later)))) in
+          calm s c.args.trib counts laws.is_frame laws.has_tributaries c.requires.stores laws.reads_evenly known plan.mode (steps_of next.path) next.frame next.slot fill frames m u is.inside held inside (omega (arith, later)) (omega (arith, upto, later)) slot (omega (arith, from, is.first));
       free =
           let all : taken_to s next.path plan next.frame next.slot c.args.trib + c.quiet.result ≡ taken s counts next.end = omega (arith, eqb-true _ _ yes, c.in-Ok.ensures, took.now, took.then_is, took.grows) in
-          subst (λ (n : ℕ). IsFree (meaning_in g.C.Tx c.args.self.now) plan (taken_to s next.path plan next.frame next.slot c.args.trib) n (g.F.Feed.inputs c.args.feed.now)) all
+          subst (λ (n : ℕ). IsUneventful (meaning_in g.C.Tx c.args.self.now) plan (taken_to s next.path plan next.frame next.slot c.args.trib) n (g.F.Feed.inputs c.args.feed.now)) all
           (c.quiet.ensures.free _ c.requires.stands.placed.place);
     }

@@ -1,9 +1,10 @@
 use Rattle.std.proofs.Common.{◌≡◌, ◌+◌, ◌-◌, ◌≤◌, ℕ, List, Bool, ◌++◌, length, length-drop, drop, take, refl, sym, ap, ◌∙◌, subst, arith}
 use Rattle.pdh_packed.specs.Gaining.{gained}
-use Rattle.pdh_tx.specs.Meaning.{plan_of}
-use Rattle.pdh_tx.specs.Held.{Held, unslipped, Gains}
+use Rattle.pdh_tx.specs.Meaning.{plan_in}
+use Rattle.pdh_tx.specs.Held.{Held, Gains}
 use Rattle.pdh_tx.specs.Passing.{carried_in, HeldAndFilled}
 use Rattle.pdh_runs.specs.Pieces.{FillsColumn}
+use Rattle.pdh_tx.proofs.SlipSteps.{gone-more, put-more}
 use Rattle.pdh_tx.proofs.Passing.{pass_gains, front_room, front_is, queue_is, queue_long, rest_is, carried_is}
 use Rattle.pdh_tx.proofs.tributary.Tributary.pass.Goals as goal
 
@@ -35,7 +36,7 @@ make_clear-requires-clause-clear g c = (c.requires.clear.made, c.requires.clear.
 pub returns-clause-ok : goal.returns-clause-ok
 returns-clause-ok g c = record {
   rows = c.fill_column.ensures.rows;
-  bits = λ made read was.
+  bits = λ made out was.
       let s = g.S.Shape.shape in
       let j : ℕ = c.args.trib in
       let more : Bool = c.args.self.now.share.more in
@@ -47,7 +48,7 @@ returns-clause-ok g c = record {
       let queue = c.make_clear.new.into in
       let bits : List Bool = gained front queue in
       let column : List Bool = c.fill_column.new.column.bits in
-      let plan = plan_of c.args.clock.now in
+      let plan = plan_in c.args.clock.now g.G.SlipLog.takes in
       let gone : ℕ = carried_in s j more first len in
       let count = carried_is s j more first len in
       let makes = c.in_ok-make_clear.ensures.made made was.place in
@@ -61,16 +62,16 @@ returns-clause-ok g c = record {
       let fills : FillsColumn s j more first len (store ++ bits) column = subst (λ (l : List Bool). FillsColumn s j more first len l column) is c.fill_column.ensures.fills in
       let tx = g.C.Tx in
       let ok = c.in_ok-make_clear.ensures in
-      let Q : List Bool → Type 0 = λ l. Gains (tx.meaning c.args.self.now.child) plan (λ supply made read. Held tx.stands_for tx.meaning c.args.self.now.child store supply made (unslipped read))
-      (HeldAndFilled tx.stands_for tx.meaning s j more first len gone c.make_clear.new.self l column) made (made + arriving) read read (g.F.Feed.inputs c.args.feed.now) (g.F.Feed.inputs c.make_clear.new.feed) in
+      let Q : List Bool → Type 0 = λ l. Gains (tx.meaning c.args.self.now.child) plan (Held tx.stands_for tx.meaning c.args.self.now.child store)
+      (HeldAndFilled tx.stands_for tx.meaning s j more first len gone c.make_clear.new.self l column) made (made + arriving) out out (g.F.Feed.inputs c.args.feed.now) (g.F.Feed.inputs c.make_clear.new.feed) in
       record {
         placed = record {
           runs = ok.stopped;
           idles = ok.kept.same_says ∙ was.idles;
           place = makes.place;
-          count = omega (arith, was.count, enough, long, ap length is, ap length now, length-drop gone (store ++ bits));
+          count = omega (arith, gone-more out.edits out.read gone, put-more out.edits made arriving, was.count, enough, long, ap length is, ap length now, length-drop gone (store ++ bits));
         };
         gains = subst Q (sym now)
-            (pass_gains tx.stands_at tx.stands_for tx.meaning tx.says tx.is_stopped c.args.self.now.child c.make_clear.new.self plan store bits made read gone _ _ _ s j more first len column ok.kept.same enough count was makes fills);
+            (pass_gains tx.stands_at tx.stands_for tx.meaning tx.says c.args.self.now.child c.make_clear.new.self plan store bits made out gone _ _ _ s j more first len column ok.kept.same enough count was.idles makes fills);
       };
 }
