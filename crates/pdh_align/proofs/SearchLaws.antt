@@ -1,16 +1,17 @@
 -- What a search keeps of the bits since it began, as it goes on.
-use Rattle.std.proofs.Common.{◌≡◌, ℕ, ◌+◌, ◌-◌, ◌*◌, ◌/◌, ◌%◌, ◌<◌, ◌≤◌, Bool, false, eqb, Option, Some, List, ◌++◌, length, drop, refl, sym, ap, ◌∙◌, inl, inr, arith, length-append, length-drop}
-use Rattle.std.specs.Prelude.{IfSome}
+use Rattle.std.proofs.Common.{◌≡◌, ℕ, ◌+◌, ◌-◌, ◌*◌, ◌/◌, ◌%◌, ◌<◌, ◌≤◌, Bool, true, false, ◌&&◌, eqb, Option, Some, List, ◌++◌, length, drop, refl, sym, ap, ◌∙◌, inl, inr, arith, length-append, length-drop}
+use Rattle.std.specs.Prelude.{IfSome, nat_le}
 use Rattle.std.proofs.lemmas.List.{drop-append-le, drop-drop}
 use Rattle.std.proofs.lemmas.Bool.{cases_lt}
 use Rattle.std.proofs.Math.Nat.{zero-mod, mod-eq_of_lt, mod-add-div', add-mul-mod_self_right}
-use Rattle.pdh_shape.specs.Frame.{FrameShape, IsFrame, HasSignal}
-use Rattle.pdh_line.specs.Tracking.{is_confirmed}
+use Rattle.pdh_shape.specs.Frame.{FrameShape, IsFrame, HasSignal, is_right}
+use Rattle.pdh_line.specs.Tracking.{frame_of, is_confirmed}
+use Rattle.pdh_line.proofs.TrackingLaws.{frame_of-append}
 use Rattle.pdh_phases.specs.Runs.{run_of, signal_at, stands_thrice}
 use Rattle.pdh_phases.specs.Keeping.{Kept, StandsFor}
 use Rattle.pdh_phases.proofs.Signals.{signal_at-append}
 use Rattle.pdh_phases.proofs.Confirming.{three-run, confirmed-run, confirmed-signals, confirmed-part}
-use Rattle.pdh_align.specs.Searching.{Sought, sought_of, Searches, Takes, GivesUp, IsRejected}
+use Rattle.pdh_align.specs.Searching.{Sought, sought_of, Searches, Takes, GivesUp, two_right, IsRejected}
 
 -- ---- what it keeps
 
@@ -89,3 +90,23 @@ rejected_by_phase s kept oldest i held since frame has some h full inside few be
     let moved : drop i (held ++ more) ≡ drop p (since ++ more) =
     ap (λ x. drop i (x ++ more)) h.held_is ∙ ap (drop i) (sym (drop-append-le h.passed since more h.within)) ∙ drop-drop i h.passed (since ++ more) in
     ap (is_confirmed s) moved ∙ never_confirmed s since more p frame.some_slots has some (omega (arith, long, full, few)) thrice
+
+-- ---- what the alignment slots tell
+
+two_fail : (whole first second third : Bool) → (first && second) ≡ false → (whole && first && second && third) ≡ false
+two_fail false first second third h = refl
+two_fail true false second third h = refl
+two_fail true true false third h = refl
+two_fail true true true third h = cc
+
+-- a position whose first two frames aren't both right isn't confirmed by more bits
+pub rejected_by_slots : (s : FrameShape) (held : List Bool) (place : ℕ) → place + 2 * s.len ≤ length held → two_right s held place ≡ false → IsRejected s held place
+rejected_by_slots s held place within wrong more =
+    let rest : List Bool = drop place held in
+    let long : 2 * s.len ≤ length rest = omega (arith, within, length-drop place held) in
+    let first : frame_of s (rest ++ more) 0 ≡ frame_of s rest 0 = frame_of-append s rest more 0 (omega (arith, long)) in
+    let second : frame_of s (rest ++ more) 1 ≡ frame_of s rest 1 = frame_of-append s rest more 1 (omega (arith, long)) in
+    let same : two_right s held place ≡ (is_right s (frame_of s (rest ++ more) 0) && is_right s (frame_of s (rest ++ more) 1)) =
+    ap (λ x. is_right s x && is_right s (frame_of s rest 1)) (sym first) ∙ ap (λ x. is_right s (frame_of s (rest ++ more) 0) && is_right s x) (sym second) in
+    ap (is_confirmed s) (drop-append-le place held more (omega (arith, within)))
+    ∙ two_fail (nat_le (3 * s.len) (length (rest ++ more))) (is_right s (frame_of s (rest ++ more) 0)) (is_right s (frame_of s (rest ++ more) 1)) (is_right s (frame_of s (rest ++ more) 2)) (sym same ∙ wrong)

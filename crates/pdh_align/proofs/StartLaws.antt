@@ -1,8 +1,8 @@
 -- The candidates of a search by slots, as words.
-use Rattle.std.proofs.Common.{◌≡◌, ℕ, zero, suc, ◌+◌, ◌-◌, ◌/◌, ◌^◌, ◌<◌, ◌≤◌, Bool, true, false, ◌&&◌, not, eqb, min, bit_and, List, length, take, drop, get_or, refl, sym, ap, ◌∙◌, arith}
+use Rattle.std.proofs.Common.{◌≡◌, ℕ, zero, suc, ◌+◌, ◌-◌, ◌*◌, ◌/◌, ◌^◌, ◌<◌, ◌≤◌, Bool, true, false, ◌&&◌, not, eqb, min, bit_and, List, length, take, drop, get_or, refl, sym, ap, ◌∙◌, arith}
 use Rattle.std.specs.Bool.{beq}
 use Rattle.std.specs.Int.{bit_at, bit_not}
-use Rattle.std.proofs.lemmas.List.{get_or-take, get_or-drop, take-append-drop}
+use Rattle.std.proofs.lemmas.List.{get_or-take, get_or-drop, take-append-drop, drop-drop}
 use Rattle.std.proofs.lemmas.List.Folds.{list_all-append, list_all_more}
 use Rattle.std.proofs.lemmas.Nat.Bits.{bit_at_and, bit_at_not, bit_at-lt, bit_at-zero, bit_at_ones, ones_shr}
 use mir.Syntax.{w64}
@@ -10,8 +10,10 @@ use Rattle.pdh_bits.specs.Bits.{bit}
 use Rattle.pdh_packed.specs.Words.{low_bits}
 use Rattle.pdh_packed.specs.WordLaws.{get_or_low}
 use Rattle.pdh_shape.specs.Frame.{FrameShape, is_right}
+use Rattle.pdh_line.specs.Tracking.{frame_of}
 use Rattle.pdh_align.specs.declared.signals.Signal.{Signal}
 use Rattle.pdh_align.specs.Signals.{AreSignals}
+use Rattle.pdh_align.specs.Searching.{two_right}
 use Rattle.pdh_align.proofs.SignalLaws.{has_bit, agrees, agrees_right, signal_read}
 
 -- ---- bits of numbers
@@ -71,9 +73,14 @@ none_left word n i written none h =
 -- ---- alignment slots
 
 -- a frame in which some slot so far is wrong isn't right
-pub slots_fail : (s : FrameShape) (slots : List Signal) (j : ℕ) (frame : List Bool) → AreSignals s slots → agrees s (take j slots) frame ≡ false → is_right s frame ≡ false
+slots_fail : (s : FrameShape) (slots : List Signal) (j : ℕ) (frame : List Bool) → AreSignals s slots → agrees s (take j slots) frame ≡ false → is_right s frame ≡ false
 slots_fail s slots j frame are fails =
     sym (agrees_right s slots frame are) ∙ ap (λ x. agrees s x frame) (sym (take-append-drop j slots)) ∙ list_all-append (has_bit s frame) (take j slots) (drop j slots) ∙ ap (λ b. b && agrees s (drop j slots) frame) fails
+
+-- so isn't one that was no candidate
+pub candidates_fail : (s : FrameShape) (slots : List Signal) (j : ℕ) (frame : List Bool) (candidate : Bool) → AreSignals s slots → (candidate && agrees s (take j slots) frame) ≡ false → (candidate && is_right s frame) ≡ false
+candidates_fail s slots j frame false are fails = refl
+candidates_fail s slots j frame true are fails = slots_fail s slots j frame are fails
 
 twice : (b : Bool) → not (not b) ≡ b
 twice true = refl
@@ -91,3 +98,17 @@ slots_more s slots bits word start count len i j d are e within h read =
     ap (λ (w : List Bool). get_or w i false) read ∙ get_or-take count (drop (start + slot) bits) i false h ∙ get_or-drop (start + slot) bits i false ∙ ap (λ n. get_or bits n false) (omega arith) in
     list_all_more (has_bit s frame) slots j d within
     ∙ ap (λ v. agrees s (take j slots) frame && v) (signal_read s slots bits (start + i) len j d b (not (beq b (get_or slots j d).bit)) are e within at refl ∙ twice (beq b (get_or slots j d).bit))
+
+-- ---- two frames
+
+-- a frame and the one a frame's length later
+pub two_frames : (s : FrameShape) (bits : List Bool) (place later len : ℕ) → s.len ≡ len → later ≡ place + len
+    → (is_right s (take len (drop place bits)) && is_right s (take len (drop later bits))) ≡ two_right s bits place
+two_frames s bits place later len same is =
+    let rest : List Bool = drop place bits in
+    let none : 0 ≡ 0 * s.len = omega arith in
+    let next : later ≡ place + 1 * s.len = omega (arith, is, same) in
+    let first : take len rest ≡ frame_of s rest 0 = ap (λ n. take n rest) (sym same) ∙ ap (λ n. take s.len (drop n rest)) none in
+    let second : take len (drop later bits) ≡ frame_of s rest 1 =
+    ap (λ n. take n (drop later bits)) (sym same) ∙ ap (λ n. take s.len (drop n bits)) next ∙ ap (take s.len) (sym (drop-drop (1 * s.len) place bits)) in
+    ap (λ x. is_right s x && is_right s (take len (drop later bits))) first ∙ ap (λ x. is_right s (frame_of s rest 0) && is_right s x) second

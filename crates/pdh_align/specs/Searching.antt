@@ -1,7 +1,7 @@
 -- What a search for alignment keeps beside the bits that it holds, and what it tells of them.
-use Rattle.std.specs.Prelude.{◌≡◌, ℕ, ◌%◌, ◌≤◌, Bool, false, Option, IfSome, List, ◌++◌, length, drop}
-use Rattle.pdh_shape.specs.Frame.{FrameShape}
-use Rattle.pdh_line.specs.Tracking.{is_confirmed}
+use Rattle.std.specs.Prelude.{◌≡◌, ℕ, ◌%◌, ◌≤◌, Bool, false, ◌&&◌, Option, IfSome, List, ◌++◌, length, drop}
+use Rattle.pdh_shape.specs.Frame.{FrameShape, is_right}
+use Rattle.pdh_line.specs.Tracking.{frame_of, is_confirmed}
 use Rattle.pdh_phases.specs.Keeping.{Kept, StandsFor}
 
 -- what contracts see of it
@@ -31,6 +31,10 @@ Takes s old new more = (held since : List Bool) → Searches s old held since �
 -- the oldest positions were given up, so many
 abbrev pub GivesUp : FrameShape → Sought → Sought → ℕ → Type 0
 GivesUp s old new count = (held since : List Bool) → count ≤ length held → Searches s old held since → Searches s new (drop count held) since
+
+-- the first two of the frames that stand from this place on of the bits that are held are right
+abbrev pub two_right : FrameShape → List Bool → ℕ → Bool
+two_right s held place = is_right s (frame_of s (drop place held) 0) && is_right s (frame_of s (drop place held) 1)
 
 -- whatever bits follow, the position at this place of the bits that are held isn't confirmed
 abbrev pub IsRejected : FrameShape → List Bool → ℕ → Type 0

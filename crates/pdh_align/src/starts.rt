@@ -1,10 +1,11 @@
-//! Positions at which no right frame begins, found 64 at a time, where the alignment slots are
+//! Positions at which two right frames don't stand, found 64 at a time, where the alignment slots are
 //! spread over the frame.
 
-ghost use Rattle.std.specs.Prelude.{◌≡◌, ◌<◌, ◌≤◌, ◌+◌, ◌&&◌, ℕ, true, false, length, take, drop, get_or};
+ghost use Rattle.std.specs.Prelude.{◌≡◌, ◌<◌, ◌≤◌, ◌+◌, ◌*◌, ◌&&◌, ℕ, true, false, length, take, drop, get_or};
 ghost use Rattle.std.specs.Bool.{beq};
 ghost use Rattle.pdh_shape.specs.Frame.{is_right as is_right_in};
 ghost use Rattle.pdh_align.specs.Signals.{AreSignals};
+ghost use Rattle.pdh_align.specs.Searching.{two_right};
 
 use crate::signals::Signal;
 use pdh_packed::{BitRing, Word};
@@ -31,20 +32,19 @@ fn all(count: u32) -> Word
     Word::of(u64::MAX >> (64 - count), count)
 }
 
-// At which of so many positions, from one on, the frame is right. It reads 64 positions' bits of an
-// alignment slot at once, and ends at the slot after which none is left.
-fn right_starts<S: Shape>(slots: &[Signal], held: &BitRing, start: u32, count: u32) -> Word
+// Those of these candidates, which are positions one after another, at which the frame is right. It
+// reads the bits that they have in an alignment slot at once, and ends at the slot after which none is left.
+fn right_starts<S: Shape>(slots: &[Signal], held: &BitRing, start: u32, candidates: Word) -> Word
     requires signals { AreSignals S.shape slots.now }
-    requires some { 0 < count }
-    requires few { count ≤ 64 }
-    requires whole { start + count + S.LEN ≤ length held.now.bits }
-    ensures count { length result ≡ count }
-    ensures right { (i : ℕ) → i < count
-        → get_or result i false ≡ is_right_in S.shape (take S.LEN (drop (start + i) held.now.bits)) }
+    requires whole { start + length candidates + S.LEN ≤ length held.now.bits + 1 }
+    ensures count { length result ≡ length candidates }
+    ensures right { (i : ℕ) → i < length candidates → get_or result i false
+        ≡ (get_or candidates i false && is_right_in S.shape (take S.LEN (drop (start + i) held.now.bits))) }
 {
     // a ring's length is bounded, and so is each place in it
     let _held = held.held();
-    let mut right = all(count);
+    let count = candidates.len();
+    let mut right = candidates;
     for signal in slots {
         if right.number() == 0 {
             return right;
@@ -54,17 +54,32 @@ fn right_starts<S: Shape>(slots: &[Signal], held: &BitRing, start: u32, count: u
     right
 }
 
-// At how many of so many positions from one on, one after another, the frame isn't right.
+// At which of so many positions, from one on, two right frames stand. The second is looked at only
+// where the first is right.
+fn two_right_starts<S: Shape>(slots: &[Signal], held: &BitRing, start: u32, count: u32) -> Word
+    requires signals { AreSignals S.shape slots.now }
+    requires some { 0 < count }
+    requires few { count ≤ 64 }
+    requires whole { start + count + 2 * S.LEN ≤ length held.now.bits + 1 }
+    ensures count { length result ≡ count }
+    ensures right { (i : ℕ) → i < count → get_or result i false ≡ two_right S.shape held.now.bits (start + i) }
+{
+    // a ring's length is bounded, and so is each place in it
+    let _held = held.held();
+    let first = right_starts::<S>(slots, held, start, all(count));
+    right_starts::<S>(slots, held, start + S::LEN, first)
+}
+
+// At how many of so many positions from one on, one after another, two right frames don't stand.
 fn wrong_from<S: Shape>(slots: &[Signal], held: &BitRing, start: u32, count: u32) -> u32
     requires signals { AreSignals S.shape slots.now }
     requires some { 0 < count }
     requires few { count ≤ 64 }
-    requires whole { start + count + S.LEN ≤ length held.now.bits }
+    requires whole { start + count + 2 * S.LEN ≤ length held.now.bits + 1 }
     ensures count { result ≤ count }
-    ensures wrong { (i : ℕ) → i < result
-        → is_right_in S.shape (take S.LEN (drop (start + i) held.now.bits)) ≡ false }
+    ensures wrong { (i : ℕ) → i < result → two_right S.shape held.now.bits (start + i) ≡ false }
 {
-    let right = right_starts::<S>(slots, held, start, count);
+    let right = two_right_starts::<S>(slots, held, start, count);
     if right.number() == 0 {
         return count;
     }
@@ -76,13 +91,13 @@ fn wrong_from<S: Shape>(slots: &[Signal], held: &BitRing, start: u32, count: u32
     count
 }
 
-/// At how many of the oldest positions, one after another and so many at most, the frame isn't right.
+/// At how many of the oldest positions, one after another and so many at most, two right frames don't
+/// stand.
 pub fn wrong_starts<S: Shape>(slots: &[Signal], held: &BitRing, most: u32) -> u32
     requires signals { AreSignals S.shape slots.now }
-    requires whole { most + S.LEN ≤ length held.now.bits }
+    requires whole { most + 2 * S.LEN ≤ length held.now.bits + 1 }
     ensures count { result ≤ most }
-    ensures wrong { (i : ℕ) → i < result
-        → is_right_in S.shape (take S.LEN (drop i held.now.bits)) ≡ false }
+    ensures wrong { (i : ℕ) → i < result → two_right S.shape held.now.bits i ≡ false }
 {
     let mut done = 0;
     while done < most {

@@ -1,6 +1,6 @@
-use Rattle.std.proofs.Common.{◌≡◌, ◌+◌, ◌-◌, inl, inr, take, drop, ap, ◌∙◌, arith}
+use Rattle.std.proofs.Common.{◌≡◌, ◌+◌, ◌-◌, inl, inr, ap, ◌∙◌, arith}
 use Rattle.std.proofs.lemmas.Bool.{cases_lt}
-use Rattle.pdh_shape.specs.Frame.{is_right}
+use Rattle.pdh_align.specs.Searching.{two_right}
 use Rattle.pdh_align.proofs.starts.wrong_starts.Goals as goal
 
 pub returns-then-wrong-count-clause-wrong : goal.returns-then-wrong-count-clause-wrong
@@ -10,7 +10,7 @@ returns-then-wrong-count-clause-wrong g c i h =
       | inl before ↦ c.loop-done.invariant.1 i before
       | inr after ↦
           let here : i ≡ done + (i - done) = omega (arith, after) in
-          ap (λ n. is_right g.S.Shape.shape (take g.S.Shape.LEN (drop n c.args.held.now.bits))) here ∙ c.wrong_from-wrong.ensures.wrong (i - done) (omega (arith, h, after))
+          ap (two_right g.S.Shape.shape c.args.held.now.bits) here ∙ c.wrong_from-wrong.ensures.wrong (i - done) (omega (arith, h, after))
     ]
 
 pub loop-done-preserved : goal.loop-done-preserved
@@ -21,6 +21,6 @@ loop-done-preserved g c =
         | inl before ↦ c.loop-done.invariant.1 i before
         | inr after ↦
             let here : i ≡ done + (i - done) = omega (arith, after) in
-            ap (λ n. is_right g.S.Shape.shape (take g.S.Shape.LEN (drop n c.args.held.now.bits))) here ∙ c.wrong_from-wrong.ensures.wrong (i - done) (omega (arith, h, after, c.if-wrong-count.false))
+            ap (two_right g.S.Shape.shape c.args.held.now.bits) here ∙ c.wrong_from-wrong.ensures.wrong (i - done) (omega (arith, h, after, c.if-wrong-count.false))
       ],
     )

@@ -1,7 +1,7 @@
 use Rattle.std.proofs.Common.{◌≡◌, ◌<◌, Some, sym, ap, ◌∙◌, subst, arith, refl}
 use Rattle.std.specs.Prelude.{IsSome}
 use Rattle.pdh_align.specs.Searching.{sought_of, Searches}
-use Rattle.pdh_align.proofs.SearchLaws.{rejected_by_phase}
+use Rattle.pdh_align.proofs.SearchLaws.{rejected_by_phase, rejected_by_slots}
 use Rattle.pdh_align.proofs.search.Search.rejected.Goals as goal
 
 pub returns-in-Some-clause-rejected : goal.returns-in-Some-clause-rejected
@@ -18,3 +18,6 @@ returns-in-Some-clause-rejected g c since h i lt =
     (omega (arith, lt, most, c.min-most.ensures, c.min.ensures, c.LEN-in-Some.ensures, g.met.S.Shape.len_is, c.self.invariant.0))
     (omega (arith, lt, most, c.min-most.ensures, c.LEN.ensures, c.SIGNAL.ensures, g.met.S.Shape.len_is, g.met.S.Shape.signal_is))
     (c.below_three.ensures.below since here.phases i lt)
+
+pub returns-in-None-clause-rejected : goal.returns-in-None-clause-rejected
+returns-in-None-clause-rejected g c since h i lt = rejected_by_slots g.S.Shape.shape c.args.held.now.bits i (omega (arith, lt, c.wrong_starts.ensures.count, c.requires.full, g.met.S.Shape.len_is)) (c.wrong_starts.ensures.wrong i lt)
