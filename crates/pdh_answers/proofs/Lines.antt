@@ -1,7 +1,6 @@
 -- Lines that are written one after another.
-use Rattle.std.proofs.Common.{◌≡◌, ℕ, ◌+◌, ◌<◌, inl, inr, Option, None, Some, Result, Ok, Err, OnErr, List, [], ◌∷◌, ◌++◌, length, map, get_or, take, drop, refl, sym, ap, subst, ◌∙◌, arith, append_assoc}
+use Rattle.std.proofs.Common.{◌≡◌, ℕ, ◌+◌, ◌<◌, inl, inr, Result, Ok, Err, OnErr, List, [], ◌∷◌, ◌++◌, length, map, get_or, take, drop, refl, sym, ap, subst, ◌∙◌, arith}
 use Rattle.std.proofs.lemmas.Grind.{flat_map-append}
-use Rattle.std.specs.Option.{option_map}
 use Rattle.std.proofs.lemmas.Bool.{cases_lt}
 use Rattle.std.proofs.lemmas.List.{append-nil, map-append, take-append-drop, take-append-le, take_all, take_more}
 use Rattle.std.proofs.Math.Seq.{take-append-add, take-append_seam}
@@ -9,25 +8,11 @@ use Rattle.pdh_edge.specs.Counts.{one_more}
 use Rattle.pdh_edge.specs.Files.{SinkState, Extends, Sends, FailsToSend}
 use Rattle.pdh_watch.specs.Monitors.{State}
 use Rattle.pdh_answers.specs.Lines.{monitor_line, monitor_lines}
+use Rattle.pdh_slips.specs.declared.slip.Slip.{Slip}
+use Rattle.pdh_answers.specs.SlipLines.{slip_line, slip_lines, BreaksOff}
+use Rattle.pdh_answers.specs.laws.SlipLineLaws.{extends_join, sends_join}
 
 -- ---- what was sent
-
-twice : (a b : List ℕ) (o : Option (List ℕ)) → option_map (λ before. before ++ b) (option_map (λ before. before ++ a) o) ≡ option_map (λ before. before ++ (a ++ b)) o
-twice a b None = refl
-twice a b (Some before) = ap Some (append_assoc before a b)
-
-extends_join : (a b : List ℕ) (x y z : SinkState) → Extends a x y → Extends b y z → Extends (a ++ b) x z
-extends_join a b x y z f g = g ∙ ap (option_map (λ before. before ++ b)) f ∙ twice a b x.written
-
-same : (o : Option (List ℕ)) → o ≡ option_map (λ before. before ++ []) o
-same None = refl
-same (Some before) = ap Some (sym (append-nil before))
-
-pub sends_nothing : (x : SinkState) → Sends [] x x
-sends_nothing x = record { told = same x.written; faults = refl }
-
-sends_join : (a b : List ℕ) (x y z : SinkState) → Sends a x y → Sends b y z → Sends (a ++ b) x z
-sends_join a b x y z f g = record { told = extends_join a b x y z f.told g.told; faults = g.faults ∙ f.faults }
 
 -- a part was sent, and then a call failed
 fails_then : (a b : List ℕ) (x y z : SinkState) → Sends a x y → FailsToSend b y z → FailsToSend (a ++ b) x z
@@ -83,3 +68,21 @@ on_err (Err e) p = p
 pub on_err_map : {T E P Q : Type 0} → (r : Result T E) → (P → Q) → OnErr r P → OnErr r Q
 on_err_map (Ok x) f p = tt
 on_err_map (Err e) f p = f p
+
+-- ---- slips
+
+-- a line of a slip failed, and more were to come
+pub breaks_fails : (front rest all : List Slip) (x y : SinkState) → front ++ rest ≡ all → BreaksOff front x y → FailsToSend (slip_lines all) x y
+breaks_fails front rest all x y is b =
+    let line : FailsToSend (slip_lines b.told ++ slip_line b.last) x y = record {
+      told = (length (slip_lines b.told) + b.part, subst (λ bytes. Extends bytes x y) (sym (take-append-add (slip_lines b.told) (slip_line b.last) b.part)) b.lines);
+      faults = b.counted;
+    } in
+    let lines : slip_lines front ≡ slip_lines b.told ++ slip_line b.last =
+    ap slip_lines b.all ∙ flat_map-append slip_line b.told (b.last ∷ []) ∙ ap (λ l. slip_lines b.told ++ l) (append-nil (slip_line b.last)) in
+    subst (λ bytes. FailsToSend bytes x y) (sym (flat_map-append slip_line front rest) ∙ ap slip_lines is)
+    (fails_before (slip_lines front) (slip_lines rest) x y (subst (λ bytes. FailsToSend bytes x y) (sym lines) line))
+
+-- the line of one slip failed
+pub breaks_one : (slip : Slip) (x y : SinkState) → FailsToSend (slip_line slip) x y → BreaksOff (slip ∷ []) x y
+breaks_one slip x y f = record { told = []; last = slip; all = refl; part = f.told.0; lines = f.told.1; counted = f.faults }

@@ -1,5 +1,5 @@
 -- What a command answers: its status and its text.
-use Rattle.std.specs.Prelude.{ℕ, List, ◌++◌, codes, decimal, Result, Ok, Err}
+use Rattle.std.specs.Prelude.{ℕ, List, [], ◌++◌, codes, decimal, Result, Ok, Err}
 use Rattle.pdh_shape.specs.declared.place.Place.{Place}
 use Rattle.pdh_line.specs.Paths.{steps_of, path_text}
 use Rattle.pdh_clock.specs.declared.fault.ScheduleFault.{ScheduleFault}
@@ -11,7 +11,7 @@ use Rattle.pdh_answers.specs.Names.{name_of}
 use Rattle.pdh_answers.specs.declared.answer.Done.{Done}
 use Rattle.pdh_answers.specs.declared.answer.Done.TheVariants.{Line, Watched, Frame}
 use Rattle.pdh_answers.specs.declared.answer.Stop.{Stop}
-use Rattle.pdh_answers.specs.declared.answer.Stop.TheVariants.{Memory, Usage, Read, Write, Missing, LongSchedule, BadRow, UnknownNode, CountOver, ShortNode, Short, Overflow, Underflow, ManyFrames, NoAlignment, NotWhole, LongScript, BadScriptRow, PastEnd}
+use Rattle.pdh_answers.specs.declared.answer.Stop.TheVariants.{Memory, Usage, Read, Write, Missing, LongSchedule, BadRow, UnknownNode, CountOver, ShortNode, Short, Overflow, Underflow, ManyFrames, NoAlignment, NotWhole, LongScript, BadScriptRow, PastEnd, Unheard}
 
 -- what was done, or why not
 abbrev pub Answer : Type 0
@@ -57,6 +57,7 @@ status_of (PastEnd line) = 9
 status_of (ManyFrames frames) = 10
 status_of (NoAlignment bits) = 11
 status_of (NotWhole octets) = 12
+status_of Unheard = 4
 
 -- a place as texts have it: tributaries are counted from 1, frames and slots from 0
 abbrev pub place_text : Place → List ℕ
@@ -69,7 +70,7 @@ done_text (Line text) = text
 done_text (Watched text) = text
 done_text (Frame text) = text
 
--- each text of a stop is one line
+-- each text of a stop is one line, but for the stop behind a line that couldn't be written, which has none
 abbrev pub stop_text : Stop → List ℕ
 stop_text Memory = codes "memory\n"
 stop_text Usage = usage_text ++ codes "\n"
@@ -90,3 +91,4 @@ stop_text (PastEnd line) = codes "script: line " ++ decimal line ++ codes ": pas
 stop_text (ManyFrames frames) = codes "too many frames: " ++ decimal frames ++ codes "\n"
 stop_text (NoAlignment bits) = codes "no alignment: " ++ decimal bits ++ codes " bits\n"
 stop_text (NotWhole octets) = codes "not a whole multiframe: " ++ decimal octets ++ codes " octets\n"
+stop_text Unheard = []

@@ -1,3 +1,5 @@
 pub mod Names
 pub mod Answer
 pub mod Lines
+pub mod SlipLines
+pub mod laws

@@ -1,7 +1,7 @@
 -- The names of the files.
 use Rattle.std.specs.Prelude.{ℕ, ◌+◌, ◌/◌, ◌%◌, List, [], ◌∷◌, ◌++◌, codes}
 use Rattle.pdh_answers.specs.declared.file.File.{File}
-use Rattle.pdh_answers.specs.declared.file.File.TheVariants.{Line, Bent, Schedule, Script, Leaf, Output, Payload, E1Line, Ds1Line, PayloadOut}
+use Rattle.pdh_answers.specs.declared.file.File.TheVariants.{Line, Bent, Schedule, Script, Leaf, Output, Payload, E1Line, Ds1Line, PayloadOut, ScheduleOut}
 use Rattle.pdh_words.specs.declared.commands.Bits.{Bits}
 use Rattle.pdh_words.specs.declared.commands.Bits.TheVariants.{Line as Recorded, Bent as Disturbed}
 
@@ -53,6 +53,10 @@ ds1_name = codes "ds1.bits"
 unfoldable pub payload_out_name : List ℕ
 payload_out_name = codes "payload.out"
 
+-- the schedule that would make a line again
+unfoldable pub schedule_out_name : List ℕ
+schedule_out_name = codes "schedule.out"
+
 abbrev pub name_of : File → List ℕ
 name_of Line = line_name
 name_of Bent = bent_name
@@ -64,6 +68,7 @@ name_of Payload = payload_name
 name_of E1Line = e1_name
 name_of Ds1Line = ds1_name
 name_of PayloadOut = payload_out_name
+name_of ScheduleOut = schedule_out_name
 
 -- the file that a line is read from
 abbrev pub line_file : Bits → File

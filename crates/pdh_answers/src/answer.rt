@@ -92,6 +92,8 @@ pub enum Stop {
     BadScriptRow(u32),
     /// The row in the line of that number ends behind the last bit that is disturbed.
     PastEnd(u32),
+    /// The line of a slip couldn't be written.
+    Unheard,
 }
 
 impl Stop {
@@ -122,6 +124,7 @@ impl Stop {
             Stop::ManyFrames(_) => 10,
             Stop::NoAlignment(_) => 11,
             Stop::NotWhole(_) => 12,
+            Stop::Unheard => 4,
         }
     }
 }

@@ -1,7 +1,7 @@
 //! The files of the commands, and how each is called.
 
 ghost use Rattle.std.specs.Prelude.{◌≡◌, ◌+◌, ◌%◌, ◌≤◌, length};
-ghost use Rattle.pdh_answers.specs.Names.{line_name as name_of_line, bent_name as name_of_bent, script_name as name_of_script, schedule_name as name_of_schedule, payload_name as name_of_payload, e1_name as name_of_e1, ds1_name as name_of_ds1, payload_out_name as name_of_payload_out, numbered_name as name_of_numbered};
+ghost use Rattle.pdh_answers.specs.Names.{line_name as name_of_line, bent_name as name_of_bent, script_name as name_of_script, schedule_name as name_of_schedule, payload_name as name_of_payload, e1_name as name_of_e1, ds1_name as name_of_ds1, payload_out_name as name_of_payload_out, schedule_out_name as name_of_schedule_out, numbered_name as name_of_numbered};
 
 use arrayvec::ArrayString;
 use pdh_words::Bits;
@@ -29,6 +29,8 @@ pub enum File {
     Ds1Line,
     /// The octets that a framed line gives.
     PayloadOut,
+    /// The schedule that would make a line again.
+    ScheduleOut,
 }
 
 /// A file's name, of at most 16 bytes.
@@ -145,6 +147,17 @@ fn payload_out_name() -> Name
     name
 }
 
+// The name of the schedule that would make a line again.
+#[tactic(auto, unfolding(crate::specs::Names::schedule_out_name))]
+fn schedule_out_name() -> Name
+    ensures value { result.bytes ≡ name_of_schedule_out }
+    ensures short { length result.bytes ≡ 12 }
+{
+    let mut name = Name::new();
+    name.push_str("schedule.out");
+    name
+}
+
 impl File {
     ghost use Rattle.std.specs.Prelude.{◌≡◌};
     ghost use Rattle.pdh_answers.specs.Names.{name_of, line_file};
@@ -175,6 +188,7 @@ impl File {
             File::E1Line => e1_name(),
             File::Ds1Line => ds1_name(),
             File::PayloadOut => payload_out_name(),
+            File::ScheduleOut => schedule_out_name(),
         }
     }
 }

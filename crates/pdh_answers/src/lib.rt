@@ -1,12 +1,14 @@
 //! What a command answers: what it did or why it stopped, the status, the text, and the files that it
-//! names.
+//! names; and the log of slips over the output.
 //! It does no command: a file is a name to it, and the output is a sink.
 #![tactic(auto)]
 
 mod answer;
 mod file;
 mod reporting;
+mod telling;
 
 pub use answer::{Done, FrameText, Stop};
 pub use file::{File, Name};
 pub use reporting::report;
+pub use telling::SinkLog;

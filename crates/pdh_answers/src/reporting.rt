@@ -5,6 +5,8 @@ ghost use Rattle.pdh_line.specs.Paths.{steps_of, path_text};
 ghost use Rattle.pdh_answers.specs.Names.{name_of};
 ghost use Rattle.pdh_answers.specs.Answer.{stop_text as stop_of, place_text as place_of};
 ghost use Rattle.pdh_edge.specs.Files.{Sends, FailsToSend};
+ghost use Rattle.pdh_slips.specs.Logs.{slip_at};
+ghost use Rattle.pdh_answers.specs.SlipLines.{slip_line as line_of_slip};
 ghost use Rattle.pdh_answers.specs.Lines.{monitor_line, monitor_lines, whole_text, IsTold};
 
 use crate::answer::{Done, Stop};
@@ -58,9 +60,20 @@ fn placed(part: &str, place: Place) -> Text
     text
 }
 
+/// The line of a slip.
+pub fn slip_line(over: bool, place: Place) -> Text
+    ensures { result ≡ line_of_slip (slip_at over place) }
+{
+    if over {
+        placed("slip over: ", place)
+    } else {
+        placed("slip under: ", place)
+    }
+}
+
 // A line of a part alone.
 fn plain(part: &str) -> Text
-    requires { length part.now ≤ 100 }
+    requires { length part.now ≤ 200 }
     ensures { result ≡ part.now ++ codes "\n" }
 {
     let mut text = Text::new();
@@ -179,6 +192,7 @@ fn stop_text(stop: Stop) -> Text
         Stop::ManyFrames(frames) => counted("too many frames: ", frames),
         Stop::NoAlignment(bits) => no_alignment(bits),
         Stop::NotWhole(octets) => not_whole(octets),
+        Stop::Unheard => Text::new(),
     }
 }
 
@@ -234,7 +248,11 @@ pub fn report<K: Sink>(out: &mut K, answer: Result<Done, Stop>, monitors: &[Box<
             Err(_) => 4,
         },
         Err(stop) => {
-            let _ = out.write(stop_text(stop).bytes());
+            let text = stop_text(stop);
+            // A stop behind a line that couldn't be written has no text.
+            if !text.bytes().is_empty() {
+                let _ = out.write(text.bytes());
+            }
             stop.status()
         }
     }

@@ -35,7 +35,26 @@ fn note_text(line: usize, found: &Outcome, findings: &mut Findings) -> Result<()
     findings.note(line, difference.as_str())
 }
 
-// The text names the file whose call failed. Where the output takes no more, it is a front of the whole text.
+// Whether these bytes are whole lines that tell slips.
+fn are_slips(bytes: &[u8]) -> bool {
+    let mut at_start = true;
+    for place in 0..bytes.len() {
+        if at_start && !bytes[place..].starts_with(b"slip ") {
+            return false;
+        }
+        at_start = bytes[place] == b'\n';
+    }
+    at_start
+}
+
+// Whether a text is that of a call that failed, behind the slips that the whole text begins with and that were told by then.
+fn tells_fault(whole: &[u8], text: &[u8], fault: &[u8]) -> bool {
+    let before = &text[..text.len().saturating_sub(fault.len())];
+    text.ends_with(fault) && whole.starts_with(before) && are_slips(before)
+}
+
+// The text names the file whose call failed, behind the slips that were told by then. Where the output takes no more, it is a front
+// of the whole text.
 fn judge_failed_text(
     sweep: Sweep,
     whole: &Outcome,
@@ -46,7 +65,7 @@ fn judge_failed_text(
     let wanted = failed_text(findings.alloc, sweep.kind, found.failed.as_str())?;
     let is_told = match sweep.kind {
         Kind::Write => whole.text.as_slice().starts_with(text),
-        _ => text == wanted.as_str().as_bytes(),
+        _ => tells_fault(whole.text.as_slice(), text, wanted.as_str().as_bytes()),
     };
     if is_told {
         return Ok(());
@@ -121,8 +140,8 @@ fn judge_held_still(
 }
 
 /// Compares what a run left in which a call failed with what was there before, and with what the run leaves where that call
-/// doesn't fail: the status is that of a failed call, the text names the file whose call failed, and each file is as before or,
-/// where the run changes it, a front of what it would be.
+/// doesn't fail: the status is that of a failed call, the text names the file whose call failed, behind the slips that were
+/// told by then, and each file is as before or, where the run changes it, a front of what it would be.
 pub fn judge_failed(
     sweep: Sweep,
     before: &Files,

@@ -12,12 +12,12 @@ use Rattle.pdh_edge.proofs.Progress.{both_counts}
 use Rattle.pdh_edge.proofs.Runs.{rose_of}
 use Rattle.pdh_shape.specs.declared.role.Service.{Service}
 use Rattle.pdh_line.specs.Sending.{front}
+use Rattle.pdh_line.specs.Sending.Mode.{Slipping}
 use Rattle.pdh_line.proofs.Ranges.{range_append}
 use Rattle.pdh_tx.specs.declared.tx.Tx as tx
 use Rattle.pdh_tx.specs.declared.tx.TxStop.{TxStop}
 use Rattle.pdh_tx.specs.declared.tx.TxStop.TheVariants.{Failed, LogFailed}
-use Rattle.pdh_clock.specs.Contents.{Contents}
-use Rattle.pdh_tx.specs.Meaning.{Plan, Supply, plan_of, Meaning, Fits, Agrees, Makes, Stops, faults_met}
+use Rattle.pdh_tx.specs.Meaning.{Plan, Supply, Meaning, Fits, Agrees, Makes, Stops, faults_met}
 use Rattle.pdh_tx.specs.Held.{IsPart, Halts}
 use Rattle.pdh_tx.specs.Making.{Gives, IsClear, IsFree, IsUneventful, MakesAll}
 use Rattle.pdh_chain.specs.Muxing.{as_line, Stood, HasFrames, SayInFrames, StopsAt, MakesBits, StopsMaking, Sends, StopsSending, FailsToSend, FailsToTake, IsSendStop}
@@ -142,15 +142,15 @@ makes_more m m' says now placed placed' old mid new plan a b c bits more bit x y
 
 -- ---- a stop of the sender
 
-stops_at : (m : Meaning) (plan : Plan) (a : ℕ) (stop : TxStop) (x y : Inputs) (faults now : ℕ) (s : Stops m plan a stop x y faults now) → (stop ≡ LogFailed → ⊥) → StopsAt m plan a a s.given stop x y faults now
-stops_at m plan a stop x y faults now s no_log = record {
+stops_at : (m : Meaning) (plan : Plan) (a : ℕ) (stop : TxStop) (x y : Inputs) (faults now : ℕ) (s : Stops m plan a stop x y faults now) → (stop ≡ LogFailed → plan.mode ≡ Slipping) → StopsAt m plan a a s.given stop x y faults now
+stops_at m plan a stop x y faults now s slipping = record {
   takes = s.takes;
   others = s.others;
   no_fewer = λ k leaf. omega arith;
   no_more = s.no_more;
   free = λ size fits i l h. absurd (omega arith);
   used_up = s.used_up;
-  no_log = no_log;
+  slipping = slipping;
   met = s.met;
 }
 
@@ -163,7 +163,7 @@ stops_at_then m plan a b made g h stop x y z faults later now p free le s = reco
   no_more = λ k leaf. omega (arith, p.exact k leaf, s.no_more k leaf, length-append (g k) (h k));
   free = free_then m plan a b made g x y p free s.free;
   used_up = s.used_up;
-  no_log = s.no_log;
+  slipping = s.slipping;
   met = record {
     counted = s.met.counted ∙ ap (faults_met stop) le;
     is_first = λ e size fits. s.met.is_first e size (fits_then m plan a b g x y size p fits);
@@ -171,13 +171,13 @@ stops_at_then m plan a b made g h stop x y z faults later now p free le s = reco
 }
 
 pub stops_making : (m m' : Meaning) (says : ℕ → Service) (placed : ℕ → Type 0) (old mid : Supply → ℕ → Type 0) (plan : Plan) (a b to : ℕ) (bits : List Bool) (stop : TxStop) (x y z : Inputs) (faults later now : ℕ) → MakesBits m says placed old mid plan a b bits x y
-    → m' ≡ m → later ≡ faults → b < to → (stop ≡ LogFailed → ⊥) → Stops m' plan b stop y z later now → StopsMaking m plan a to stop x z faults now
-stops_making m m' says placed old mid plan a b to bits stop x y z faults later now p same le lt no_log stops = (let s : Stops m plan b stop y z later now = subst (λ m. Stops m plan b stop y z later now) same stops in record {
+    → m' ≡ m → later ≡ faults → b < to → (stop ≡ LogFailed → plan.mode ≡ Slipping) → Stops m' plan b stop y z later now → StopsMaking m plan a to stop x z faults now
+stops_making m m' says placed old mid plan a b to bits stop x y z faults later now p same le lt slipping stops = (let s : Stops m plan b stop y z later now = subst (λ m. Stops m plan b stop y z later now) same stops in record {
   made = b;
   begun = omega (arith, p.count);
   within = lt;
   given = λ k. p.given k ++ s.given k;
-  at = stops_at_then m plan a b b p.given s.given stop x y z faults later now p.gives p.free le (stops_at m plan b stop y z later now s no_log);
+  at = stops_at_then m plan a b b p.given s.given stop x y z faults later now p.gives p.free le (stops_at m plan b stop y z later now s slipping);
 })
 
 -- ---- whole frames
@@ -276,6 +276,10 @@ sending_fails m m' says placed placed' old mid new plan len frames n more more' 
 
 pub frame_end : (n len : ℕ) → n * len + len ≡ (n + 1) * len
 frame_end n len = omega (arith, add-mul n 1 len)
+
+-- a frame before the end of so many ends by then
+pub frames_upto : (n frames len : ℕ) → n < frames → n * len + len ≤ frames * len
+frames_upto n frames len h = omega (arith, mul-le-mul_right len h, suc-mul n len)
 
 -- ---- frames in whose way nothing stands
 
@@ -378,19 +382,19 @@ sending_halts m m' says placed old mid plan len frames n stop x y z o o' o'' fau
 
 -- ---- why a frame isn't made
 
-module _ {T : Type 0} (sender : tx.Ghosts T) (t now : T) (schedule : Contents) (says : ℕ → Service) (old mid : Supply → ℕ → Type 0) (len frames n : ℕ) (x y z : Inputs) (o o' : Outputs) (same : sender.meaning now ≡ sender.meaning t)
-    (sending : Sending (sender.meaning t) says (sender.stands_at now (plan_of schedule)) old mid (plan_of schedule) (n * len) x y o o') where
+module _ {T : Type 0} (sender : tx.Ghosts T) (t now : T) (plan : Plan) (says : ℕ → Service) (old mid : Supply → ℕ → Type 0) (len frames n : ℕ) (x y z : Inputs) (o o' : Outputs) (same : sender.meaning now ≡ sender.meaning t)
+    (sending : Sending (sender.meaning t) says (sender.stands_at now plan) old mid plan (n * len) x y o o') where
   -- frames are then not all sent
-  pub frame_ends : (stop : SendStop) (o'' : Outputs) (reads later reads_now writes writes_now : ℕ) → o'' ≡ o' → n < frames → later ≡ reads → StopsFrame sender now schedule len y z later reads_now stop
-      → IsSendStop (sender.meaning t) says old (plan_of schedule) len frames x z o o'' reads reads_now writes writes_now stop
+  pub frame_ends : (stop : SendStop) (o'' : Outputs) (reads later reads_now writes writes_now : ℕ) → o'' ≡ o' → n < frames → later ≡ reads → StopsFrame sender now plan len y z later reads_now stop
+      → IsSendStop (sender.meaning t) says old plan len frames x z o o'' reads reads_now writes writes_now stop
   frame_ends (Sender stop) o'' reads later reads_now writes writes_now left fewer le stops =
-      sending_stops (sender.meaning t) (sender.meaning now) says _ _ _ (plan_of schedule) len frames n stop x y z o o' o'' reads later reads_now same left fewer le sending (stops (n * len) sending.makes.place)
+      sending_stops (sender.meaning t) (sender.meaning now) says _ _ _ plan len frames n stop x y z o o' o'' reads later reads_now same left fewer le sending (stops (n * len) sending.makes.place)
   frame_ends TakeFailed o'' reads later reads_now writes writes_now left fewer le stops =
-      sending_halts (sender.meaning t) (sender.meaning now) says _ _ _ (plan_of schedule) len frames n Failed x y z o o' o'' reads later reads_now same left fewer (omega (arith, le)) sending (stops.0 (n * len) sending.makes.place) (rose_of _ _ stops.1)
+      sending_halts (sender.meaning t) (sender.meaning now) says _ _ _ plan len frames n Failed x y z o o' o'' reads later reads_now same left fewer (omega (arith, le)) sending (stops.0 (n * len) sending.makes.place) (rose_of _ _ stops.1)
   frame_ends WriteFailed o'' reads later reads_now writes writes_now left fewer le stops = absurd stops
 
   -- and a fault is counted where a call failed
-  pub frame_counts : (stop : SendStop) (reads later reads_now writes writes_now : ℕ) → later ≡ reads → writes_now ≡ writes → StopsFrame sender now schedule len y z later reads_now stop
+  pub frame_counts : (stop : SendStop) (reads later reads_now writes writes_now : ℕ) → later ≡ reads → writes_now ≡ writes → StopsFrame sender now plan len y z later reads_now stop
       → ◌≡◌ {A = ℕ × ℕ} (reads_now, writes_now) (counted_at_send_stop stop (reads, writes))
   frame_counts (Sender stop) reads later reads_now writes writes_now le left stops = both_counts ((stops (n * len) sending.makes.place).at.met.counted ∙ ap (faults_met stop) le) left
   frame_counts TakeFailed reads later reads_now writes writes_now le left stops = both_counts (stops.1 ∙ ap one_more le) left

@@ -1,5 +1,6 @@
 pub mod ChainLaws
 pub mod Lists
+pub mod Telling
 pub mod Frames
 pub mod Muxed
 pub mod MuxLeft
@@ -13,6 +14,8 @@ pub mod LevelNumbers
 pub mod Senders
 pub mod Stops
 pub mod SenderStops
+pub mod SlippingStops
+pub mod SlipsTold
 pub mod ShortLists
 pub mod Tolerated
 pub mod Scheduled

@@ -14,8 +14,8 @@ use Rattle.pdh_shape.specs.declared.place.Level.{Level}
 use Rattle.pdh_shape.specs.declared.role.Service.{Service}
 use Rattle.pdh_shape.specs.Frame.{FrameShape, IsFrame}
 use Rattle.pdh_shape.specs.Tributary.{reads_below}
-use Rattle.pdh_line.specs.Sending.Mode.{Plain}
-use Rattle.pdh_line.specs.Sending.{front, given}
+use Rattle.pdh_line.specs.Sending.Mode.{Plain, Slipping}
+use Rattle.pdh_line.specs.Sending.{Mode, front, given}
 use Rattle.pdh_line.specs.Events.{Event, Kind}
 use Rattle.pdh_line.specs.Events.Kind.{Overflow as OverflowKind, Underflow as UnderflowKind}
 use Rattle.pdh_line.proofs.Ranges.{map-range_same_on}
@@ -33,7 +33,7 @@ use Rattle.pdh_tx.specs.Meaning.{Plan, Supply, Meaning, IsNodeOf, HoldsAll, Fits
 use Rattle.pdh_tx.specs.Making.{IsFree}
 use Rattle.pdh_chain.specs.declared.stop.MuxStop.{MuxStop}
 use Rattle.pdh_line.specs.Paths.{top}
-use Rattle.pdh_chain.specs.declared.stop.MuxStop.TheVariants.{Memory as MuxMemory, Event as MuxEvent, NoFrame as MuxNoFrame, Ended as MuxEnded, ReadFailed as MuxReadFailed, WriteFailed as MuxWriteFailed}
+use Rattle.pdh_chain.specs.declared.stop.MuxStop.TheVariants.{Memory as MuxMemory, Event as MuxEvent, NoFrame as MuxNoFrame, Ended as MuxEnded, ReadFailed as MuxReadFailed, WriteFailed as MuxWriteFailed, LogFailed as MuxLogFailed}
 use Rattle.pdh_chain.specs.Trees.{sender_of, AreLevelsOf}
 use Rattle.pdh_chain.specs.Muxing.{as_line, Stood, HasFrames, Sends, StopsSending, FailsToSend, FailsToTake}
 use Rattle.pdh_chain.specs.Muxes.{plan_with, bits_of, frames_of_line, BeginWith, IsClear, PutsFrames, PutsFewer, PutsPrefix, Muxes, StopsFirst, StopsAtEvent, LacksFrames, LacksBelow, IsMuxStop, is_overflow, place_of, stop_at, mux_stop}
@@ -41,6 +41,7 @@ use Rattle.pdh_chain.proofs.Numbered.{IsAt}
 use Rattle.pdh_chain.proofs.TreeLeaves.{leaf_known, leaf_in, leaf_out}
 use Rattle.pdh_chain.proofs.Senders.{senders, leaf-is, line_is, given_is, nodes_in}
 use Rattle.pdh_chain.proofs.Stops.{stop_of_kind, IsFirst, Tells, first_get}
+use Rattle.pdh_chain.proofs.SlippingStops.{Only, chain_stops}
 use Rattle.pdh_chain.proofs.SenderStops.{Other, chain_tells, given_below-grows, lacks-grows}
 
 -- the sender of a whole chain
@@ -159,20 +160,24 @@ lacks_below (s ∷ below) counts scheduled frames whole made node are has fewer 
       )
 ]
 
-module _ (shapes : List FrameShape) (counts : Counts) (says : ℕ → Service) (scheduled : List ℕ → ℕ) (are : AreFrames shapes) (at : IsAt shapes top []) where
+cases_mode : (mode : Mode) → (mode ≡ Plain) ⊎ (mode ≡ Slipping)
+cases_mode Plain = inl refl
+cases_mode Slipping = inr refl
+
+module _ (mode : Mode) (shapes : List FrameShape) (counts : Counts) (says : ℕ → Service) (scheduled : List ℕ → ℕ) (are : AreFrames shapes) (at : IsAt shapes top []) where
   abbrev m : Meaning
   m = chain_sender shapes
 
   abbrev plan : Plan
-  plan = plan_with scheduled counts
+  plan = plan_with mode scheduled counts
 
-  line-same : (lists : ℕ → List Bool) (n : ℕ) → front (m.line (supply_with plan says lists)) (n * top_len shapes) ≡ frames_of_line shapes counts says lists n
-  line-same lists n = map-range_same_on _ _ 0 (n * top_len shapes) (λ x l h. line_is scheduled counts (bits_of lists) shapes top [] 0 says x are at)
+  line-same : (lists : ℕ → List Bool) (n : ℕ) → front (m.line (supply_with plan says lists)) (n * top_len shapes) ≡ frames_of_line mode shapes counts says lists n
+  line-same lists n = map-range_same_on _ _ 0 (n * top_len shapes) (λ x l h. line_is mode scheduled counts (bits_of lists) shapes top [] 0 says x are at)
 
   given-is : (x k : ℕ) → k < width shapes → m.given plan x k ≡ given_below shapes counts [] x k
   given-is x k known =
       let number : k ≡ 0 + k = omega arith in
-      ap (m.given plan x) number ∙ given_is scheduled counts shapes top [] 0 x k at known
+      ap (m.given plan x) number ∙ given_is mode scheduled counts shapes top [] 0 x k at known
 
   given-none : (k : ℕ) → k < width shapes → m.given plan 0 k ≡ 0
   given-none k known = given-is 0 k known ∙ none_before_first shapes counts [] k are
@@ -190,27 +195,35 @@ module _ (shapes : List FrameShape) (counts : Counts) (says : ℕ → Service) (
           let here : i ≡ m.given plan 0 k + i = omega (arith, given-none k known) in
           begin k i known h ∙ ap (λ n. slice_index_or (lists k) n false) here
 
-  tells : (size : ℕ → ℕ) (x : ℕ) (o : Option TxStop) → m.obstacle plan size x ≡ o → Tells (Other shapes counts scheduled size [] 0 (suc x)) o (events_in Plain shapes counts [] x)
-  tells size x o is = subst (λ o. Tells (Other shapes counts scheduled size [] 0 (suc x)) o (events_in Plain shapes counts [] x)) is (chain_tells shapes counts scheduled size top [] 0 x are at)
+  -- in plain mode an event stands in the way
+  tells : mode ≡ Plain → (size : ℕ → ℕ) (x : ℕ) (o : Option TxStop) → m.obstacle plan size x ≡ o → Tells (Other shapes counts scheduled size [] 0 (suc x)) o (events_in Plain shapes counts [] x)
+  tells plain size x o is =
+      subst (λ o. Tells (Other shapes counts scheduled size [] 0 (suc x)) o (events_in Plain shapes counts [] x)) (ap (λ mode. m.obstacle (plan_with mode scheduled counts) size x) (sym plain) ∙ is)
+      (chain_tells shapes counts scheduled size top [] 0 x are at)
 
-  quiet : (inputs : Inputs) (to y : ℕ) → IsFree m plan 0 to inputs → y < to → events_in Plain shapes counts [] y ≡ []
-  quiet inputs to y free h = tells inputs.left y None (free inputs.left (fits inputs) y (omega arith) h)
+  quiet : mode ≡ Plain → (inputs : Inputs) (to y : ℕ) → IsFree m plan 0 to inputs → y < to → events_in Plain shapes counts [] y ≡ []
+  quiet plain inputs to y free h = tells plain inputs.left y None (free inputs.left (fits inputs) y (omega arith) h)
+
+  -- and in the other nothing but the end of a list or of a schedule
+  stops_slipping : mode ≡ Slipping → (size : ℕ → ℕ) (x : ℕ) (stop : TxStop) → m.obstacle plan size x ≡ Some stop → Other shapes counts scheduled size [] 0 (suc x) stop
+  stops_slipping slips size x stop is =
+      subst (Only (Other shapes counts scheduled size [] 0 (suc x))) (ap (λ mode. m.obstacle (plan_with mode scheduled counts) size x) (sym slips) ∙ is) (chain_stops shapes counts scheduled size top [] 0 x are at)
 
   -- nothing stands in the way of the first of bits that are free
-  clear_of : (inputs : Inputs) (to bits : ℕ) → IsFree m plan 0 to inputs → bits ≤ to → IsClear shapes counts scheduled inputs.left bits
+  clear_of : (inputs : Inputs) (to bits : ℕ) → IsFree m plan 0 to inputs → bits ≤ to → IsClear mode shapes counts scheduled inputs.left bits
   clear_of inputs to bits free most x h = free inputs.left (fits inputs) x (omega arith) (omega arith)
 
   -- what was put for every supply that the sender stood for
   puts_frames : (stands_for : Supply → ℕ → Type 0) (n : ℕ) (given : ℕ → List Bool) (outputs outputs_now : Outputs) (lists : ℕ → List Bool) → ((supply : Supply) → stands_for supply 0)
       → ((supply : Supply) → Stood m says stands_for plan 0 given supply → Puts (as_line (front (m.line supply) (n * top_len shapes))) outputs outputs_now)
-      → BeginWith (width shapes) given lists → Puts (as_line (frames_of_line shapes counts says lists n)) outputs outputs_now
+      → BeginWith (width shapes) given lists → Puts (as_line (frames_of_line mode shapes counts says lists n)) outputs outputs_now
   puts_frames stands_for n given outputs outputs_now lists fresh puts begin =
       subst (λ line. Puts (as_line line) outputs outputs_now) (line-same lists n) (puts (supply_with plan says lists) (stood stands_for given lists fresh begin))
 
   -- ---- all frames
 
   sends_muxes : (placed : ℕ → Type 0) (old new : Supply → ℕ → Type 0) (frames : ℕ) (inputs inputs_now : Inputs) (outputs outputs_now : Outputs) → ((supply : Supply) → old supply 0)
-      → Sends m says placed old new plan (frames * top_len shapes) inputs inputs_now outputs outputs_now → Muxes shapes counts says scheduled frames inputs inputs_now outputs outputs_now
+      → Sends m says placed old new plan (frames * top_len shapes) inputs inputs_now outputs outputs_now → Muxes mode shapes counts says scheduled frames inputs inputs_now outputs outputs_now
   sends_muxes placed old new frames inputs inputs_now outputs outputs_now fresh sends = record {
     line = record {
       given = sends.given;
@@ -219,7 +232,7 @@ module _ (shapes : List FrameShape) (counts : Counts) (says : ℕ → Service) (
       puts = λ lists begin. puts_frames old frames sends.given outputs outputs_now lists fresh sends.puts begin;
     };
     given_is = λ k known. omega (arith, sends.gives.takes.counts k, sends.gives.exact k (is_leaf shapes k known), given-none k known, given-is (frames * top_len shapes) k known);
-    no_event = ap (λ es. slice_get es 0) (events_below-none shapes counts (frames * top_len shapes) (λ y h. quiet inputs (frames * top_len shapes) y sends.free h));
+    no_event = λ plain. ap (λ es. slice_get es 0) (events_below-none shapes counts (frames * top_len shapes) (λ y h. quiet plain inputs (frames * top_len shapes) y sends.free h));
     clear = clear_of inputs (frames * top_len shapes) (frames * top_len shapes) sends.free (omega arith);
   }
 
@@ -228,7 +241,7 @@ module _ (shapes : List FrameShape) (counts : Counts) (says : ℕ → Service) (
   module _ (old : Supply → ℕ → Type 0) (frames : ℕ) (stop : TxStop) (inputs inputs_now : Inputs) (outputs outputs_now : Outputs) (faults now : ℕ) (fresh : (supply : Supply) → old supply 0)
       (stops : StopsSending m says old plan (top_len shapes) frames stop inputs inputs_now outputs outputs_now faults now) where
     -- the frames before it
-    abbrev whole_frames : PutsFrames shapes counts says stops.whole inputs inputs_now outputs outputs_now
+    abbrev whole_frames : PutsFrames mode shapes counts says stops.whole inputs inputs_now outputs outputs_now
     whole_frames = record {
       given = stops.given;
       takes = stops.at.takes;
@@ -240,7 +253,7 @@ module _ (shapes : List FrameShape) (counts : Counts) (says : ℕ → Service) (
     made_inside = omega (arith, mul-le-mul_right (top_len shapes) stops.fewer, stops.within)
 
     -- it stands in the way before all frames are sent, and no leaf gave more than these frames and the next take
-    abbrev fewer_frames : PutsFewer shapes counts says scheduled frames inputs inputs_now outputs outputs_now
+    abbrev fewer_frames : PutsFewer mode shapes counts says scheduled frames inputs inputs_now outputs outputs_now
     fewer_frames = record {
       whole = stops.whole;
       fewer = stops.fewer;
@@ -253,7 +266,7 @@ module _ (shapes : List FrameShape) (counts : Counts) (says : ℕ → Service) (
     }
 
     -- it stands first in the way
-    stops_first : is_failed stop ≡ false → StopsFirst shapes counts says scheduled frames stop inputs inputs_now outputs outputs_now
+    stops_first : is_failed stop ≡ false → StopsFirst mode shapes counts says scheduled frames stop inputs inputs_now outputs outputs_now
     stops_first none = record {
       obstacle = record {
         made = stops.made;
@@ -267,49 +280,59 @@ module _ (shapes : List FrameShape) (counts : Counts) (says : ℕ → Service) (
     }
 
     -- an event that the sender met is the first
-    at_event : (over : Bool) (place : Place) (first : IsFirst (events_in Plain shapes counts [] stops.made) stop) → stop ≡ stop_at over place → is_failed stop ≡ false → (over ≡ is_overflow first.event.kind) × (place ≡ place_of first.event)
-        → StopsAtEvent shapes counts says scheduled frames over place inputs inputs_now outputs outputs_now
-    at_event over place first same none is = record {
-      event = first.event;
-      first = first_event-at shapes counts frames stops.made first.event made_inside (λ y h. quiet inputs stops.made y stops.at.free h) first.first;
-      kind = is.0;
-      place_is = is.1;
-      made = stops.made;
-      met = first.first;
-      quiet = λ y h. quiet inputs stops.made y stops.at.free h;
-      whole = stops.whole;
-      begun = stops.begun;
-      within = stops.within;
-      line = whole_frames;
-      stops = subst (λ stop. StopsFirst shapes counts says scheduled frames stop inputs inputs_now outputs outputs_now) same (stops_first none);
-    }
+    at_event : mode ≡ Plain → (over : Bool) (place : Place) (first : IsFirst (events_in Plain shapes counts [] stops.made) stop) → stop ≡ stop_at over place → is_failed stop ≡ false
+        → (over ≡ is_overflow first.event.kind) × (place ≡ place_of first.event) → (mode ≡ Plain) × StopsAtEvent shapes counts says scheduled frames over place inputs inputs_now outputs outputs_now
+    at_event plain over place first same none is = (
+      plain,
+      record {
+        event = first.event;
+        first = first_event-at shapes counts frames stops.made first.event made_inside (λ y h. quiet plain inputs stops.made y stops.at.free h) first.first;
+        kind = is.0;
+        place_is = is.1;
+        made = stops.made;
+        met = first.first;
+        quiet = λ y h. quiet plain inputs stops.made y stops.at.free h;
+        whole = stops.whole;
+        begun = stops.begun;
+        within = stops.within;
+        line = subst (λ mode. PutsFrames mode shapes counts says stops.whole inputs inputs_now outputs outputs_now) plain whole_frames;
+        stops = subst (λ mode. StopsFirst mode shapes counts says scheduled frames (stop_at over place) inputs inputs_now outputs outputs_now) plain
+            (subst (λ stop. StopsFirst mode shapes counts says scheduled frames stop inputs inputs_now outputs outputs_now) same (stops_first none));
+      },
+    )
 
     -- what stood in its way
-    met : is_failed stop ≡ false → IsFirst (events_in Plain shapes counts [] stops.made) stop ⊎ Other shapes counts scheduled inputs.left [] 0 (suc stops.made) stop
-    met none = tells inputs.left stops.made (Some stop) (stops.at.met.is_first none inputs.left (fits inputs))
+    met : is_failed stop ≡ false → ((mode ≡ Plain) × IsFirst (events_in Plain shapes counts [] stops.made) stop) ⊎ Other shapes counts scheduled inputs.left [] 0 (suc stops.made) stop
+    met none = elim (cases_mode mode) [
+      | inl plain ↦ elim (tells plain inputs.left stops.made (Some stop) (stops.at.met.is_first none inputs.left (fits inputs))) [
+        | inl first ↦ inl (plain, first)
+        | inr other ↦ inr other
+      ]
+      | inr slips ↦ inr (stops_slipping slips inputs.left stops.made stop (stops.at.met.is_first none inputs.left (fits inputs)))
+    ]
 
   pub stops_muxes : (old : Supply → ℕ → Type 0) (frames : ℕ) (stop : TxStop) (inputs inputs_now : Inputs) (outputs outputs_now : Outputs) (faults now writes writes_now : ℕ) → frames ≤ scheduled [] → ((supply : Supply) → old supply 0)
       → StopsSending m says old plan (top_len shapes) frames stop inputs inputs_now outputs outputs_now faults now
-      → IsMuxStop shapes counts says scheduled frames inputs inputs_now outputs outputs_now faults now writes writes_now (mux_stop stop)
+      → IsMuxStop mode shapes counts says scheduled frames inputs inputs_now outputs outputs_now faults now writes writes_now (mux_stop stop)
   stops_muxes old frames Failed inputs inputs_now outputs outputs_now faults now writes writes_now has fresh stops = (rose_of _ _ stops.at.met.counted, fewer_frames old frames Failed inputs inputs_now outputs outputs_now faults now fresh stops)
-  stops_muxes old frames LogFailed inputs inputs_now outputs outputs_now faults now writes writes_now has fresh stops = absurd (stops.at.no_log refl)
+  stops_muxes old frames LogFailed inputs inputs_now outputs outputs_now faults now writes writes_now has fresh stops = (stops.at.slipping refl, fewer_frames old frames LogFailed inputs inputs_now outputs outputs_now faults now fresh stops)
   stops_muxes old frames (Overflow place) inputs inputs_now outputs outputs_now faults now writes writes_now has fresh stops = elim (met old frames (Overflow place) inputs inputs_now outputs outputs_now faults now fresh stops refl) [
-    | inl first ↦ at_event old frames (Overflow place) inputs inputs_now outputs outputs_now faults now fresh stops true place first refl refl (over_is first.event.kind place (place_of first.event) first.is)
+    | inl first ↦ at_event old frames (Overflow place) inputs inputs_now outputs outputs_now faults now fresh stops first.0 true place first.1 refl refl (over_is first.1.event.kind place (place_of first.1.event) first.1.is)
     | inr none ↦ absurd none
   ]
   stops_muxes old frames (Underflow place) inputs inputs_now outputs outputs_now faults now writes writes_now has fresh stops = elim (met old frames (Underflow place) inputs inputs_now outputs outputs_now faults now fresh stops refl) [
-    | inl first ↦ at_event old frames (Underflow place) inputs inputs_now outputs outputs_now faults now fresh stops false place first refl refl (under_is first.event.kind place (place_of first.event) first.is)
+    | inl first ↦ at_event old frames (Underflow place) inputs inputs_now outputs outputs_now faults now fresh stops first.0 false place first.1 refl refl (under_is first.1.event.kind place (place_of first.1.event) first.1.is)
     | inr none ↦ absurd none
   ]
   stops_muxes old frames (NoFrame node) inputs inputs_now outputs outputs_now faults now writes writes_now has fresh stops = elim (met old frames (NoFrame node) inputs inputs_now outputs outputs_now faults now fresh stops refl) [
-    | inl first ↦ absurd (no_event_missing first.event.kind node (place_of first.event) first.is)
+    | inl first ↦ absurd (no_event_missing first.1.event.kind node (place_of first.1.event) first.1.is)
     | inr lacks ↦ (
       record { steps = lacks.0; node_is = lacks.1; lacks = lacks_below shapes counts scheduled frames stops.whole stops.made lacks.0 are has stops.fewer stops.begun stops.within lacks.2 },
       stops_first old frames (NoFrame node) inputs inputs_now outputs outputs_now faults now fresh stops refl,
     )
   ]
   stops_muxes old frames (Ended leaf) inputs inputs_now outputs outputs_now faults now writes writes_now has fresh stops = elim (met old frames (Ended leaf) inputs inputs_now outputs outputs_now faults now fresh stops refl) [
-    | inl first ↦ absurd (no_event_ended first.event.kind leaf (place_of first.event) first.is)
+    | inl first ↦ absurd (no_event_ended first.1.event.kind leaf (place_of first.1.event) first.1.is)
     | inr short ↦
         let same : short.0 ≡ leaf = omega (arith, short.1) in
         let most : ℕ = frames * top_len shapes in
@@ -323,7 +346,7 @@ module _ (shapes : List FrameShape) (counts : Counts) (says : ℕ → Service) (
   -- ---- a call for bits that failed
 
   pub takes_muxes : (old : Supply → ℕ → Type 0) (frames : ℕ) (inputs inputs_now : Inputs) (outputs outputs_now : Outputs) (reads reads_now : ℕ) → ((supply : Supply) → old supply 0)
-      → FailsToTake m says old plan (top_len shapes) frames inputs inputs_now outputs outputs_now reads reads_now → Rose reads reads_now × PutsFewer shapes counts says scheduled frames inputs inputs_now outputs outputs_now
+      → FailsToTake m says old plan (top_len shapes) frames inputs inputs_now outputs outputs_now reads reads_now → Rose reads reads_now × PutsFewer mode shapes counts says scheduled frames inputs inputs_now outputs outputs_now
   takes_muxes old frames inputs inputs_now outputs outputs_now reads reads_now fresh fails = (
     fails.rose,
     record {
@@ -346,7 +369,7 @@ module _ (shapes : List FrameShape) (counts : Counts) (says : ℕ → Service) (
   -- ---- a bit that couldn't be put
 
   pub fails_muxes : (old : Supply → ℕ → Type 0) (frames : ℕ) (inputs inputs_now : Inputs) (outputs outputs_now : Outputs) (writes writes_now : ℕ) → ((supply : Supply) → old supply 0)
-      → FailsToSend m says old plan (top_len shapes) frames inputs inputs_now outputs outputs_now writes writes_now → Rose writes writes_now × PutsPrefix shapes counts says scheduled frames inputs inputs_now outputs outputs_now
+      → FailsToSend m says old plan (top_len shapes) frames inputs inputs_now outputs outputs_now writes writes_now → Rose writes writes_now × PutsPrefix mode shapes counts says scheduled frames inputs inputs_now outputs outputs_now
   fails_muxes old frames inputs inputs_now outputs outputs_now writes writes_now fresh fails = (
     fails.rose,
     record {
@@ -364,34 +387,34 @@ module _ (shapes : List FrameShape) (counts : Counts) (says : ℕ → Service) (
 
 -- ---- the same of a meaning and a length that are known to be the chain's
 
-module _ (shapes : List FrameShape) (counts : Counts) (says : ℕ → Service) (scheduled : List ℕ → ℕ) (are : AreFrames shapes) (at : IsAt shapes top []) (m : Meaning) (len : ℕ) (same : m ≡ chain_sender shapes) (whole : top_len shapes ≡ len) where
+module _ (mode : Mode) (shapes : List FrameShape) (counts : Counts) (says : ℕ → Service) (scheduled : List ℕ → ℕ) (are : AreFrames shapes) (at : IsAt shapes top []) (m : Meaning) (len : ℕ) (same : m ≡ chain_sender shapes) (whole : top_len shapes ≡ len) where
   pub sent : (placed : ℕ → Type 0) (old new : Supply → ℕ → Type 0) (frames : ℕ) (inputs inputs_now : Inputs) (outputs outputs_now : Outputs) → ((supply : Supply) → old supply 0)
-      → Sends m says placed old new (plan_with scheduled counts) (frames * len) inputs inputs_now outputs outputs_now → Muxes shapes counts says scheduled frames inputs inputs_now outputs outputs_now
+      → Sends m says placed old new (plan_with mode scheduled counts) (frames * len) inputs inputs_now outputs outputs_now → Muxes mode shapes counts says scheduled frames inputs inputs_now outputs outputs_now
   sent placed old new frames inputs inputs_now outputs outputs_now fresh sends =
-      let plan : Plan = plan_with scheduled counts in
-      sends_muxes shapes counts says scheduled are at placed old new frames inputs inputs_now outputs outputs_now fresh
+      let plan : Plan = plan_with mode scheduled counts in
+      sends_muxes mode shapes counts says scheduled are at placed old new frames inputs inputs_now outputs outputs_now fresh
       (subst (λ m. Sends m says placed old new plan (frames * top_len shapes) inputs inputs_now outputs outputs_now) same (subst (λ len. Sends m says placed old new plan (frames * len) inputs inputs_now outputs outputs_now) (sym whole) sends))
 
   pub stopped : (old : Supply → ℕ → Type 0) (frames : ℕ) (stop : TxStop) (inputs inputs_now : Inputs) (outputs outputs_now : Outputs) (faults now writes writes_now : ℕ) → frames ≤ scheduled [] → ((supply : Supply) → old supply 0)
-      → StopsSending m says old (plan_with scheduled counts) len frames stop inputs inputs_now outputs outputs_now faults now
-      → IsMuxStop shapes counts says scheduled frames inputs inputs_now outputs outputs_now faults now writes writes_now (mux_stop stop)
+      → StopsSending m says old (plan_with mode scheduled counts) len frames stop inputs inputs_now outputs outputs_now faults now
+      → IsMuxStop mode shapes counts says scheduled frames inputs inputs_now outputs outputs_now faults now writes writes_now (mux_stop stop)
   stopped old frames stop inputs inputs_now outputs outputs_now faults now writes writes_now has fresh stops =
-      let plan : Plan = plan_with scheduled counts in
-      stops_muxes shapes counts says scheduled are at old frames stop inputs inputs_now outputs outputs_now faults now writes writes_now has fresh
+      let plan : Plan = plan_with mode scheduled counts in
+      stops_muxes mode shapes counts says scheduled are at old frames stop inputs inputs_now outputs outputs_now faults now writes writes_now has fresh
       (subst (λ m. StopsSending m says old plan (top_len shapes) frames stop inputs inputs_now outputs outputs_now faults now) same (subst (λ len. StopsSending m says old plan len frames stop inputs inputs_now outputs outputs_now faults now) (sym whole) stops))
 
   pub failed : (old : Supply → ℕ → Type 0) (frames : ℕ) (inputs inputs_now : Inputs) (outputs outputs_now : Outputs) (writes writes_now : ℕ) → ((supply : Supply) → old supply 0)
-      → FailsToSend m says old (plan_with scheduled counts) len frames inputs inputs_now outputs outputs_now writes writes_now → Rose writes writes_now × PutsPrefix shapes counts says scheduled frames inputs inputs_now outputs outputs_now
+      → FailsToSend m says old (plan_with mode scheduled counts) len frames inputs inputs_now outputs outputs_now writes writes_now → Rose writes writes_now × PutsPrefix mode shapes counts says scheduled frames inputs inputs_now outputs outputs_now
   failed old frames inputs inputs_now outputs outputs_now writes writes_now fresh fails =
-      let plan : Plan = plan_with scheduled counts in
-      fails_muxes shapes counts says scheduled are at old frames inputs inputs_now outputs outputs_now writes writes_now fresh
+      let plan : Plan = plan_with mode scheduled counts in
+      fails_muxes mode shapes counts says scheduled are at old frames inputs inputs_now outputs outputs_now writes writes_now fresh
       (subst (λ m. FailsToSend m says old plan (top_len shapes) frames inputs inputs_now outputs outputs_now writes writes_now) same (subst (λ len. FailsToSend m says old plan len frames inputs inputs_now outputs outputs_now writes writes_now) (sym whole) fails))
 
   pub take_failed : (old : Supply → ℕ → Type 0) (frames : ℕ) (inputs inputs_now : Inputs) (outputs outputs_now : Outputs) (reads reads_now : ℕ) → ((supply : Supply) → old supply 0)
-      → FailsToTake m says old (plan_with scheduled counts) len frames inputs inputs_now outputs outputs_now reads reads_now → Rose reads reads_now × PutsFewer shapes counts says scheduled frames inputs inputs_now outputs outputs_now
+      → FailsToTake m says old (plan_with mode scheduled counts) len frames inputs inputs_now outputs outputs_now reads reads_now → Rose reads reads_now × PutsFewer mode shapes counts says scheduled frames inputs inputs_now outputs outputs_now
   take_failed old frames inputs inputs_now outputs outputs_now reads reads_now fresh fails =
-      let plan : Plan = plan_with scheduled counts in
-      takes_muxes shapes counts says scheduled are at old frames inputs inputs_now outputs outputs_now reads reads_now fresh
+      let plan : Plan = plan_with mode scheduled counts in
+      takes_muxes mode shapes counts says scheduled are at old frames inputs inputs_now outputs outputs_now reads reads_now fresh
       (subst (λ m. FailsToTake m says old plan (top_len shapes) frames inputs inputs_now outputs outputs_now reads reads_now) same (subst (λ len. FailsToTake m says old plan len frames inputs inputs_now outputs outputs_now reads reads_now) (sym whole) fails))
 
 -- ---- a start that failed
@@ -404,8 +427,8 @@ nothing_before : (told : Option (List Bool)) → told ≡ before [] told
 nothing_before None = refl
 nothing_before (Some list) = refl
 
-pub nothing_put : (shapes : List FrameShape) (counts : Counts) (says : ℕ → Service) (scheduled : List ℕ → ℕ) (frames : ℕ) (inputs inputs_now : Inputs) (outputs outputs_now : Outputs) → AreFrames shapes → inputs_now ≡ inputs → outputs_now ≡ outputs → PutsPrefix shapes counts says scheduled frames inputs inputs_now outputs outputs_now
-nothing_put shapes counts says scheduled frames inputs inputs_now outputs outputs_now are same same' = record {
+pub nothing_put : (mode : Mode) (shapes : List FrameShape) (counts : Counts) (says : ℕ → Service) (scheduled : List ℕ → ℕ) (frames : ℕ) (inputs inputs_now : Inputs) (outputs outputs_now : Outputs) → AreFrames shapes → inputs_now ≡ inputs → outputs_now ≡ outputs → PutsPrefix mode shapes counts says scheduled frames inputs inputs_now outputs outputs_now
+nothing_put mode shapes counts says scheduled frames inputs inputs_now outputs outputs_now are same same' = record {
   made = 0;
   upto = omega arith;
   given = λ k. [];
@@ -416,18 +439,19 @@ nothing_put shapes counts says scheduled frames inputs inputs_now outputs output
   others = λ k other. refl;
   exact = λ k known. (let none : 0 * top_len shapes ≡ 0 = omega arith in sym (ap (λ x. given_below shapes counts [] x k) none ∙ none_before_first shapes counts [] k are));
   puts = λ lists begin k.
-      subst (λ told. PrefixOf (as_line (frames_of_line shapes counts says lists 0) k) (outputs.told k) told) (ap (λ (o : Outputs). o.told k) (sym same')) (prefix_same (as_line (frames_of_line shapes counts says lists 0) k) (outputs.told k));
+      subst (λ told. PrefixOf (as_line (frames_of_line mode shapes counts says lists 0) k) (outputs.told k) told) (ap (λ (o : Outputs). o.told k) (sym same')) (prefix_same (as_line (frames_of_line mode shapes counts says lists 0) k) (outputs.told k));
   clear = λ x h. absurd (omega arith);
 }
 
 -- ---- counts of faults since an earlier state
 
-module _ (shapes : List FrameShape) (counts : Counts) (says : ℕ → Service) (scheduled : List ℕ → ℕ) (frames : ℕ) (inputs inputs_now : Inputs) (outputs outputs_now : Outputs) (first reads reads_now start writes writes_now : ℕ) where
-  pub stop_since : (stop : MuxStop) → first ≤ reads → start ≤ writes → IsMuxStop shapes counts says scheduled frames inputs inputs_now outputs outputs_now reads reads_now writes writes_now stop
-      → IsMuxStop shapes counts says scheduled frames inputs inputs_now outputs outputs_now first reads_now start writes_now stop
+module _ (mode : Mode) (shapes : List FrameShape) (counts : Counts) (says : ℕ → Service) (scheduled : List ℕ → ℕ) (frames : ℕ) (inputs inputs_now : Inputs) (outputs outputs_now : Outputs) (first reads reads_now start writes writes_now : ℕ) where
+  pub stop_since : (stop : MuxStop) → first ≤ reads → start ≤ writes → IsMuxStop mode shapes counts says scheduled frames inputs inputs_now outputs outputs_now reads reads_now writes writes_now stop
+      → IsMuxStop mode shapes counts says scheduled frames inputs inputs_now outputs outputs_now first reads_now start writes_now stop
   stop_since MuxMemory h h' why = why
   stop_since (MuxEvent over place) h h' why = why
   stop_since (MuxNoFrame node) h h' why = why
   stop_since (MuxEnded leaf) h h' why = why
   stop_since MuxReadFailed h h' why = (omega (arith, why.0, h), why.1)
   stop_since MuxWriteFailed h h' why = (omega (arith, why.0, h'), why.1)
+  stop_since MuxLogFailed h h' why = why

@@ -91,7 +91,7 @@ Other shapes counts scheduled size steps first x (NoFrame node) = (at : List ℕ
 Other shapes counts scheduled size steps first x _ = ⊥
 
 -- what stops a tributary's bit stops the node's bit that takes it
-lift : (s : FrameShape) (below : List FrameShape) (counts : Counts) (scheduled : List ℕ → ℕ) (size : ℕ → ℕ) (steps : List ℕ) (first j y x : ℕ) (stop : TxStop) → AreFrames (s ∷ below) → j < s.tribs → y ≤ given s j (counts steps j) x
+pub lift : (s : FrameShape) (below : List FrameShape) (counts : Counts) (scheduled : List ℕ → ℕ) (size : ℕ → ℕ) (steps : List ℕ) (first j y x : ℕ) (stop : TxStop) → AreFrames (s ∷ below) → j < s.tribs → y ≤ given s j (counts steps j) x
     → Other below counts scheduled size (child steps j) (first + j * width below) y stop → Other (s ∷ below) counts scheduled size steps first x stop
 unfolding given_at LacksFrames
 lift s below counts scheduled size steps first j y x (Ended leaf) are known h why =
@@ -115,7 +115,7 @@ lift s below counts scheduled size steps first j y x LogFailed are known h why =
 
 -- ---- one node
 
-first_is : (len x : ℕ) → 0 < len → eqb x 0 ≡ (eqb (x / len) 0 && eqb (x % len) 0)
+pub first_is : (len x : ℕ) → 0 < len → eqb x 0 ≡ (eqb (x / len) 0 && eqb (x % len) 0)
 first_is len x some = elim (cases_eq x 0) [
   | inl none ↦
       let q : 0 / len ≡ 0 = omega (arith, div-mul-add 0 len 0 some) in
@@ -130,12 +130,12 @@ first_is len x some = elim (cases_eq x 0) [
     differ (inl h) (inl q) other = absurd (other (sym (div-add-mod' x len) ∙ ap (λ v. v * len + x % len) h ∙ ap (λ v. 0 * len + v) q ∙ omega arith))
 
 module _ (s : FrameShape) (below : List FrameShape) (counts : Counts) (scheduled : List ℕ → ℕ) (size : ℕ → ℕ) (path : Path) (first x : ℕ) (are : AreFrames (s ∷ below)) (canonical : path ≡ path_of (steps_of path))
-    (inner : (j k : ℕ) → j < s.tribs → Tells (Other below counts scheduled size (child (steps_of path) j) (first + j * width below) (suc k)) ((tributary senders below path first j).obstacle (plan_with scheduled counts) size k) (events_in Plain below counts (child (steps_of path) j) k)) where
+    (inner : (j k : ℕ) → j < s.tribs → Tells (Other below counts scheduled size (child (steps_of path) j) (first + j * width below) (suc k)) ((tributary senders below path first j).obstacle (plan_with Plain scheduled counts) size k) (events_in Plain below counts (child (steps_of path) j) k)) where
   abbrev steps : List ℕ
   steps = steps_of path
 
   abbrev plan : Plan
-  plan = plan_with scheduled counts
+  plan = plan_with Plain scheduled counts
 
   abbrev ms : List Meaning
   ms = senders_below below path first s.tribs
@@ -235,11 +235,11 @@ leaf_tells counts scheduled size steps first x true over = inr (0, omega arith, 
 leaf_tells counts scheduled size steps first x false over = refl
 
 pub chain_tells : (shapes : List FrameShape) (counts : Counts) (scheduled : List ℕ → ℕ) (size : ℕ → ℕ) (path : Path) (steps : List ℕ) (first x : ℕ) → AreFrames shapes → IsAt shapes path steps
-    → Tells (Other shapes counts scheduled size steps first (suc x)) ((sender_of shapes path first).obstacle (plan_with scheduled counts) size x) (events_in Plain shapes counts steps x)
+    → Tells (Other shapes counts scheduled size steps first (suc x)) ((sender_of shapes path first).obstacle (plan_with Plain scheduled counts) size x) (events_in Plain shapes counts steps x)
 unfolding sender_of events_in
 chain_tells [] counts scheduled size path steps first x are at = leaf_tells counts scheduled size steps first x (leb (size first) x) refl
 chain_tells (s ∷ below) counts scheduled size path steps first x are at =
-    subst (λ st. Tells (Other (s ∷ below) counts scheduled size st first (suc x)) ((sender_of (s ∷ below) path first).obstacle (plan_with scheduled counts) size x) (events_in Plain (s ∷ below) counts st x)) at.0
+    subst (λ st. Tells (Other (s ∷ below) counts scheduled size st first (suc x)) ((sender_of (s ∷ below) path first).obstacle (plan_with Plain scheduled counts) size x) (events_in Plain (s ∷ below) counts st x)) at.0
     (node_tells s below counts scheduled size path first x are (at.1 ∙ ap path_of (sym at.0))
     (λ j k known. chain_tells below counts scheduled size (child_path path j) (child (steps_of path) j) (first + j * width below) k are.2
     (subst (λ st. IsAt below (child_path path j) (child st j)) (sym at.0) (child_at s below path steps j at))))

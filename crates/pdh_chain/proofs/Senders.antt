@@ -5,13 +5,12 @@ use Rattle.std.specs.List.{range_with_len}
 use Rattle.std.proofs.lemmas.Bool.{cases_Bool}
 use Rattle.std.proofs.lemmas.List.{append-nil}
 use Rattle.std.proofs.lemmas.List.Elements.{All-append}
-use Rattle.pdh_line.specs.Sending.Mode.{Plain}
 use Rattle.pdh_shape.specs.declared.place.Level.{Level}
 use Rattle.pdh_shape.specs.declared.place.Path.{Path}
 use Rattle.pdh_shape.specs.declared.role.Service.{Service}
 use Rattle.pdh_shape.specs.Frame.{FrameShape, idle}
-use Rattle.pdh_line.specs.Sending.{HasStores, given}
-use Rattle.pdh_line.proofs.SameLines.{line_bit-same}
+use Rattle.pdh_line.specs.Sending.{Mode, HasStores, given, line_bit}
+use Rattle.pdh_nesting.proofs.SameInputs.{line_bit-same_inputs}
 use Rattle.pdh_nesting.specs.Chains.{width, AreFrames}
 use Rattle.pdh_line.specs.Nodes.{child, Counts, given_at}
 use Rattle.pdh_nesting.specs.Sending.{chain_line, given_below}
@@ -98,42 +97,43 @@ placed below path first n few j m node at is = go below (found_at (tributary sen
 
 -- ---- the line
 
-module _ (scheduled : List ℕ → ℕ) (counts : Counts) (lists : ℕ → ℕ → Bool) where
+module _ (mode : Mode) (scheduled : List ℕ → ℕ) (counts : Counts) (lists : ℕ → ℕ → Bool) where
   -- whatever its own service bits say
   pub line_is : (shapes : List FrameShape) (path : Path) (steps : List ℕ) (first : ℕ) (says : ℕ → Service) (x : ℕ) → AreFrames shapes → IsAt shapes path steps
-      → (sender_of shapes path first).line (record { plan = plan_with scheduled counts; lists = lists; says = says }) x ≡ chain_line Plain shapes counts lists says steps first x
+      → (sender_of shapes path first).line (record { plan = plan_with mode scheduled counts; lists = lists; says = says }) x ≡ chain_line mode shapes counts lists says steps first x
   unfolding sender_of chain_line
   line_is [] path steps first says x are at = refl
   line_is (s ∷ below) path steps first says x are at =
       let w : ℕ = width below in
-      let supply : Supply = record { plan = plan_with scheduled counts; lists = lists; says = says } in
-      let idles : Supply = record { plan = plan_with scheduled counts; lists = lists; says = λ n. idle } in
+      let supply : Supply = record { plan = plan_with mode scheduled counts; lists = lists; says = says } in
+      let idles : Supply = record { plan = plan_with mode scheduled counts; lists = lists; says = λ n. idle } in
       ap (λ (m : Meaning). m.line supply x) (node-means s below path first)
-      ∙ line_bit-same s (source_of path (senders_below below path first s.tribs) supply)
-      (record { mode = Plain; counts = counts steps; inputs = λ j. chain_line Plain below counts lists (λ n. idle) (child steps j) (first + j * w); says = says }) x are.0 are.1 refl refl (ap counts at.0) refl
+      ∙ ap (λ (c : ℕ → ℕ → ℕ). line_bit s (record { mode = mode; counts = c; inputs = (source_of path (senders_below below path first s.tribs) supply).inputs; says = says }) x) (ap counts at.0)
+      ∙ line_bit-same_inputs s mode (counts steps) (source_of path (senders_below below path first s.tribs) supply).inputs (λ j. chain_line mode below counts lists (λ n. idle) (child steps j) (first + j * w)) says are.0 are.1
       (λ j i known.
       let here : 0 + j ≡ j = omega arith in
       ap (λ o. line_of o idles i) (stands_at (tributary senders below path first) 0 s.tribs j known ∙ ap (λ i. Some (tributary senders below path first i)) here)
       ∙ line_is below (child_path path j) (child steps j) (first + j * w) (λ n. idle) i are.2 (child_at s below path steps j at))
+      x
 
 -- ---- what the leaves give
 
 -- how many bits leaf k has given by the time when x bits of the line are made
-pub given_is : (scheduled : List ℕ → ℕ) (counts : Counts) (shapes : List FrameShape) (path : Path) (steps : List ℕ) (first x k : ℕ) → IsAt shapes path steps → k < width shapes
-    → (sender_of shapes path first).given (plan_with scheduled counts) x (first + k) ≡ given_below shapes counts steps x k
+pub given_is : (mode : Mode) (scheduled : List ℕ → ℕ) (counts : Counts) (shapes : List FrameShape) (path : Path) (steps : List ℕ) (first x k : ℕ) → IsAt shapes path steps → k < width shapes
+    → (sender_of shapes path first).given (plan_with mode scheduled counts) x (first + k) ≡ given_below shapes counts steps x k
 unfolding sender_of given_at
-given_is scheduled counts [] path steps first x k at h = refl
-given_is scheduled counts (s ∷ below) path steps first x k at h =
+given_is mode scheduled counts [] path steps first x k at h = refl
+given_is mode scheduled counts (s ∷ below) path steps first x k at h =
     let w : ℕ = width below in
     let j : ℕ = k / w in
-    let plan : Plan = plan_with scheduled counts in
+    let plan : Plan = plan_with mode scheduled counts in
     let number : first + j * w + k % w ≡ first + k = leaf-number first w k in
     let low : k % w < w = leaf-below s.tribs w k h in
     let made : ℕ → ℕ = λ i. given s i (counts (steps_of path) i) x in
     ap (λ (m : Meaning). m.given plan x (first + k)) (node-means s below path first)
     ∙ told_below senders (first + k) (λ m n. m.given plan n (first + k)) (λ ms made. given_by ms plan made (first + k)) (λ m ms made. refl) s.tribs below path first j (k % w) made (leaf-tributary s.tribs w k h) low number
     ∙ ap (λ i. (tributary senders below path first j).given plan (made j) i) (sym number)
-    ∙ given_is scheduled counts below (child_path path j) (child steps j) (first + j * w) (made j) (k % w) (child_at s below path steps j at) low
+    ∙ given_is mode scheduled counts below (child_path path j) (child steps j) (first + j * w) (made j) (k % w) (child_at s below path steps j at) low
     ∙ ap (λ (st : List ℕ). given_below below counts (child steps j) (given s j (counts st j) x) (k % w)) at.0
 
 -- ---- the levels of its nodes

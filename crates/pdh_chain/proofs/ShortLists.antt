@@ -11,6 +11,7 @@ use Rattle.pdh_shape.specs.declared.role.Role.TheVariants.{Info, Just}
 use Rattle.pdh_shape.specs.declared.role.Service.{Service}
 use Rattle.pdh_shape.specs.Frame.{FrameShape, IsFrame, slots}
 use Rattle.pdh_shape.specs.Tributary.{HasTributaries, reads_from, carries_more, turned, bits_read, stripped}
+use Rattle.pdh_line.specs.Sending.{Mode}
 use Rattle.pdh_line.specs.Tracking.{Piece, frame_of, gap_of, is_found, aligned, delivered, is_lost, after_loss, one_search, track_within, track, positions, is_confirmed}
 use Rattle.pdh_line.specs.Tracking.Piece.{Gap, Delivered}
 use Rattle.pdh_line.specs.Receiving.{piece_bits, received}
@@ -21,7 +22,6 @@ use Rattle.pdh_edge.specs.Ports.{Inputs, Outputs, PrefixOf}
 use Rattle.pdh_edge.specs.MemLists.{length_of, bits_held}
 use Rattle.pdh_line.proofs.SentFrames.{length-front}
 use Rattle.pdh_line.specs.Nodes.{Counts}
-use Rattle.pdh_line.specs.Sending.Mode.{Plain}
 use Rattle.pdh_nesting.specs.Sending.{chain_line}
 use Rattle.std.proofs.lemmas.Nat.{le-div}
 use Rattle.pdh_chain.specs.Muxing.{as_line}
@@ -216,12 +216,12 @@ line_short bits k = one_of (k == 0)
     one_of false = omega arith
 
 -- Where a bit couldn't be put, no list took more bits than the frames of the whole line have.
-pub mux_short : (shapes : List FrameShape) (counts : Counts) (says : ℕ → Service) (scheduled : List ℕ → ℕ) (frames : ℕ) (inputs inputs_now : Inputs) (outputs outputs_now : Outputs) → PutsPrefix shapes counts says scheduled frames inputs inputs_now outputs outputs_now
+pub mux_short : (mode : Mode) (shapes : List FrameShape) (counts : Counts) (says : ℕ → Service) (scheduled : List ℕ → ℕ) (frames : ℕ) (inputs inputs_now : Inputs) (outputs outputs_now : Outputs) → PutsPrefix mode shapes counts says scheduled frames inputs inputs_now outputs outputs_now
     → (k : ℕ) → bits_held outputs_now k ≤ bits_held outputs k + frames * top_len shapes
-mux_short shapes counts says scheduled frames inputs inputs_now outputs outputs_now put k =
-    let line : List Bool = frames_of_line shapes counts says put.given put.made in
+mux_short mode shapes counts says scheduled frames inputs inputs_now outputs outputs_now put k =
+    let line : List Bool = frames_of_line mode shapes counts says put.given put.made in
     let part = put.puts put.given (λ k i known less. refl) k in
-    omega (arith, prefix_short (as_line line k) (outputs.told k) (outputs_now.told k) part, line_short line k, length-front (chain_line Plain shapes counts (bits_of put.given) says [] 0) (put.made * top_len shapes), mul-le-mul_right (top_len shapes) put.upto)
+    omega (arith, prefix_short (as_line line k) (outputs.told k) (outputs_now.told k) part, line_short line k, length-front (chain_line mode shapes counts (bits_of put.given) says [] 0) (put.made * top_len shapes), mul-le-mul_right (top_len shapes) put.upto)
 
 received_few : (shapes : List FrameShape) (line : List Bool) (bits k : ℕ) → AreFrames shapes → length line ≤ bits → length (received_of shapes line k) ≤ bits / width shapes
 received_few shapes line bits k are few = elim (cases_lt k (width shapes)) [

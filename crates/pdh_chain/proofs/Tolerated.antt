@@ -33,7 +33,7 @@ module _ (shapes : List FrameShape) (counts : Counts) (scheduled : List ℕ → 
   without (Some (Ended leaf)) es none tells = tt
   without (Some LogFailed) es none tells = tt
 
-pub no_event : (shapes : List FrameShape) (counts : Counts) (bits : ℕ) → IsTolerated shapes counts bits → (scheduled : List ℕ → ℕ) (size : ℕ → ℕ) (x : ℕ) → x < bits → IsNoEvent (obstacle_at shapes counts scheduled size x)
+pub no_event : (shapes : List FrameShape) (counts : Counts) (bits : ℕ) → IsTolerated shapes counts bits → (scheduled : List ℕ → ℕ) (size : ℕ → ℕ) (x : ℕ) → x < bits → IsNoEvent (obstacle_at Plain shapes counts scheduled size x)
 no_event shapes counts bits is scheduled size x less =
-    without shapes counts scheduled size x (obstacle_at shapes counts scheduled size x) (events_in Plain shapes counts [] x) (no_events shapes counts [] bits x is.frames is.even is.within less)
+    without shapes counts scheduled size x (obstacle_at Plain shapes counts scheduled size x) (events_in Plain shapes counts [] x) (no_events shapes counts [] bits x is.frames is.even is.within less)
     (chain_tells shapes counts scheduled size top [] 0 x is.frames (at_top shapes is.levels))

@@ -9,12 +9,13 @@ use Rattle.pdh_edge.specs.Ports.{Inputs, Outputs}
 use Rattle.pdh_edge.specs.Progress.{Works, port_faults}
 use Rattle.pdh_shape.specs.declared.role.Service.{Service}
 use Rattle.pdh_shape.specs.Frame.{FrameShape}
+use Rattle.pdh_line.specs.Sending.{Mode}
 use Rattle.pdh_nesting.specs.Chains.{width}
 use Rattle.pdh_clock.specs.Contents.{Contents, frame_count, counts}
 use Rattle.pdh_watch.specs.declared.event.Event.{Event}
 use Rattle.pdh_tx.specs.declared.tx.Tx as tx
 use Rattle.pdh_tx.specs.declared.tx.TxStop.{TxStop}
-use Rattle.pdh_tx.specs.Meaning.{plan_of, Meaning}
+use Rattle.pdh_tx.specs.Meaning.{Plan, Meaning}
 use Rattle.pdh_tx.specs.Making.{IsUneventful}
 use Rattle.pdh_tx.specs.Calls.{IsFed, HaltsNext}
 use Rattle.pdh_rx.specs.Meaning.{Meaning as Receiving, HoldsAll}
@@ -51,15 +52,15 @@ pub record IsChainOf (shapes : List FrameShape) (fits : Type 0) (schedule : Cont
   pub kinds : fits
   pub levels_are : AreLevelsOf shapes schedule.levels
 
--- so many frames of the chain's line were made by this schedule and put, with this code in them
-abbrev pub MuxesBy : {P : Type 0} → feed.Ghosts P → drain.Ghosts P → List FrameShape → Contents → Option ℕ → ℕ → P → P → Type 0
-MuxesBy feeds drains shapes schedule feac frames old new =
-    Muxes shapes (counts schedule.rows) (says_of feac) (frame_count schedule.rows) frames (feeds.inputs old) (feeds.inputs new) (drains.outputs old) (drains.outputs new)
+-- so many frames of the chain's line of a mode were made by this schedule and put, with this code in them
+abbrev pub MuxesBy : {P : Type 0} → feed.Ghosts P → drain.Ghosts P → Mode → List FrameShape → Contents → Option ℕ → ℕ → P → P → Type 0
+MuxesBy feeds drains mode shapes schedule feac frames old new =
+    Muxes mode shapes (counts schedule.rows) (says_of feac) (frame_count schedule.rows) frames (feeds.inputs old) (feeds.inputs new) (drains.outputs old) (drains.outputs new)
 
 -- or this is why they weren't
-abbrev pub MuxStopsBy : {P : Type 0} → feed.Ghosts P → drain.Ghosts P → List FrameShape → Contents → Option ℕ → ℕ → P → P → MuxStop → Type 0
-MuxStopsBy feeds drains shapes schedule feac frames old new =
-    IsMuxStop shapes (counts schedule.rows) (says_of feac) (frame_count schedule.rows) frames (feeds.inputs old) (feeds.inputs new) (drains.outputs old) (drains.outputs new)
+abbrev pub MuxStopsBy : {P : Type 0} → feed.Ghosts P → drain.Ghosts P → Mode → List FrameShape → Contents → Option ℕ → ℕ → P → P → MuxStop → Type 0
+MuxStopsBy feeds drains mode shapes schedule feac frames old new =
+    IsMuxStop mode shapes (counts schedule.rows) (says_of feac) (frame_count schedule.rows) frames (feeds.inputs old) (feeds.inputs new) (drains.outputs old) (drains.outputs new)
     (feeds.feed_faults old) (feeds.feed_faults new) (drains.drain_faults old) (drains.drain_faults new)
 
 -- so many bits of a chain's line were taken apart, of which these frames were delivered, and their events seen
@@ -85,10 +86,10 @@ PutsAtMost call most =
 
 -- ---- senders
 
--- the sender runs, has made no bit by this schedule, and its frames have so many bits
-pub record IsAtStart {T : Type 0} (sender : tx.Ghosts T) (t : T) (schedule : Contents) (len : ℕ) : Type 0 where
+-- the sender runs, has made no bit by this plan, and its frames have so many bits
+pub record IsAtStart {T : Type 0} (sender : tx.Ghosts T) (t : T) (plan : Plan) (len : ℕ) : Type 0 where
   pub running : sender.is_stopped t ≡ false
-  pub stands : sender.stands_at t (plan_of schedule) 0
+  pub stands : sender.stands_at t plan 0
   pub frames : HasFrames (sender.meaning t) len
 
 -- each leaf has a list, as the line has, and the nodes are nodes of this schedule's chain
@@ -102,54 +103,54 @@ pub record RunsOn {T X E : Type 0} (sender : tx.Ghosts T) (old new : T) (result 
   pub running : OnOk result (sender.is_stopped new ≡ false)
 
 -- it made the bits of a frame, so many, whatever its frames say, as long as the one that they begin says what it says now
-abbrev pub MakesFrame : {T : Type 0} → tx.Ghosts T → T → T → Contents → ℕ → List Bool → Inputs → Inputs → Type 0
-MakesFrame sender old new schedule len bits before after =
-    (x : ℕ) (says : ℕ → Service) → sender.stands_at old (plan_of schedule) x → SayInFrames (sender.meaning old) says (sender.says old) x (x + len)
-    → MakesBits (sender.meaning old) says (sender.stands_at new (plan_of schedule)) (sender.stands_for old) (sender.stands_for new) (plan_of schedule) x (x + len) bits before after
+abbrev pub MakesFrame : {T : Type 0} → tx.Ghosts T → T → T → Plan → ℕ → List Bool → Inputs → Inputs → Type 0
+MakesFrame sender old new plan len bits before after =
+    (x : ℕ) (says : ℕ → Service) → sender.stands_at old plan x → SayInFrames (sender.meaning old) says (sender.says old) x (x + len)
+    → MakesBits (sender.meaning old) says (sender.stands_at new plan) (sender.stands_for old) (sender.stands_for new) plan x (x + len) bits before after
 
 -- or it stopped on the way
-abbrev pub StopsInFrame : {T : Type 0} → tx.Ghosts T → T → Contents → ℕ → TxStop → Inputs → Inputs → ℕ → ℕ → Type 0
-StopsInFrame sender t schedule len stop before after faults now =
-    (x : ℕ) → sender.stands_at t (plan_of schedule) x → StopsMaking (sender.meaning t) (plan_of schedule) x (x + len) stop before after faults now
+abbrev pub StopsInFrame : {T : Type 0} → tx.Ghosts T → T → Plan → ℕ → TxStop → Inputs → Inputs → ℕ → ℕ → Type 0
+StopsInFrame sender t plan len stop before after faults now =
+    (x : ℕ) → sender.stands_at t plan x → StopsMaking (sender.meaning t) plan x (x + len) stop before after faults now
 
 -- it stands somewhere, and nothing stands in the way of its next bits, so many, nor do they bring a slip
-abbrev pub StandsFree : {T : Type 0} → tx.Ghosts T → T → Contents → ℕ → Inputs → Type 0
-StandsFree sender t schedule clear inputs = (x : ℕ) × sender.stands_at t (plan_of schedule) x × IsUneventful (sender.meaning t) (plan_of schedule) x (x + clear) inputs
+abbrev pub StandsFree : {T : Type 0} → tx.Ghosts T → T → Plan → ℕ → Inputs → Type 0
+StandsFree sender t plan clear inputs = (x : ℕ) × sender.stands_at t plan x × IsUneventful (sender.meaning t) plan x (x + clear) inputs
 
 -- where that is so of so many of its next bits, it is so of so many
-abbrev pub KeepsFree : {T : Type 0} → tx.Ghosts T → T → Contents → ℕ → ℕ → Inputs → Type 0
-KeepsFree sender t schedule clear now inputs =
-    (x : ℕ) → sender.stands_at t (plan_of schedule) x → IsUneventful (sender.meaning t) (plan_of schedule) x (x + clear) inputs → IsUneventful (sender.meaning t) (plan_of schedule) x (x + now) inputs
+abbrev pub KeepsFree : {T : Type 0} → tx.Ghosts T → T → Plan → ℕ → ℕ → Inputs → Type 0
+KeepsFree sender t plan clear now inputs =
+    (x : ℕ) → sender.stands_at t plan x → IsUneventful (sender.meaning t) plan x (x + clear) inputs → IsUneventful (sender.meaning t) plan x (x + now) inputs
 
 -- it made the bits of a frame, so many, as above, where nothing stands in the way of so many
-abbrev pub MakesFrameFree : {T : Type 0} → tx.Ghosts T → T → T → Contents → ℕ → ℕ → List Bool → Inputs → Inputs → Type 0
-MakesFrameFree sender old new schedule len clear bits before after =
-    (x : ℕ) (says : ℕ → Service) → sender.stands_at old (plan_of schedule) x → IsUneventful (sender.meaning old) (plan_of schedule) x (x + clear) before
+abbrev pub MakesFrameFree : {T : Type 0} → tx.Ghosts T → T → T → Plan → ℕ → ℕ → List Bool → Inputs → Inputs → Type 0
+MakesFrameFree sender old new plan len clear bits before after =
+    (x : ℕ) (says : ℕ → Service) → sender.stands_at old plan x → IsUneventful (sender.meaning old) plan x (x + clear) before
     → SayInFrames (sender.meaning old) says (sender.says old) x (x + len)
-    → MakesBits (sender.meaning old) says (sender.stands_at new (plan_of schedule)) (sender.stands_for old) (sender.stands_for new) (plan_of schedule) x (x + len) bits before after
+    → MakesBits (sender.meaning old) says (sender.stands_at new plan) (sender.stands_for old) (sender.stands_for new) plan x (x + len) bits before after
 
 -- or this is why it didn't: it stopped on the way, or a call failed where nothing stood in the way
-abbrev pub StopsFrame : {T : Type 0} → tx.Ghosts T → T → Contents → ℕ → Inputs → Inputs → ℕ → ℕ → SendStop → Type 0
-StopsFrame sender t schedule len before after faults now (Sender stop) = StopsInFrame sender t schedule len stop before after faults now
-StopsFrame sender t schedule len before after faults now TakeFailed = HaltsNext sender.meaning sender.stands_at t (plan_of schedule) len before after × (now ≡ one_more faults)
-StopsFrame sender t schedule len before after faults now WriteFailed = ⊥
+abbrev pub StopsFrame : {T : Type 0} → tx.Ghosts T → T → Plan → ℕ → Inputs → Inputs → ℕ → ℕ → SendStop → Type 0
+StopsFrame sender t plan len before after faults now (Sender stop) = StopsInFrame sender t plan len stop before after faults now
+StopsFrame sender t plan len before after faults now TakeFailed = HaltsNext sender.meaning sender.stands_at t plan len before after × (now ≡ one_more faults)
+StopsFrame sender t plan len before after faults now WriteFailed = ⊥
 
 -- its first bits, so many, were sent, with this code in its frames
-abbrev pub SendsBy : {T P : Type 0} → tx.Ghosts T → feed.Ghosts P → drain.Ghosts P → T → T → Contents → Option ℕ → ℕ → P → P → Type 0
-SendsBy sender feeds drains t t_now schedule feac bits old new =
-    Sends (sender.meaning t) (says_of feac) (sender.stands_at t_now (plan_of schedule)) (sender.stands_for t) (sender.stands_for t_now) (plan_of schedule) bits
+abbrev pub SendsBy : {T P : Type 0} → tx.Ghosts T → feed.Ghosts P → drain.Ghosts P → T → T → Plan → Option ℕ → ℕ → P → P → Type 0
+SendsBy sender feeds drains t t_now plan feac bits old new =
+    Sends (sender.meaning t) (says_of feac) (sender.stands_at t_now plan) (sender.stands_for t) (sender.stands_for t_now) plan bits
     (feeds.inputs old) (feeds.inputs new) (drains.outputs old) (drains.outputs new)
 
 -- or this is why they weren't, where frames have so many bits
-abbrev pub SendStopsBy : {T P : Type 0} → tx.Ghosts T → feed.Ghosts P → drain.Ghosts P → T → Contents → Option ℕ → ℕ → ℕ → P → P → SendStop → Type 0
-SendStopsBy sender feeds drains t schedule feac len frames old new =
-    IsSendStop (sender.meaning t) (says_of feac) (sender.stands_for t) (plan_of schedule) len frames (feeds.inputs old) (feeds.inputs new) (drains.outputs old) (drains.outputs new)
+abbrev pub SendStopsBy : {T P : Type 0} → tx.Ghosts T → feed.Ghosts P → drain.Ghosts P → T → Plan → Option ℕ → ℕ → ℕ → P → P → SendStop → Type 0
+SendStopsBy sender feeds drains t plan feac len frames old new =
+    IsSendStop (sender.meaning t) (says_of feac) (sender.stands_for t) plan len frames (feeds.inputs old) (feeds.inputs new) (drains.outputs old) (drains.outputs new)
     (feeds.feed_faults old) (feeds.feed_faults new) (drains.drain_faults old) (drains.drain_faults new)
 
 -- so many frames were sent, or this is why they weren't, with what the port keeps
-abbrev pub SendsFrames : {T P X : Type 0} → tx.Ghosts T → feed.Ghosts P → drain.Ghosts P → (P → P → Type 0) → T → T → Contents → Option ℕ → ℕ → ℕ → P → P → Result X SendStop → Type 0
-SendsFrames sender feeds drains keeps t t_now schedule feac len frames =
-    Works keeps (port_faults feeds drains) counted_at_send_stop (SendsBy sender feeds drains t t_now schedule feac (frames * len)) (λ stop old new. SendStopsBy sender feeds drains t schedule feac len frames old new stop)
+abbrev pub SendsFrames : {T P X : Type 0} → tx.Ghosts T → feed.Ghosts P → drain.Ghosts P → (P → P → Type 0) → T → T → Plan → Option ℕ → ℕ → ℕ → P → P → Result X SendStop → Type 0
+SendsFrames sender feeds drains keeps t t_now plan feac len frames =
+    Works keeps (port_faults feeds drains) counted_at_send_stop (SendsBy sender feeds drains t t_now plan feac (frames * len)) (λ stop old new. SendStopsBy sender feeds drains t plan feac len frames old new stop)
 
 -- ---- receivers
 

@@ -4,6 +4,7 @@ pub mod Saying
 pub mod Muxing
 pub mod Trees
 pub mod Muxes
+pub mod Slipping
 pub mod Demuxing
 pub mod Demuxes
 pub mod Recovered

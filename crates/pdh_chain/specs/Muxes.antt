@@ -1,4 +1,5 @@
--- What `mux` puts to its port and takes of it. `counts` tells how many bits of each tributary of the node at a path arrive in
+-- What `mux` and `mux_slips` put to their port and take of it. `mode` tells what an event of a store does: it ends the line of `mux`,
+-- and is a slip in that of `mux_slips`. `counts` tells how many bits of each tributary of the node at a path arrive in
 -- each of its frames, `scheduled` how many frames the node has, and `says` what the service bits of the top's frames say.
 use Rattle.std.specs.Prelude.{◌≡◌, ℕ, suc, ◌+◌, ◌*◌, ◌<◌, ◌≤◌, ◌⊎◌, Bool, true, false, List, [], ◌∷◌, length, Some, None, Option, Ok, Err, Result, slice_get}
 use Rattle.std.specs.List.{slice_index_or}
@@ -8,8 +9,8 @@ use Rattle.pdh_shape.specs.declared.role.Service.{Service}
 use Rattle.pdh_shape.specs.Frame.{FrameShape}
 use Rattle.pdh_shape.specs.declared.place.Place.{Place}
 use Rattle.pdh_shape.specs.declared.place.Path.{Path}
-use Rattle.pdh_line.specs.Sending.{front, begun, given}
-use Rattle.pdh_line.specs.Sending.Mode.{Plain}
+use Rattle.pdh_line.specs.Sending.{Mode, front, begun, given}
+use Rattle.pdh_line.specs.Sending.Mode.{Plain, Slipping}
 use Rattle.pdh_line.specs.Events.{Event, Kind}
 use Rattle.pdh_line.specs.Events.Kind.{Overflow, Underflow}
 use Rattle.pdh_nesting.specs.Chains.{width, top_len, AreFrames, ReadEvenly}
@@ -23,7 +24,7 @@ use Rattle.pdh_tx.specs.declared.tx.TxStop.TheVariants.{Overflow as TxOverflow, 
 use Rattle.pdh_chain.specs.Muxing.{as_line}
 use Rattle.pdh_chain.specs.Trees.{sender_of}
 use Rattle.pdh_chain.specs.declared.stop.MuxStop.{MuxStop}
-use Rattle.pdh_chain.specs.declared.stop.MuxStop.TheVariants.{Memory, Event as MeetsEvent, NoFrame, Ended, ReadFailed, WriteFailed}
+use Rattle.pdh_chain.specs.declared.stop.MuxStop.TheVariants.{Memory, Event as MeetsEvent, NoFrame, Ended, ReadFailed, WriteFailed, LogFailed}
 
 -- ---- the line
 
@@ -32,19 +33,19 @@ abbrev pub bits_of : (ℕ → List Bool) → ℕ → ℕ → Bool
 bits_of lists k i = slice_index_or (lists k) i false
 
 -- so many frames of a chain's line, whose top's frames say this
-abbrev pub frames_of_line : List FrameShape → Counts → (ℕ → Service) → (ℕ → List Bool) → ℕ → List Bool
-frames_of_line shapes counts says lists frames = front (chain_line Plain shapes counts (bits_of lists) says [] 0) (frames * top_len shapes)
+abbrev pub frames_of_line : Mode → List FrameShape → Counts → (ℕ → Service) → (ℕ → List Bool) → ℕ → List Bool
+frames_of_line mode shapes counts says lists frames = front (chain_line mode shapes counts (bits_of lists) says [] 0) (frames * top_len shapes)
 
 -- the leaves' lists begin with the bits that were given
 abbrev pub BeginWith : ℕ → (ℕ → List Bool) → (ℕ → List Bool) → Type 0
 BeginWith leaves given lists = (k i : ℕ) → k < leaves → i < length (given k) → slice_index_or (given k) i false ≡ slice_index_or (lists k) i false
 
 -- The leaves gave so many bits, and whatever lists begin with these, the line that such lists give was put: so many frames.
-pub record PutsFrames (shapes : List FrameShape) (counts : Counts) (says : ℕ → Service) (frames : ℕ) (inputs inputs_now : Inputs) (outputs outputs_now : Outputs) : Type 0 where
+pub record PutsFrames (mode : Mode) (shapes : List FrameShape) (counts : Counts) (says : ℕ → Service) (frames : ℕ) (inputs inputs_now : Inputs) (outputs outputs_now : Outputs) : Type 0 where
   pub given : ℕ → List Bool
   pub takes : Takes given inputs inputs_now
   pub others : (k : ℕ) → width shapes ≤ k → given k ≡ []
-  pub puts : (lists : ℕ → List Bool) → BeginWith (width shapes) given lists → Puts (as_line (frames_of_line shapes counts says lists frames)) outputs outputs_now
+  pub puts : (lists : ℕ → List Bool) → BeginWith (width shapes) given lists → Puts (as_line (frames_of_line mode shapes counts says lists frames)) outputs outputs_now
 
 -- the leaves gave no fewer bits than so many frames take of them, and no more than one frame more takes
 pub record GivesFrames (shapes : List FrameShape) (counts : Counts) (frames : ℕ) (given : ℕ → List Bool) : Type 0 where
@@ -54,23 +55,23 @@ pub record GivesFrames (shapes : List FrameShape) (counts : Counts) (frames : �
 -- ---- what stands in the way
 
 -- so many frames of each node, and so many bits of each of its tributaries that arrive in each of them
-abbrev pub plan_with : (List ℕ → ℕ) → Counts → Plan
-plan_with scheduled counts = record { mode = Plain; frames = λ path. scheduled (steps_of path); counts = λ path. counts (steps_of path) }
+abbrev pub plan_with : Mode → (List ℕ → ℕ) → Counts → Plan
+plan_with mode scheduled counts = record { mode = mode; frames = λ path. scheduled (steps_of path); counts = λ path. counts (steps_of path) }
 
 -- what stands first in the way of bit x of a chain's line, where the leaves' lists hold so many bits in all
-abbrev pub obstacle_at : List FrameShape → Counts → (List ℕ → ℕ) → (ℕ → ℕ) → ℕ → Option TxStop
-obstacle_at shapes counts scheduled size x = (sender_of shapes top 0).obstacle (plan_with scheduled counts) size x
+abbrev pub obstacle_at : Mode → List FrameShape → Counts → (List ℕ → ℕ) → (ℕ → ℕ) → ℕ → Option TxStop
+obstacle_at mode shapes counts scheduled size x = (sender_of shapes top 0).obstacle (plan_with mode scheduled counts) size x
 
 -- nothing stands in the way of the first bits, so many
-abbrev pub IsClear : List FrameShape → Counts → (List ℕ → ℕ) → (ℕ → ℕ) → ℕ → Type 0
-IsClear shapes counts scheduled size bits = (x : ℕ) → x < bits → obstacle_at shapes counts scheduled size x ≡ None
+abbrev pub IsClear : Mode → List FrameShape → Counts → (List ℕ → ℕ) → (ℕ → ℕ) → ℕ → Type 0
+IsClear mode shapes counts scheduled size bits = (x : ℕ) → x < bits → obstacle_at mode shapes counts scheduled size x ≡ None
 
 -- this stands first in the way of a bit of so many frames, and nothing in the way of an earlier bit
-pub record IsFirstObstacle (shapes : List FrameShape) (counts : Counts) (scheduled : List ℕ → ℕ) (size : ℕ → ℕ) (frames : ℕ) (stop : TxStop) : Type 0 where
+pub record IsFirstObstacle (mode : Mode) (shapes : List FrameShape) (counts : Counts) (scheduled : List ℕ → ℕ) (size : ℕ → ℕ) (frames : ℕ) (stop : TxStop) : Type 0 where
   pub made : ℕ
   pub within : made < frames * top_len shapes
-  pub clear : IsClear shapes counts scheduled size made
-  pub met : obstacle_at shapes counts scheduled size made ≡ Some stop
+  pub clear : IsClear mode shapes counts scheduled size made
+  pub met : obstacle_at mode shapes counts scheduled size made ≡ Some stop
 
 -- ---- within the tolerance
 
@@ -91,13 +92,13 @@ pub record IsTolerated (shapes : List FrameShape) (counts : Counts) (bits : ℕ)
 
 -- ---- all frames
 
--- all frames were put, in whose way nothing stood: no store met an event, and each leaf gave exactly the bits that these frames
--- take of it
-pub record Muxes (shapes : List FrameShape) (counts : Counts) (says : ℕ → Service) (scheduled : List ℕ → ℕ) (frames : ℕ) (inputs inputs_now : Inputs) (outputs outputs_now : Outputs) : Type 0 where
-  pub line : PutsFrames shapes counts says frames inputs inputs_now outputs outputs_now
+-- all frames were put, in whose way nothing stood: in plain mode no store met an event. Each leaf gave exactly the bits that these
+-- frames take of it.
+pub record Muxes (mode : Mode) (shapes : List FrameShape) (counts : Counts) (says : ℕ → Service) (scheduled : List ℕ → ℕ) (frames : ℕ) (inputs inputs_now : Inputs) (outputs outputs_now : Outputs) : Type 0 where
+  pub line : PutsFrames mode shapes counts says frames inputs inputs_now outputs outputs_now
   pub given_is : (k : ℕ) → k < width shapes → inputs.left k ≡ given_below shapes counts [] (frames * top_len shapes) k + inputs_now.left k
-  pub no_event : first_event shapes counts frames ≡ None
-  pub clear : IsClear shapes counts scheduled inputs.left (frames * top_len shapes)
+  pub no_event : mode ≡ Plain → first_event shapes counts frames ≡ None
+  pub clear : IsClear mode shapes counts scheduled inputs.left (frames * top_len shapes)
 
 -- ---- why it stops
 
@@ -110,17 +111,17 @@ abbrev pub place_of : Event → Place
 place_of event = record { path = path_of event.path; trib = event.trib + 1; frame = event.frame; slot = event.slot }
 
 -- some whole frames were put, fewer than so many, and nothing stood in their way
-pub record PutsFewer (shapes : List FrameShape) (counts : Counts) (says : ℕ → Service) (scheduled : List ℕ → ℕ) (frames : ℕ) (inputs inputs_now : Inputs) (outputs outputs_now : Outputs) : Type 0 where
+pub record PutsFewer (mode : Mode) (shapes : List FrameShape) (counts : Counts) (says : ℕ → Service) (scheduled : List ℕ → ℕ) (frames : ℕ) (inputs inputs_now : Inputs) (outputs outputs_now : Outputs) : Type 0 where
   pub whole : ℕ
   pub fewer : whole < frames
-  pub line : PutsFrames shapes counts says whole inputs inputs_now outputs outputs_now
+  pub line : PutsFrames mode shapes counts says whole inputs inputs_now outputs outputs_now
   pub gives : GivesFrames shapes counts whole line.given
-  pub clear : IsClear shapes counts scheduled inputs.left (whole * top_len shapes)
+  pub clear : IsClear mode shapes counts scheduled inputs.left (whole * top_len shapes)
 
 -- this stands first in the way of a bit of so many frames, and all whole frames before that bit were put
-pub record StopsFirst (shapes : List FrameShape) (counts : Counts) (says : ℕ → Service) (scheduled : List ℕ → ℕ) (frames : ℕ) (stop : TxStop) (inputs inputs_now : Inputs) (outputs outputs_now : Outputs) : Type 0 where
-  pub obstacle : IsFirstObstacle shapes counts scheduled inputs.left frames stop
-  pub put : PutsFewer shapes counts says scheduled frames inputs inputs_now outputs outputs_now
+pub record StopsFirst (mode : Mode) (shapes : List FrameShape) (counts : Counts) (says : ℕ → Service) (scheduled : List ℕ → ℕ) (frames : ℕ) (stop : TxStop) (inputs inputs_now : Inputs) (outputs outputs_now : Outputs) : Type 0 where
+  pub obstacle : IsFirstObstacle mode shapes counts scheduled inputs.left frames stop
+  pub put : PutsFewer mode shapes counts says scheduled frames inputs inputs_now outputs outputs_now
   pub begun : put.whole * top_len shapes ≤ obstacle.made
   pub within : obstacle.made < suc put.whole * top_len shapes
 
@@ -142,19 +143,19 @@ pub record StopsAtEvent (shapes : List FrameShape) (counts : Counts) (says : ℕ
   pub whole : ℕ
   pub begun : whole * top_len shapes ≤ made
   pub within : made < suc whole * top_len shapes
-  pub line : PutsFrames shapes counts says whole inputs inputs_now outputs outputs_now
-  pub stops : StopsFirst shapes counts says scheduled frames (stop_at over place) inputs inputs_now outputs outputs_now
+  pub line : PutsFrames Plain shapes counts says whole inputs inputs_now outputs outputs_now
+  pub stops : StopsFirst Plain shapes counts says scheduled frames (stop_at over place) inputs inputs_now outputs outputs_now
 
 -- some frames were made, in whose way nothing stood, and what was put is a prefix of them
-pub record PutsPrefix (shapes : List FrameShape) (counts : Counts) (says : ℕ → Service) (scheduled : List ℕ → ℕ) (frames : ℕ) (inputs inputs_now : Inputs) (outputs outputs_now : Outputs) : Type 0 where
+pub record PutsPrefix (mode : Mode) (shapes : List FrameShape) (counts : Counts) (says : ℕ → Service) (scheduled : List ℕ → ℕ) (frames : ℕ) (inputs inputs_now : Inputs) (outputs outputs_now : Outputs) : Type 0 where
   pub made : ℕ
   pub upto : made ≤ frames
   pub given : ℕ → List Bool
   pub takes : Takes given inputs inputs_now
   pub others : (k : ℕ) → width shapes ≤ k → given k ≡ []
   pub exact : (k : ℕ) → k < width shapes → length (given k) ≡ given_below shapes counts [] (made * top_len shapes) k
-  pub puts : (lists : ℕ → List Bool) → BeginWith (width shapes) given lists → PutsPart (as_line (frames_of_line shapes counts says lists made)) outputs outputs_now
-  pub clear : IsClear shapes counts scheduled inputs.left (made * top_len shapes)
+  pub puts : (lists : ℕ → List Bool) → BeginWith (width shapes) given lists → PutsPart (as_line (frames_of_line mode shapes counts says lists made)) outputs outputs_now
+  pub clear : IsClear mode shapes counts scheduled inputs.left (made * top_len shapes)
 
 -- this node is the one at a path, which makes so many bits of its line, or one below it, and it begins more frames than are
 -- scheduled
@@ -180,22 +181,24 @@ pub record StopsAtEnd (shapes : List FrameShape) (counts : Counts) (frames : ℕ
   pub short : inputs.left leaf < given_below shapes counts [] (frames * top_len shapes) leaf
   pub used_up : inputs_now.left leaf ≡ 0
 
--- Why `mux` stops: memory was wanting, and nothing was taken or put; the first event of a store; the schedule has too few
--- frames of a node below the top; a list is shorter than what the frames take of it; a call for bits failed; a call that puts
--- bits failed.
-abbrev pub IsMuxStop : List FrameShape → Counts → (ℕ → Service) → (List ℕ → ℕ) → ℕ → Inputs → Inputs → Outputs → Outputs → ℕ → ℕ → ℕ → ℕ → MuxStop → Type 0
-IsMuxStop shapes counts says scheduled frames inputs inputs_now outputs outputs_now reads reads_now writes writes_now Memory =
+-- Why `mux` or `mux_slips` stops: memory was wanting, and nothing was taken or put; in plain mode the first event of a store; the
+-- schedule has too few frames of a node below the top; a list is shorter than what the frames take of it; a call for bits failed; a
+-- call that puts bits failed; in the other mode the log couldn't be told of a slip.
+abbrev pub IsMuxStop : Mode → List FrameShape → Counts → (ℕ → Service) → (List ℕ → ℕ) → ℕ → Inputs → Inputs → Outputs → Outputs → ℕ → ℕ → ℕ → ℕ → MuxStop → Type 0
+IsMuxStop mode shapes counts says scheduled frames inputs inputs_now outputs outputs_now reads reads_now writes writes_now Memory =
     (inputs_now ≡ inputs) × (outputs_now ≡ outputs)
-IsMuxStop shapes counts says scheduled frames inputs inputs_now outputs outputs_now reads reads_now writes writes_now (MeetsEvent over place) =
-    StopsAtEvent shapes counts says scheduled frames over place inputs inputs_now outputs outputs_now
-IsMuxStop shapes counts says scheduled frames inputs inputs_now outputs outputs_now reads reads_now writes writes_now (NoFrame node) =
-    StopsForFrame shapes counts scheduled frames node × StopsFirst shapes counts says scheduled frames (TxNoFrame node) inputs inputs_now outputs outputs_now
-IsMuxStop shapes counts says scheduled frames inputs inputs_now outputs outputs_now reads reads_now writes writes_now (Ended leaf) =
-    StopsAtEnd shapes counts frames leaf inputs inputs_now × StopsFirst shapes counts says scheduled frames (TxEnded leaf) inputs inputs_now outputs outputs_now
-IsMuxStop shapes counts says scheduled frames inputs inputs_now outputs outputs_now reads reads_now writes writes_now ReadFailed =
-    Rose reads reads_now × PutsFewer shapes counts says scheduled frames inputs inputs_now outputs outputs_now
-IsMuxStop shapes counts says scheduled frames inputs inputs_now outputs outputs_now reads reads_now writes writes_now WriteFailed =
-    Rose writes writes_now × PutsPrefix shapes counts says scheduled frames inputs inputs_now outputs outputs_now
+IsMuxStop mode shapes counts says scheduled frames inputs inputs_now outputs outputs_now reads reads_now writes writes_now (MeetsEvent over place) =
+    (mode ≡ Plain) × StopsAtEvent shapes counts says scheduled frames over place inputs inputs_now outputs outputs_now
+IsMuxStop mode shapes counts says scheduled frames inputs inputs_now outputs outputs_now reads reads_now writes writes_now (NoFrame node) =
+    StopsForFrame shapes counts scheduled frames node × StopsFirst mode shapes counts says scheduled frames (TxNoFrame node) inputs inputs_now outputs outputs_now
+IsMuxStop mode shapes counts says scheduled frames inputs inputs_now outputs outputs_now reads reads_now writes writes_now (Ended leaf) =
+    StopsAtEnd shapes counts frames leaf inputs inputs_now × StopsFirst mode shapes counts says scheduled frames (TxEnded leaf) inputs inputs_now outputs outputs_now
+IsMuxStop mode shapes counts says scheduled frames inputs inputs_now outputs outputs_now reads reads_now writes writes_now ReadFailed =
+    Rose reads reads_now × PutsFewer mode shapes counts says scheduled frames inputs inputs_now outputs outputs_now
+IsMuxStop mode shapes counts says scheduled frames inputs inputs_now outputs outputs_now reads reads_now writes writes_now WriteFailed =
+    Rose writes writes_now × PutsPrefix mode shapes counts says scheduled frames inputs inputs_now outputs outputs_now
+IsMuxStop mode shapes counts says scheduled frames inputs inputs_now outputs outputs_now reads reads_now writes writes_now LogFailed =
+    (mode ≡ Slipping) × PutsFewer mode shapes counts says scheduled frames inputs inputs_now outputs outputs_now
 
 -- the port is fresh still where memory was wanting, and else ready, unless it refused to be started
 abbrev pub IsLeftReady : (fresh ready refused : Type 0) → Result (Unit {0}) MuxStop → Type 0
@@ -213,5 +216,4 @@ mux_stop (TxUnderflow place) = MeetsEvent false place
 mux_stop (TxNoFrame node) = NoFrame node
 mux_stop TxFailed = ReadFailed
 mux_stop (TxEnded leaf) = Ended leaf
--- no sender of `mux` tells a log
-mux_stop TxLogFailed = ReadFailed
+mux_stop TxLogFailed = LogFailed

@@ -4,6 +4,7 @@ use Rattle.pdh_edge.specs.Files.{Rose}
 use Rattle.pdh_edge.specs.Ports.{Inputs, Outputs, Takes, Puts, PutsPart}
 use Rattle.pdh_shape.specs.declared.role.Service.{Service}
 use Rattle.pdh_line.specs.Sending.{front}
+use Rattle.pdh_line.specs.Sending.Mode.{Slipping}
 use Rattle.pdh_tx.specs.declared.tx.TxStop.{TxStop}
 use Rattle.pdh_tx.specs.declared.tx.TxStop.TheVariants.{LogFailed}
 use Rattle.pdh_tx.specs.Meaning.{Plan, Supply, Meaning, Fits, Met, IsUsedUp, Agrees}
@@ -56,8 +57,8 @@ pub record StopsAt (m : Meaning) (plan : Plan) (from made : ℕ) (given : ℕ �
   pub free : IsFree m plan from made before
   -- where a leaf ended, its list is used up
   pub used_up : IsUsedUp stop after
-  -- it tells no log
-  pub no_log : stop ≡ LogFailed → ⊥
+  -- a log fails only where stores slip
+  pub slipping : stop ≡ LogFailed → plan.mode ≡ Slipping
   -- Failed only where the count of faults rose, else what stands in the way of the next bit
   pub met : Met (Fits m plan from before) (λ size. m.obstacle plan size made) stop faults now
 

@@ -1,13 +1,13 @@
-//! How far ahead a line surely meets nothing, as its sender tells when it is asked.
+//! How far ahead a line surely meets nothing, no event and no slip of a store, as its sender tells when it is asked.
 
 ghost use Rattle.std.specs.Prelude.{◌≡◌, ◌-◌};
-ghost use Rattle.pdh_tx.specs.Meaning.{plan_of};
+ghost use Rattle.pdh_tx.specs.Meaning.{plan_in};
 ghost use Rattle.pdh_tx.specs.Calls.{IsFed, StandsBy};
 ghost use Rattle.pdh_chain.specs.Calls.{KeepsFree};
 
 use pdh_clock::Schedule;
 use pdh_edge::Feed;
-use pdh_slips::NoSlips;
+use pdh_slips::SlipLog;
 use pdh_tx::Tx;
 
 // For how many frames a sender is asked at once, at most.
@@ -34,8 +34,8 @@ impl Ahead {
     }
 
     /// What is known where the sender is asked, if less than a frame of so many bits is known to meet nothing. So many frames are left
-    /// of the line.
-    pub fn look<T: Tx, F: Feed>(
+    /// of the line, whose stores slip where logs of type `G` take slips.
+    pub fn look<T: Tx, F: Feed, G: SlipLog>(
         self,
         sender: &T,
         clock: &Schedule,
@@ -44,15 +44,15 @@ impl Ahead {
         feed: &F,
     ) -> Ahead
         requires fed { IsFed (T.meaning sender.now) clock.now (F.inputs feed.now) }
-        requires stands { StandsBy T.stands_at sender.now (plan_of clock.now) }
-        ensures { KeepsFree T.Tx sender.now clock.now self.clear result.clear (F.inputs feed.now) }
+        requires stands { StandsBy T.stands_at sender.now (plan_in clock.now G.takes) }
+        ensures { KeepsFree T.Tx sender.now (plan_in clock.now G.takes) self.clear result.clear (F.inputs feed.now) }
     {
         let len = len as usize;
         if self.clear >= len {
             return self;
         }
         let frames = self.frames.min(left);
-        let clear = sender.quiet::<F, NoSlips>(clock, feed, len.saturating_mul(frames as usize));
+        let clear = sender.quiet::<F, G>(clock, feed, len.saturating_mul(frames as usize));
         if clear >= len {
             let frames = self.frames.saturating_mul(2).min(MOST_FRAMES);
             return Ahead { clear, frames };
@@ -64,7 +64,7 @@ impl Ahead {
             };
         }
         Ahead {
-            clear: sender.quiet::<F, NoSlips>(clock, feed, len),
+            clear: sender.quiet::<F, G>(clock, feed, len),
             frames: 1,
         }
     }

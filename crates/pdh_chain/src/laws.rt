@@ -3,6 +3,8 @@ ghost use Rattle.std.specs.Prelude.{◌≤◌, ◌<◌, ◌*◌, ◌/◌, ℕ, B
 ghost use Rattle.pdh_shape.specs.declared.role.Service.{Service};
 ghost use Rattle.pdh_shape.specs.Frame.{FrameShape};
 ghost use Rattle.pdh_nesting.specs.Chains.{width, top_len, AreFrames};
+ghost use Rattle.pdh_line.specs.Sending.{Mode};
+ghost use Rattle.pdh_line.specs.Sending.Mode.{Plain};
 ghost use Rattle.pdh_line.specs.Nodes.{Counts};
 ghost use Rattle.pdh_nesting.specs.Receiving.{far};
 ghost use Rattle.pdh_chain.specs.Muxes.{obstacle_at, IsNoEvent, IsTolerated, PutsPrefix};
@@ -14,7 +16,7 @@ ghost use Rattle.pdh_chain.specs.Calls.{PutsAtMost};
 pub fn no_event_within_tolerance()
     ensures { (shapes : List FrameShape) (counts : Counts) (bits : ℕ) → IsTolerated shapes counts bits
         → (scheduled : List ℕ → ℕ) (size : ℕ → ℕ) (x : ℕ) → x < bits
-        → IsNoEvent (obstacle_at shapes counts scheduled size x) }
+        → IsNoEvent (obstacle_at Plain shapes counts scheduled size x) }
 {}
 
 /// A leaf receives no more bits of a line than its share of them.
@@ -23,10 +25,10 @@ pub fn leaf_receives_no_more_than_its_share()
         → leaf < width shapes → length (far shapes line leaf) * width shapes ≤ length line }
 {}
 
-/// Where `mux` couldn't put a bit, no list took more bits than its frames have.
+/// Where `mux` or `mux_slips` couldn't put a bit, no list took more bits than its frames have.
 pub fn mux_puts_no_more_than_its_frames()
-    ensures { (shapes : List FrameShape) (counts : Counts) (says : ℕ → Service) (scheduled : List ℕ → ℕ) (frames : ℕ)
-        → PutsAtMost (PutsPrefix shapes counts says scheduled frames) (frames * top_len shapes) }
+    ensures { (mode : Mode) (shapes : List FrameShape) (counts : Counts) (says : ℕ → Service) (scheduled : List ℕ → ℕ) (frames : ℕ)
+        → PutsAtMost (PutsPrefix mode shapes counts says scheduled frames) (frames * top_len shapes) }
 {}
 
 /// Where `demux` couldn't put a bit, no list took more bits than a leaf's share of the line.

@@ -15,7 +15,7 @@ mod stages;
 mod stop;
 mod trees;
 
-pub use by_chain::{demux, mux};
+pub use by_chain::{demux, mux, mux_slips};
 pub use chain::{Chain, all_chains, delay, frame_bytes, leaves};
 pub use laws::{
     demux_puts_no_more_than_the_shares, leaf_receives_no_more_than_its_share,

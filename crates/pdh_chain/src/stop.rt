@@ -4,7 +4,8 @@ use pdh_edge::{Failed, FeedStop};
 use pdh_shape::{Path, Place};
 use std::alloc::AllocError;
 
-/// Why `mux` stops before the end of its line.
+/// Why `mux` or `mux_slips` stops before the end of its line. An event ends a line of `mux` alone, and a log is told by `mux_slips`
+/// alone.
 #[derive(Clone, Copy, Debug, PartialEq, Eq)]
 pub enum MuxStop {
     /// Memory was wanting, before the port was started.
@@ -30,6 +31,8 @@ pub enum MuxStop {
     ReadFailed,
     /// A call that puts bits to the port failed.
     WriteFailed,
+    /// The log couldn't be told of a slip.
+    LogFailed,
 }
 
 impl From<AllocError> for MuxStop {

@@ -2,7 +2,8 @@ mod PlanLaws
 mod CrcLaws
 mod WordLaws
 pub mod PackingLaws
-mod MachineLaws
+pub mod MachineLaws
 pub mod FitLaws
+pub mod FramerLaws
 mod Worked
 mod WorkedFar

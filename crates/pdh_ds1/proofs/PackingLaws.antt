@@ -2,16 +2,18 @@
 use Rattle.std.proofs.Common.{◌≡◌, ℕ, zero, suc, ◌+◌, ◌-◌, ◌*◌, ◌/◌, ◌%◌, ◌<◌, ◌≤◌, Bool, true, false, List, [], ◌∷◌, ◌++◌, length, get_or, take, drop, append_assoc, inl, inr, subst, refl, sym, ap, ◌∙◌, add-one, arith, length-append, length-take, length-drop}
 use Rattle.std.specs.Prelude.{All, flat_map}
 use Rattle.std.specs.Bool.{beq}
-use Rattle.std.specs.List.{slice_range, range_with_len}
+use Rattle.std.specs.List.{range_with_len}
 use Rattle.std.proofs.lemmas.Bool.{cases_lt}
-use Rattle.std.proofs.lemmas.List.{get_or_append_left, take_all}
+use Rattle.std.proofs.lemmas.List.{append-nil, get_or_append_left, take_all, drop-drop}
 use Rattle.std.proofs.lemmas.Nat.{div-mul-add, mod-mul-add, le-div}
 use Rattle.std.proofs.Math.Nat.{div-add-mod, mul-div-le, mul-le-mul_right, zero-div}
-use Rattle.std.proofs.Math.Seq.{take-add, get_or-append_seam}
+use Rattle.std.proofs.Math.Seq.{take-add, get_or-append_seam, drop-append_seam}
 use Rattle.pdh_bits.specs.BitOut.{BoundedBits}
 use Rattle.pdh_bits.specs.Bits.{bits_of, bytes_of}
-use Rattle.pdh_bits.proofs.BitsLemmas.{length-bits_of, length-bytes_of, bits_of-append, bits_of-bytes_of, bytes_of-bits_of}
+use Rattle.pdh_edge.specs.Ports.{IsPrefix}
+use Rattle.pdh_bits.proofs.BitsLemmas.{length-bits_of, length-bytes_of, bits_of-bytes_of, bytes_of-bits_of}
 use Rattle.pdh_framed.specs.RightFrames.{AreRight, FirstWrong}
+use Rattle.pdh_framed.proofs.Parts.{slice_range-append}
 use Rattle.pdh_framed.proofs.RightLaws.{are_right-push, none_wrong}
 use Rattle.pdh_shape.specs.declared.role.Role.{Role}
 use Rattle.pdh_shape.specs.declared.role.Role.TheVariants.{Align, Service, Control, Just, Info}
@@ -19,10 +21,9 @@ use Rattle.pdh_ds1.specs.declared.form.Frame1.{Frame1}
 use Rattle.pdh_ds1.specs.declared.fault.Ds1UnpackFault.{Ds1UnpackFault}
 use Rattle.pdh_ds1.specs.declared.fault.Ds1UnpackFault.TheVariants as unpack_faults
 use Rattle.pdh_ds1.specs.Superframe.{f_bit_at}
-use Rattle.pdh_ds1.specs.Crc6.{crc6}
-use Rattle.pdh_ds1.specs.Packing.{payload_at, with_ones, word_of, sent_word, crc_place, packed_bit, fits, frame_right, packed_f_bit, FramePacked, line_payload, packed_frames}
+use Rattle.pdh_ds1.specs.Packing.{payload_at, word_of, sent_word, crc_place, packed_bit, fits, frame_right, packed_f_bit, FramePacked, line_payload, frame_bits, packed_frames, superframe_of}
 use Rattle.pdh_ds1.specs.Codec.{f_bits_of, frames_of, frames_in, right_in, packed_line, IsSuperframes, IsPacked, IsNotUnpacked, PackedIsGivenBack}
-use Rattle.pdh_ds1.proofs.WordLaws.{flat_map_push, payload_at-append, payload_at-new, with_ones-new, word_of-is, sent_word-first, sent_word-next, sent_word-append}
+use Rattle.pdh_ds1.proofs.WordLaws.{flat_map_push, payload_at-append, payload_at-new, sent_word-first, sent_word-next, sent_word-append}
 
 -- ---- the numbers of frames
 
@@ -160,139 +161,151 @@ right-packed f_bits frames line k packed =
 
 -- ---- the line of a payload
 
--- the first frames of a line are packed, and carry the first octets of a payload
-pub record ArePacked (f_bits : List Role) (frames : ℕ) (payload : List ℕ) (line : List Bool) (count : ℕ) : Type 0 where
+-- the first frames of a line are packed, and carry the first bits of a payload
+pub record ArePacked (f_bits : List Role) (frames : ℕ) (payload : List Bool) (line : List Bool) (count : ℕ) : Type 0 where
   pub long : length line ≡ 193 * count
   pub idle : (k : ℕ) → k < count → FramePacked f_bits frames line k
-  pub carries : line_payload line count ≡ bits_of (take (24 * count) payload)
+  pub carries : line_payload line count ≡ take (192 * count) payload
 
--- the octets of a frame
-octets_of : (payload : List ℕ) (k : ℕ) → slice_range payload (24 * k) (24 * k + 24) ≡ take 24 (drop (24 * k) payload)
-octets_of payload k = let count : 24 * k + 24 - 24 * k ≡ 24 = omega arith in ap (λ (n : ℕ). take n (drop (24 * k) payload)) count
+-- the bits of a frame
+pub bits_at : (payload : List Bool) (k : ℕ) → frame_bits payload k ≡ take 192 (drop (192 * k) payload)
+bits_at payload k = let count : 192 * k + 192 - 192 * k ≡ 192 = omega arith in ap (λ (n : ℕ). take n (drop (192 * k) payload)) count
 
--- are 24 at most
-pub octets_few : (payload : List ℕ) (k : ℕ) → length (slice_range payload (24 * k) (24 * k + 24)) ≤ 24
-octets_few payload k = omega (arith, ap length (octets_of payload k), length-take 24 (drop (24 * k) payload))
-
--- and so many where they are there
-octets_long : (payload : List ℕ) (k : ℕ) → 24 * k + 24 ≤ length payload → length (bits_of (slice_range payload (24 * k) (24 * k + 24))) ≡ 192
-octets_long payload k within =
-    let rest : List ℕ = drop (24 * k) payload in
-    omega (arith, length-bits_of (slice_range payload (24 * k) (24 * k + 24)), ap length (octets_of payload k), length-take 24 rest, length-drop (24 * k) payload)
+-- are so many where they are there
+pub bits_long : (payload : List Bool) (k : ℕ) → 192 * k + 192 ≤ length payload → length (frame_bits payload k) ≡ 192
+bits_long payload k within = omega (arith, ap length (bits_at payload k), length-take 192 (drop (192 * k) payload), length-drop (192 * k) payload)
 
 -- one more frame is packed
-packed_more : (f_bits : List Role) (frames : ℕ) (payload octets : List ℕ) (line : List Bool) (k : ℕ) (b : Bool) → ArePacked f_bits frames payload line k → 24 * k + 24 ≤ length payload
-    → octets ≡ slice_range payload (24 * k) (24 * k + 24) → b ≡ packed_f_bit f_bits frames line k → ArePacked f_bits frames payload (line ++ b ∷ bits_of octets) (k + 1)
-packed_more f_bits frames payload octets line k b part enough cut is =
+packed_more : (f_bits : List Role) (frames : ℕ) (payload bits line : List Bool) (k : ℕ) (b : Bool) → ArePacked f_bits frames payload line k → 192 * k + 192 ≤ length payload
+    → bits ≡ frame_bits payload k → b ≡ packed_f_bit f_bits frames line k → ArePacked f_bits frames payload (line ++ b ∷ bits) (k + 1)
+packed_more f_bits frames payload bits line k b part enough cut is =
     let long : length line ≡ 193 * k = part.long in
-    let size : length (bits_of octets) ≡ 192 = ap (λ (o : List ℕ). length (bits_of o)) cut ∙ octets_long payload k enough in
-    let far : 24 * (k + 1) ≡ 24 * k + 24 = omega arith in
+    let size : length bits ≡ 192 = ap length cut ∙ bits_long payload k enough in
+    let far : 192 * (k + 1) ≡ 192 * k + 192 = omega arith in
     record {
-      long = omega (arith, length-append line (b ∷ bits_of octets), long, size);
+      long = omega (arith, length-append line (b ∷ bits), long, size);
       idle = λ j below. elim (cases_lt j k) [
-        | inl less ↦ packed-append f_bits frames line (b ∷ bits_of octets) j (omega (arith, less, long)) (part.idle j less)
-        | inr least ↦ let same : k ≡ j = omega arith in subst (λ (n : ℕ). FramePacked f_bits frames (line ++ b ∷ bits_of octets) n) same (packed-new f_bits frames line (bits_of octets) k b long is)
+        | inl less ↦ packed-append f_bits frames line (b ∷ bits) j (omega (arith, less, long)) (part.idle j less)
+        | inr least ↦ let same : k ≡ j = omega arith in subst (λ (n : ℕ). FramePacked f_bits frames (line ++ b ∷ bits) n) same (packed-new f_bits frames line bits k b long is)
       ];
       carries =
-          payload_more (line ++ b ∷ bits_of octets) k
-          ∙ ap (λ (p : List Bool). p ++ payload_at (line ++ b ∷ bits_of octets) k) (payload-append line (b ∷ bits_of octets) k (omega (arith, long)) ∙ part.carries)
-          ∙ ap (λ (p : List Bool). bits_of (take (24 * k) payload) ++ p) (payload_at-new line (bits_of octets) k b long size ∙ ap bits_of (cut ∙ octets_of payload k))
-          ∙ sym (bits_of-append (take (24 * k) payload) (take 24 (drop (24 * k) payload)))
-          ∙ ap bits_of (sym (take-add (24 * k) 24 payload))
-          ∙ sym (ap (λ (n : ℕ). bits_of (take n payload)) far);
+          payload_more (line ++ b ∷ bits) k
+          ∙ ap (λ (p : List Bool). p ++ payload_at (line ++ b ∷ bits) k) (payload-append line (b ∷ bits) k (omega (arith, long)) ∙ part.carries)
+          ∙ ap (λ (p : List Bool). take (192 * k) payload ++ p) (payload_at-new line bits k b long size ∙ cut ∙ bits_at payload k)
+          ∙ sym (take-add (192 * k) 192 payload)
+          ∙ sym (ap (λ (n : ℕ). take n payload) far);
     }
 
 -- so it is with those of the line of that payload
-pub frames_packed : (f_bits : List Role) (frames : ℕ) (payload : List ℕ) (count : ℕ) → 24 * count ≤ length payload → ArePacked f_bits frames payload (packed_frames f_bits frames payload count) count
+pub frames_packed : (f_bits : List Role) (frames : ℕ) (payload : List Bool) (count : ℕ) → 192 * count ≤ length payload → ArePacked f_bits frames payload (packed_frames f_bits frames payload count) count
 unfolding packed_frames line_payload
 frames_packed f_bits frames payload zero enough = record { long = refl; idle = λ k below. absurd (omega arith); carries = refl }
 frames_packed f_bits frames payload (suc k) enough =
     let before : List Bool = packed_frames f_bits frames payload k in
-    let octets : List ℕ = slice_range payload (24 * k) (24 * k + 24) in
+    let bits : List Bool = frame_bits payload k in
     let b : Bool = packed_f_bit f_bits frames before k in
-    let more : ArePacked f_bits frames payload (before ++ b ∷ bits_of octets) (k + 1) = packed_more f_bits frames payload octets before k b (frames_packed f_bits frames payload k (omega arith)) (omega arith) refl refl in
-    subst (λ (n : ℕ). ArePacked f_bits frames payload (before ++ b ∷ bits_of octets) n) (add-one k) more
+    let more : ArePacked f_bits frames payload (before ++ b ∷ bits) (k + 1) = packed_more f_bits frames payload bits before k b (frames_packed f_bits frames payload k (omega arith)) (omega arith) refl refl in
+    subst (λ (n : ℕ). ArePacked f_bits frames payload (before ++ b ∷ bits) n) (add-one k) more
 
 -- the line of no frame is empty
-pub frames_none : (f_bits : List Role) (frames : ℕ) (payload : List ℕ) → packed_frames f_bits frames payload 0 ≡ []
+pub frames_none : (f_bits : List Role) (frames : ℕ) (payload : List Bool) → packed_frames f_bits frames payload 0 ≡ []
 unfolding packed_frames
 frames_none f_bits frames payload = refl
 
--- one more frame is its F bit and its octets
-frames_more : (f_bits : List Role) (frames : ℕ) (payload : List ℕ) (line : List Bool) (first place sent : ℕ) (role : Role) (b : Bool) → frames * (first / frames) ≡ first → place < frames
-    → line ≡ packed_frames f_bits frames payload (first + place) → sent ≡ sent_word frames line (first / frames) → role ≡ f_bit_at f_bits place → b ≡ packed_bit sent place role
-    → line ++ b ∷ bits_of (slice_range payload (24 * (first + place)) (24 * (first + place) + 24)) ≡ packed_frames f_bits frames payload (first + place + 1)
+-- it stays as more of the payload follows
+pub frames-append : (f_bits : List Role) (frames : ℕ) (payload more : List Bool) (count : ℕ) → 192 * count ≤ length payload → packed_frames f_bits frames (payload ++ more) count ≡ packed_frames f_bits frames payload count
 unfolding packed_frames
-frames_more f_bits frames payload line first place sent role b whole small made sends role_is is =
+frames-append f_bits frames payload more zero within = refl
+frames-append f_bits frames payload more (suc k) within =
+    let before : packed_frames f_bits frames (payload ++ more) k ≡ packed_frames f_bits frames payload k = frames-append f_bits frames payload more k (omega arith) in
+    let bits : frame_bits (payload ++ more) k ≡ frame_bits payload k = slice_range-append payload more (192 * k) (192 * k + 192) (omega arith) (omega arith) in
+    ap (λ (x : List Bool). x ++ packed_f_bit f_bits frames x k ∷ frame_bits (payload ++ more) k) before
+    ∙ ap (λ (x : List Bool). packed_frames f_bits frames payload k ++ packed_f_bit f_bits frames (packed_frames f_bits frames payload k) k ∷ x) bits
+
+-- a shorter one is a prefix of it
+pub frames_begin : (f_bits : List Role) (frames : ℕ) (payload : List Bool) (count more : ℕ) → IsPrefix (packed_frames f_bits frames payload count) (packed_frames f_bits frames payload (count + more))
+unfolding packed_frames
+frames_begin f_bits frames payload count zero =
+    let same : count + 0 ≡ count = omega arith in
+    ([], ap (packed_frames f_bits frames payload) same ∙ sym (append-nil (packed_frames f_bits frames payload count)))
+frames_begin f_bits frames payload count (suc more) =
+    let next : count + suc more ≡ suc (count + more) = omega arith in
+    let before : List Bool = packed_frames f_bits frames payload (count + more) in
+    let end : List Bool = packed_f_bit f_bits frames before (count + more) ∷ frame_bits payload (count + more) in
+    let begins : IsPrefix (packed_frames f_bits frames payload count) before = frames_begin f_bits frames payload count more in
+    (begins.0 ++ end, ap (packed_frames f_bits frames payload) next ∙ ap (λ (x : List Bool). x ++ end) begins.1 ∙ append_assoc (packed_frames f_bits frames payload count) begins.0 end)
+
+-- ---- superframes
+
+pub superframe_none : (f_bits : List Role) (sent : ℕ) (payload : List Bool) → superframe_of f_bits sent payload 0 ≡ []
+unfolding superframe_of
+superframe_none f_bits sent payload = refl
+
+-- one more frame is its F bit and its bits
+pub superframe_more : (f_bits : List Role) (sent : ℕ) (payload : List Bool) (frame : ℕ)
+    → superframe_of f_bits sent payload (frame + 1) ≡ superframe_of f_bits sent payload frame ++ packed_bit sent frame (f_bit_at f_bits frame) ∷ frame_bits payload frame
+unfolding superframe_of
+superframe_more f_bits sent payload frame = let next : frame + 1 ≡ suc frame = omega arith in ap (superframe_of f_bits sent payload) next
+
+pub superframe_long : (f_bits : List Role) (sent : ℕ) (payload : List Bool) (frame : ℕ) → 192 * frame ≤ length payload → length (superframe_of f_bits sent payload frame) ≡ 193 * frame
+unfolding superframe_of
+superframe_long f_bits sent payload zero within = refl
+superframe_long f_bits sent payload (suc frame) within =
+    let before : List Bool = superframe_of f_bits sent payload frame in
+    omega (arith, length-append before (packed_bit sent frame (f_bit_at f_bits frame) ∷ frame_bits payload frame), superframe_long f_bits sent payload frame (omega arith), bits_long payload frame (omega arith))
+
+-- behind whole superframes the next frames are those of the superframe that sends the word of the one before
+pub frames_then : (f_bits : List Role) (frames : ℕ) (payload : List Bool) (first sent place : ℕ) → frames * (first / frames) ≡ first → place ≤ frames → 192 * first ≤ length payload
+    → sent ≡ sent_word frames (packed_frames f_bits frames payload first) (first / frames)
+    → packed_frames f_bits frames payload (first + place) ≡ packed_frames f_bits frames payload first ++ superframe_of f_bits sent (drop (192 * first) payload) place
+unfolding packed_frames superframe_of
+frames_then f_bits frames payload first sent zero whole small within sends =
+    let same : first + 0 ≡ first = omega arith in
+    ap (packed_frames f_bits frames payload) same ∙ sym (append-nil (packed_frames f_bits frames payload first))
+frames_then f_bits frames payload first sent (suc place) whole small within sends =
     let k : ℕ = first + place in
+    let start : List Bool = packed_frames f_bits frames payload first in
+    let rest : List Bool = drop (192 * first) payload in
+    let part : List Bool = superframe_of f_bits sent rest place in
     let before : List Bool = packed_frames f_bits frames payload k in
-    let octets : List ℕ = slice_range payload (24 * k) (24 * k + 24) in
-    let next : suc k ≡ k + 1 = omega arith in
-    let bit : b ≡ packed_f_bit f_bits frames before k =
-    is
-    ∙ ap (packed_bit sent place) role_is
-    ∙ ap (λ (w : ℕ). packed_bit w place (f_bit_at f_bits place)) (sends ∙ ap (λ (l : List Bool). sent_word frames l (first / frames)) made)
-    ∙ sym (ap (λ (n : ℕ). packed_bit (sent_word frames before n) place (f_bit_at f_bits place)) (place_div frames first place whole small))
-    ∙ sym (ap (λ (p : ℕ). packed_bit (sent_word frames before (k / frames)) p (f_bit_at f_bits p)) (place_mod frames first place whole small)) in
-    ap (λ (l : List Bool). l ++ b ∷ bits_of octets) made
-    ∙ ap (λ (x : Bool). before ++ x ∷ bits_of octets) bit
-    ∙ ap (packed_frames f_bits frames payload) next
-
--- the frames of a superframe so far, and what is known of its word
-pub record Packs (f_bits : List Role) (frames : ℕ) (payload : List ℕ) (line : List Bool) (first place sent word : ℕ) : Type 0 where
-  pub made : line ≡ packed_frames f_bits frames payload (first + place)
-  pub sends : sent ≡ sent_word frames line (first / frames)
-  pub word_is : word ≡ crc6 (with_ones (drop (193 * first) line) place)
-
-pub packs_none : (f_bits : List Role) (frames : ℕ) (payload : List ℕ) (line : List Bool) (first sent : ℕ) → line ≡ packed_frames f_bits frames payload first → sent ≡ sent_word frames line (first / frames) → Packs f_bits frames payload line first 0 sent 0
-packs_none f_bits frames payload line first sent made sends =
-    let none : first ≡ first + 0 = omega arith in
-    record { made = made ∙ ap (packed_frames f_bits frames payload) none; sends = sends; word_is = refl }
-
--- how long they are
-pub packs_long : (f_bits : List Role) (frames : ℕ) (payload : List ℕ) (line : List Bool) (first place sent word : ℕ) → Packs f_bits frames payload line first place sent word → 24 * (first + place) ≤ length payload → length line ≡ 193 * (first + place)
-packs_long f_bits frames payload line first place sent word part enough = ap length part.made ∙ (frames_packed f_bits frames payload (first + place) enough).long
-
--- one more frame, by its F bit and then its octets
-pub packs_more : (f_bits : List Role) (frames : ℕ) (payload octets : List ℕ) (line pushed new : BoundedBits) (first place sent before word : ℕ) (role : Role) (b : Bool) → frames * (first / frames) ≡ first
-    → Packs f_bits frames payload line.bits first place sent before → place < frames → 24 * first + 24 * frames ≤ length payload → octets ≡ slice_range payload (24 * (first + place)) (24 * (first + place) + 24)
-    → role ≡ f_bit_at f_bits place → b ≡ packed_bit sent place role → pushed ≡ record line { bits = line.bits ++ b ∷ [] } → new ≡ record pushed { bits = pushed.bits ++ bits_of octets }
-    → ((bits : List Bool) → before ≡ crc6 bits → word ≡ crc6 ((bits ++ true ∷ []) ++ bits_of octets)) → Packs f_bits frames payload new.bits first (place + 1) sent word
-packs_more f_bits frames payload octets line pushed new first place sent before word role b whole part small enough cut role_is is push extend more =
-    let k : ℕ = first + place in
-    let start : ℕ = 193 * first in
-    let long : length line.bits ≡ 193 * k = packs_long f_bits frames payload line.bits first place sent before part (omega (arith, small, enough)) in
-    let size : length (bits_of octets) ≡ 192 = ap (λ (o : List ℕ). length (bits_of o)) cut ∙ octets_long payload k (omega (arith, small, enough)) in
-    let all : new.bits ≡ line.bits ++ b ∷ bits_of octets =
-    ap (λ (p : BoundedBits). p.bits) extend ∙ ap (λ (p : BoundedBits). p.bits ++ bits_of octets) push ∙ append_assoc line.bits (b ∷ []) (bits_of octets) in
-    let one : line.bits ++ b ∷ bits_of octets ≡ packed_frames f_bits frames payload (k + 1) =
-    ap (λ (o : List ℕ). line.bits ++ b ∷ bits_of o) cut ∙ frames_more f_bits frames payload line.bits first place sent role b whole small part.made part.sends role_is is in
-    let next : k + 1 ≡ first + (place + 1) = omega arith in
-    let from : length line.bits ≡ start + 193 * place = omega (arith, long) in
-    record {
-      made = all ∙ one ∙ ap (packed_frames f_bits frames payload) next;
-      sends = part.sends ∙ sym (sent_word-append frames line.bits (b ∷ bits_of octets) (first / frames) (omega (arith, from, whole))) ∙ sym (ap (λ (l : List Bool). sent_word frames l (first / frames)) all);
-      word_is =
-          more (with_ones (drop start line.bits) place) part.word_is
-          ∙ ap crc6 (append_assoc (with_ones (drop start line.bits) place) (true ∷ []) (bits_of octets))
-          ∙ sym (ap crc6 (ap (λ (l : List Bool). with_ones (drop start l) (place + 1)) all ∙ with_ones-new line.bits (bits_of octets) start place b from size));
-    }
+    let so_far : before ≡ start ++ part = frames_then f_bits frames payload first sent place whole (omega arith) within sends in
+    let long : length start ≡ 193 * first = (frames_packed f_bits frames payload first within).long in
+    let word : sent_word frames before (first / frames) ≡ sent =
+    ap (λ (x : List Bool). sent_word frames x (first / frames)) so_far ∙ sent_word-append frames start part (first / frames) (omega (arith, long, whole)) ∙ sym sends in
+    let bit : packed_f_bit f_bits frames before k ≡ packed_bit sent place (f_bit_at f_bits place) =
+    ap (λ (n : ℕ). packed_bit (sent_word frames before n) (k % frames) (f_bit_at f_bits (k % frames))) (place_div frames first place whole (omega arith))
+    ∙ ap (λ (p : ℕ). packed_bit (sent_word frames before (first / frames)) p (f_bit_at f_bits p)) (place_mod frames first place whole (omega arith))
+    ∙ ap (λ (w : ℕ). packed_bit w place (f_bit_at f_bits place)) word in
+    let at : 192 * first + 192 * place ≡ 192 * k = omega arith in
+    let bits : frame_bits payload k ≡ frame_bits rest place =
+    bits_at payload k ∙ ap (λ (n : ℕ). take 192 (drop n payload)) (sym at) ∙ sym (ap (take 192) (drop-drop (192 * place) (192 * first) payload)) ∙ sym (bits_at rest place) in
+    let next : first + suc place ≡ suc k = omega arith in
+    ap (packed_frames f_bits frames payload) next
+    ∙ ap (λ (x : List Bool). x ++ packed_f_bit f_bits frames before k ∷ frame_bits payload k) so_far
+    ∙ ap (λ (x : Bool). (start ++ part) ++ x ∷ frame_bits payload k) bit
+    ∙ ap (λ (x : List Bool). (start ++ part) ++ packed_bit sent place (f_bit_at f_bits place) ∷ x) bits
+    ∙ append_assoc start part (packed_bit sent place (f_bit_at f_bits place) ∷ frame_bits rest place)
 
 -- the word that the superframe behind one sends
 pub sends_next : (frames first word : ℕ) (line : List Bool) → 0 < frames → frames * (first / frames) ≡ first → word ≡ word_of frames (drop (193 * first) line) → word ≡ sent_word frames line ((first + frames) / frames)
 sends_next frames first word line some whole is =
     is ∙ sym (ap (λ (n : ℕ). word_of frames (drop (193 * n) line)) whole) ∙ sym (sent_word-next frames line (first / frames)) ∙ sym (ap (sent_word frames line) (next_div frames first some whole))
 
--- a whole superframe
-pub packs_all : (f_bits : List Role) (frames : ℕ) (payload : List ℕ) (line : List Bool) (first place sent word : ℕ) → 0 < frames → frames * (first / frames) ≡ first → Packs f_bits frames payload line first place sent word → place ≡ frames
-    → (line ≡ packed_frames f_bits frames payload (first + frames)) × (word ≡ sent_word frames line ((first + frames) / frames))
-packs_all f_bits frames payload line first place sent word some whole part all = (
-  part.made ∙ ap (λ (n : ℕ). packed_frames f_bits frames payload (first + n)) all,
-  sends_next frames first word line some whole (part.word_is ∙ ap (λ (n : ℕ). crc6 (with_ones (drop (193 * first) line) n)) all ∙ sym (word_of-is frames (drop (193 * first) line))),
-)
+-- one more superframe
+pub superframe_pushed : (f_bits : List Role) (frames : ℕ) (payload line : List Bool) (first sent word : ℕ) → 0 < frames → frames * (first / frames) ≡ first → 192 * (first + frames) ≤ length payload
+    → line ≡ packed_frames f_bits frames payload first → sent ≡ sent_word frames line (first / frames) → word ≡ word_of frames (superframe_of f_bits sent (drop (192 * first) payload) frames)
+    → (line ++ superframe_of f_bits sent (drop (192 * first) payload) frames ≡ packed_frames f_bits frames payload (first + frames))
+    × (word ≡ sent_word frames (line ++ superframe_of f_bits sent (drop (192 * first) payload) frames) ((first + frames) / frames))
+superframe_pushed f_bits frames payload line first sent word some whole enough made sends is =
+    let one : List Bool = superframe_of f_bits sent (drop (192 * first) payload) frames in
+    let long : length line ≡ 193 * first = ap length made ∙ (frames_packed f_bits frames payload first (omega arith)).long in
+    let behind : drop (193 * first) (line ++ one) ≡ one = ap (λ (n : ℕ). drop n (line ++ one)) (sym long) ∙ drop-append_seam line one in (
+      ap (λ (x : List Bool). x ++ one) made ∙ sym (frames_then f_bits frames payload first sent frames whole (omega arith) (omega arith) (sends ∙ ap (λ (x : List Bool). sent_word frames x (first / frames)) made)),
+      sends_next frames first word (line ++ one) some whole (is ∙ sym (ap (word_of frames) behind)),
+    )
 
 -- all frames of a payload, in octets, are its line
-pub line_made : (form : Frame1) (payload : List ℕ) (line : List Bool) (octets : List ℕ) → octets ≡ bytes_of line → line ≡ packed_frames (f_bits_of form) (frames_of form) payload (length payload / 24) → octets ≡ packed_line form payload
+pub line_made : (form : Frame1) (payload : List ℕ) (line : List Bool) (octets : List ℕ) → octets ≡ bytes_of line → line ≡ packed_frames (f_bits_of form) (frames_of form) (bits_of payload) (length payload / 24) → octets ≡ packed_line form payload
 unfolding packed_line
 line_made form payload line octets is made = is ∙ ap bytes_of made
 
@@ -303,8 +316,9 @@ line_is_packed form payload whole small =
     let f_bits : List Role = f_bits_of form in
     let frames : ℕ = frames_of form in
     let count : ℕ = length payload / 24 in
-    let line : List Bool = packed_frames f_bits frames payload count in
-    let part : ArePacked f_bits frames payload line count = frames_packed f_bits frames payload count (omega arith) in
+    let carried : List Bool = bits_of payload in
+    let line : List Bool = packed_frames f_bits frames carried count in
+    let part : ArePacked f_bits frames carried line count = frames_packed f_bits frames carried count (omega (arith, length-bits_of payload)) in
     let octets : List ℕ = bytes_of line in
     let long : length line ≡ 193 * count = part.long in
     let eight : length line % 8 ≡ 0 = omega (arith, long, whole) in
@@ -321,7 +335,7 @@ line_is_packed form payload whole small =
           ap (λ (n : ℕ). bytes_of (line_payload (bits_of octets) n)) number
           ∙ ap (λ (x : List Bool). bytes_of (line_payload x count)) bits
           ∙ ap bytes_of part.carries
-          ∙ ap (λ (x : List ℕ). bytes_of (bits_of x)) (take_all (24 * count) payload (omega (arith, whole)))
+          ∙ ap bytes_of (take_all (192 * count) carried (omega (arith, whole, length-bits_of payload)))
           ∙ bytes_of-bits_of payload small;
       idle = λ frame below. subst (λ (x : List Bool). FramePacked f_bits frames x frame) (sym bits) (part.idle frame (omega (arith, below, number)));
     }

@@ -106,16 +106,12 @@ with_ones-append line more (suc k) within =
     ∙ ap (λ (x : List Bool). with_ones line k ++ true ∷ x) (payload_at-append line more k (omega arith))
     ∙ sym (ap (with_ones line) next ∙ with_ones-push line k)
 
--- the first frames of the superframe that begins at a place, with one more that is appended
-pub with_ones-new : (line octets : List Bool) (start k : ℕ) (b : Bool) → length line ≡ start + 193 * k → length octets ≡ 192
-    → with_ones (drop start (line ++ b ∷ octets)) (k + 1) ≡ with_ones (drop start line) k ++ true ∷ octets
-with_ones-new line octets start k b long whole =
-    let here : List Bool = drop start line in
-    let left : length here ≡ 193 * k = omega (arith, length-drop start line) in
-    let more : drop start (line ++ b ∷ octets) ≡ here ++ b ∷ octets = drop-append-le start line (b ∷ octets) (omega arith) in
-    ap (λ (x : List Bool). with_ones x (k + 1)) more ∙ with_ones-push (here ++ b ∷ octets) k
-    ∙ ap (λ (x : List Bool). x ++ true ∷ payload_at (here ++ b ∷ octets) k) (with_ones-append here (b ∷ octets) k (omega arith))
-    ∙ ap (λ (x : List Bool). with_ones here k ++ true ∷ x) (payload_at-new here octets k b left whole)
+-- one more frame that is appended
+pub with_ones-new : (line bits : List Bool) (k : ℕ) (b : Bool) → length line ≡ 193 * k → length bits ≡ 192 → with_ones (line ++ b ∷ bits) (k + 1) ≡ with_ones line k ++ true ∷ bits
+with_ones-new line bits k b long whole =
+    with_ones-push (line ++ b ∷ bits) k
+    ∙ ap (λ (x : List Bool). x ++ true ∷ payload_at (line ++ b ∷ bits) k) (with_ones-append line (b ∷ bits) k (omega (arith, long)))
+    ∙ ap (λ (x : List Bool). with_ones line k ++ true ∷ x) (payload_at-new line bits k b long whole)
 
 -- ---- the word that a superframe sends
 

@@ -46,7 +46,7 @@ pub record IsPacked (form : Frame1) (payload : List ℕ) (line : List ℕ) : Typ
 
 -- that line, frame by frame: a frame carries 24 octets
 unfoldable pub packed_line : Frame1 → List ℕ → List ℕ
-packed_line form payload = bytes_of (packed_frames (f_bits_of form) (frames_of form) payload (length payload / 24))
+packed_line form payload = bytes_of (packed_frames (f_bits_of form) (frames_of form) (bits_of payload) (length payload / 24))
 
 -- why a payload isn't packed; 24 frames carry 576 octets. Want of memory is told of whole payloads only
 abbrev pub IsNotPacked : List ℕ → Ds1PackFault → Type 0

@@ -1,5 +1,5 @@
--- What a machine stands for that finds superframes, and what it counts.
-use Rattle.std.specs.Prelude.{◌≡◌, ℕ, ◌+◌, ◌-◌, ◌*◌, ◌^◌, min, Bool, List, length, count_by, Option, None, Some, ◌==◌, if◌then◌else◌}
+-- What a machine stands for that finds superframes, what it counts, and what a packer stands for.
+use Rattle.std.specs.Prelude.{◌≡◌, ℕ, ◌+◌, ◌-◌, ◌*◌, ◌^◌, ◌<◌, min, Bool, List, length, drop, count_by, Option, None, Some, ◌==◌, if◌then◌else◌}
 use Rattle.pdh_bits.specs.BitOut.{BoundedBits}
 use Rattle.pdh_shape.specs.declared.role.Role.{Role}
 use Rattle.pdh_line.specs.Tracking.{Piece, track, frames_delivered}
@@ -8,6 +8,7 @@ use Rattle.pdh_align.specs.Aligning.{Held, StandsFor, frames_gained}
 use Rattle.pdh_ds1.specs.declared.plan.SuperframePlan.{SuperframePlan}
 use Rattle.pdh_ds1.specs.Superframe.{in_superframe}
 use Rattle.pdh_ds1.specs.declared.block_counts.BlockCounts.{BlockCounts}
+use Rattle.pdh_ds1.specs.Packing.{sent_word, packed_frames}
 use Rattle.pdh_ds1.specs.Receiving.{judgements, last_word}
 
 -- ---- counts
@@ -56,3 +57,17 @@ pub record Stands (f_bits : List Role) (plan : SuperframePlan) (aligner : Held) 
   pub payload_room : payload.capacity ≡ 576 * plan.frames
   pub superframes_are : superframes ≡ superframes_counted f_bits plan line
   pub judges : plan.frames ≡ 24 → Judges blocks (track (in_superframe f_bits plan) line)
+
+-- ---- the packer of a plan
+
+-- it stands for these bits of a payload: what waits of them, behind those of so many superframes, doesn't fill one more
+pub record Frames (f_bits : List Role) (plan : SuperframePlan) (waiting superframe : BoundedBits) (sent : ℕ) (payload : List Bool) : Type 0 where
+  pub count : ℕ
+  pub long : length payload ≡ 192 * (plan.frames * count) + length waiting.bits
+  pub waits : waiting.bits ≡ drop (192 * (plan.frames * count)) payload
+  pub few : length waiting.bits < 192 * plan.frames
+  -- the word that the next one sends
+  pub sends : sent ≡ sent_word plan.frames (packed_frames f_bits plan.frames payload (plan.frames * count)) count
+  -- room for the payload of a superframe, and for a superframe
+  pub waiting_room : waiting.capacity ≡ 192 * plan.frames
+  pub superframe_room : superframe.capacity ≡ plan.len

@@ -1,8 +1,8 @@
 -- Lines of superframes: what stands in the F bit of each frame, the words of superframes, the payload, and the line of a payload.
-use Rattle.std.specs.Prelude.{◌≡◌, ℕ, zero, suc, ◌+◌, ◌-◌, ◌*◌, ◌/◌, ◌%◌, Bool, true, false, List, [], ◌∷◌, ◌++◌, drop, flat_map}
+use Rattle.std.specs.Prelude.{◌≡◌, ℕ, zero, suc, ◌+◌, ◌-◌, ◌*◌, ◌/◌, ◌%◌, Bool, true, false, List, [], ◌∷◌, ◌++◌, length, drop, flat_map}
 use Rattle.std.specs.Bool.{beq}
 use Rattle.std.specs.List.{slice_range, slice_index_or, range_with_len}
-use Rattle.pdh_bits.specs.Bits.{bit, bits_of}
+use Rattle.pdh_bits.specs.Bits.{bit}
 use Rattle.pdh_shape.specs.declared.role.Role.{Role}
 use Rattle.pdh_shape.specs.declared.role.Role.TheVariants.{Align, Service}
 use Rattle.pdh_ds1.specs.Superframe.{f_bit_at}
@@ -71,9 +71,22 @@ line_payload line frames = flat_map (payload_at line) (range_with_len 0 frames)
 
 -- ---- the line of a payload
 
--- its first frames: each is the F bit that a packer puts, and then the bits of its 24 octets
-unfoldable pub packed_frames : List Role → ℕ → List ℕ → ℕ → List Bool
+-- the payload bits of the frame of this number: those of its 24 octets
+abbrev pub frame_bits : List Bool → ℕ → List Bool
+frame_bits payload frame = slice_range payload (192 * frame) (192 * frame + 192)
+
+-- the first frames of the line of a payload: each is the F bit that a packer puts, and then its bits of the payload
+unfoldable pub packed_frames : List Role → ℕ → List Bool → ℕ → List Bool
 packed_frames f_bits frames payload zero = []
 packed_frames f_bits frames payload (suc frame) =
     let before = packed_frames f_bits frames payload frame in
-    before ++ packed_f_bit f_bits frames before frame ∷ bits_of (slice_range payload (24 * frame) (24 * frame + 24))
+    before ++ packed_f_bit f_bits frames before frame ∷ frame_bits payload frame
+
+-- the line of the superframes, each of so many frames, that a payload fills
+unfoldable pub packed_superframes : List Role → ℕ → List Bool → List Bool
+packed_superframes f_bits frames payload = packed_frames f_bits frames payload (frames * (length payload / (192 * frames)))
+
+-- the first frames of the superframe that sends a word and carries a payload
+unfoldable pub superframe_of : List Role → ℕ → List Bool → ℕ → List Bool
+superframe_of f_bits sent payload zero = []
+superframe_of f_bits sent payload (suc frame) = superframe_of f_bits sent payload frame ++ packed_bit sent frame (f_bit_at f_bits frame) ∷ frame_bits payload frame

@@ -1,13 +1,13 @@
 //! Payloads to lines of superframes, and back.
 
 ghost use Rattle.std.specs.Prelude.{◌≡◌, ◌+◌, ◌*◌, ◌/◌, ◌%◌, ◌<◌, ◌≤◌, ◌++◌, length, IfOk, MatchOption, MatchResult};
-ghost use Rattle.pdh_bits.specs.Bits.{bytes_of};
+ghost use Rattle.pdh_bits.specs.Bits.{bits_of, bytes_of};
 ghost use Rattle.pdh_framed.specs.RightFrames.{AreRight, FirstWrong};
 ghost use Rattle.pdh_ds1.specs.Packing.{sent_word, frame_right, line_payload, packed_frames};
 ghost use Rattle.pdh_ds1.specs.Codec.{f_bits_of, frames_of, packed_line, IsPacked, IsNotPacked, IsUnpacked, IsNotUnpacked, PackedIsGivenBack};
 
-use crate::crc::{crc6_after, with_bit};
-use crate::f_bits::{fits, packed_bit};
+use crate::f_bits::fits;
+use crate::framer::push_superframe;
 use crate::words::word_of;
 use crate::{Ds1PackFault, Ds1UnpackFault, EsfPlan, Frame1, InSuperframe, SfPlan};
 use pdh_packed::Packed;
@@ -55,7 +55,7 @@ pub fn packed_is_given_back()
 /// The bits of the line of superframes of a form that carries the payload.
 fn packed(alloc: Global, frame: Frame1, payload: &[u8]) -> Result<Packed, AllocError>
     requires { length payload.now % 576 ≡ 0 }
-    ensures { IfOk result (λ line. line.bits ≡ packed_frames (f_bits_of frame) (frames_of frame) payload.now (length payload.now / 24)) }
+    ensures { IfOk result (λ line. line.bits ≡ packed_frames (f_bits_of frame) (frames_of frame) (bits_of payload.now) (length payload.now / 24)) }
 {
     match frame {
         Frame1::Super => pack_by::<SfPlan>(alloc, payload),
@@ -66,7 +66,7 @@ fn packed(alloc: Global, frame: Frame1, payload: &[u8]) -> Result<Packed, AllocE
 /// The bits of the line of superframes of a plan that carries the payload.
 fn pack_by<P: InSuperframe>(alloc: Global, payload: &[u8]) -> Result<Packed, AllocError>
     requires { length payload.now / 24 % P.PLAN.frames ≡ 0 }
-    ensures { IfOk result (λ line. line.bits ≡ packed_frames P.f_bits P.PLAN.frames payload.now (length payload.now / 24)) }
+    ensures { IfOk result (λ line. line.bits ≡ packed_frames P.f_bits P.PLAN.frames (bits_of payload.now) (length payload.now / 24)) }
 {
     let count = payload.len() / 24;
     let Some(capacity) = count.checked_mul(193) else {
@@ -77,33 +77,10 @@ fn pack_by<P: InSuperframe>(alloc: Global, payload: &[u8]) -> Result<Packed, All
     let mut sent = 0;
     let mut first = 0;
     while count - first >= frames {
-        sent = push_superframe::<P>(&mut line, payload, first, sent);
+        sent = push_superframe::<P>(&mut line, &payload[24 * first..], sent);
         first += frames;
     }
     Ok(line)
-}
-
-/// Appends the superframe that begins with the frame of this number and sends the word to the frames before it, and answers
-/// its own word.
-fn push_superframe<P: InSuperframe>(line: &mut Packed, payload: &[u8], first: usize, sent: u8) -> u8
-    requires whole { P.PLAN.frames * (first / P.PLAN.frames) ≡ first }
-    requires enough { 24 * first + 24 * P.PLAN.frames ≤ length payload.now }
-    requires room { 193 * first + 193 * P.PLAN.frames ≤ line.old.capacity }
-    requires before { line.old.bits ≡ packed_frames P.f_bits P.PLAN.frames payload.now first }
-    requires sends { sent ≡ sent_word P.PLAN.frames line.old.bits (first / P.PLAN.frames) }
-    ensures packed { line.new.bits ≡ packed_frames P.f_bits P.PLAN.frames payload.now (first + P.PLAN.frames) }
-    ensures sends { result ≡ sent_word P.PLAN.frames line.new.bits ((first + P.PLAN.frames) / P.PLAN.frames) }
-    ensures room { line.new.capacity ≡ line.old.capacity }
-{
-    let mut word = 0;
-    for place in 0..P::PLAN.frames {
-        let frame = first + place as usize;
-        let octets = &payload[24 * frame..24 * frame + 24];
-        line.push(packed_bit(P::f_bit(place as u8), sent, place));
-        line.append_bytes(octets);
-        word = crc6_after(with_bit(word, true), octets);
-    }
-    word
 }
 
 /// The first wrong frame of a line of whole superframes of a form, if one is wrong.

@@ -9,6 +9,7 @@ use Rattle.pdh_shape.specs.Frame.{FrameShape}
 use Rattle.pdh_shape.specs.OwnNumbers.{most_frames, most_slots}
 use Rattle.pdh_shape.specs.declared.place.Path.{Path}
 use Rattle.pdh_shape.specs.declared.place.Place.{Place}
+use Rattle.pdh_line.specs.Sending.Mode.{Plain}
 use Rattle.pdh_line.specs.Events.{Event}
 use Rattle.pdh_line.proofs.SentFrames.{length-front}
 use Rattle.pdh_edge.specs.Files.{Rose}
@@ -89,12 +90,12 @@ one_list (suc k) h = absurd (let less : suc k < 1 = ltb-true _ _ h in omega arit
 
 -- it has room for what is put
 pub in_room : (chain : Chain) (rows : List Row) (frames room k : ℕ) (inputs inputs_now : Inputs) (outputs outputs_now : Outputs) → outputs ≡ outputs_of ([] ∷ []) → outputs_now.holds ≡ outputs.holds → frames * top_len (shapes_of chain) < room
-    → PutsPrefix (shapes_of chain) (counts rows) (says_of None) (frame_count rows) frames inputs inputs_now outputs outputs_now → IsTrue (outputs_now.holds k) → (k ≡ 0) × (bits_held outputs_now k < room)
+    → PutsPrefix Plain (shapes_of chain) (counts rows) (says_of None) (frame_count rows) frames inputs inputs_now outputs outputs_now → IsTrue (outputs_now.holds k) → (k ≡ 0) × (bits_held outputs_now k < room)
 in_room chain rows frames room k inputs inputs_now outputs outputs_now opened holds enough put held =
     let is : IsTrue (nat_lt k 1) = subst IsTrue (ap (λ h. h k) holds ∙ ap (λ (o : Outputs). o.holds k) opened) held in
     let first : k ≡ 0 = one_list k is in
     let empty : bits_held outputs 0 ≡ 0 = ap (λ (o : Outputs). bits_held o 0) opened in
-    let most = mux_short (shapes_of chain) (counts rows) (says_of None) (frame_count rows) frames inputs inputs_now outputs outputs_now put 0 in
+    let most = mux_short Plain (shapes_of chain) (counts rows) (says_of None) (frame_count rows) frames inputs inputs_now outputs outputs_now put 0 in
     (first, subst (λ k. bits_held outputs_now k < room) (sym first) (omega (arith, most, empty, enough)))
 
 -- ---- the leaves' lists
@@ -132,10 +133,10 @@ line_sent chain seed frames clock leaves line inputs inputs_now outputs outputs_
     let shapes : List FrameShape = shapes_of chain in
     let lists : ℕ → List Bool = input_of chain seed frames in
     let empty : outputs.told 0 ≡ Some [] = ap (λ (o : Outputs). o.told 0) outputs_are in
-    let put : Some line ≡ Some (frames_of_line shapes (counts clock.rows) (says_of None) lists frames) =
-    sym now ∙ sent.line.puts lists agrees 0 ∙ ap (after (frames_of_line shapes (counts clock.rows) (says_of None) lists frames)) empty in
-    let made : line ≡ frames_of_line shapes (counts clock.rows) (says_of None) lists frames = cc in
-    made ∙ ap (λ c. frames_of_line shapes c (says_of None) lists frames) is.counts_are
+    let put : Some line ≡ Some (frames_of_line Plain shapes (counts clock.rows) (says_of None) lists frames) =
+    sym now ∙ sent.line.puts lists agrees 0 ∙ ap (after (frames_of_line Plain shapes (counts clock.rows) (says_of None) lists frames)) empty in
+    let made : line ≡ frames_of_line Plain shapes (counts clock.rows) (says_of None) lists frames = cc in
+    made ∙ ap (λ c. frames_of_line Plain shapes c (says_of None) lists frames) is.counts_are
   where
     agrees : (k i : ℕ) → k < width (shapes_of chain) → i < length (sent.line.given k) → slice_index_or (sent.line.given k) i false ≡ slice_index_or (input_of chain seed frames k) i false
     agrees k i low h =

@@ -5,6 +5,7 @@ use Rattle.std.specs.Bool.{beq}
 use Rattle.std.specs.List.{range_with_len, slice_index_or, starts_with}
 use Rattle.pdh_clock.specs.Made.{made}
 use Rattle.pdh_clock.specs.declared.bias.Bias.TheVariants.{Mixed}
+use Rattle.pdh_line.specs.Sending.Mode.{Plain}
 use Rattle.pdh_line.specs.Nodes.{Counts}
 use Rattle.pdh_nesting.specs.Chains.{top_len}
 use Rattle.pdh_nesting.specs.Sending.{entered_below}
@@ -35,7 +36,7 @@ input_of chain seed frames leaf = pattern seed leaf (entered_of chain frames lea
 
 -- the line of these leaves, whose top's frames are idle
 unfoldable pub line_of : Chain → ℕ → ℕ → List Bool
-line_of chain seed frames = frames_of_line (shapes_of chain) (made_counts chain frames) (says_of None) (input_of chain seed frames) frames
+line_of chain seed frames = frames_of_line Plain (shapes_of chain) (made_counts chain frames) (says_of None) (input_of chain seed frames) frames
 
 -- what a leaf receives of this line
 unfoldable pub output_of : Chain → ℕ → ℕ → ℕ → List Bool

@@ -2,6 +2,7 @@
 use Rattle.std.specs.Prelude.{◌≡◌, ℕ, ◌+◌, ◌-◌, ◌<◌, ◌≤◌, ◌^◌, Bool, max, if◌then◌else◌, IsTrue, IsNone, List, [], All, None, Some, length, slice_index_or}
 use Rattle.pdh_bits.specs.BitOut.{BoundedBits}
 use Rattle.pdh_edge.specs.Ports.{Inputs, Outputs}
+use Rattle.pdh_line.specs.Sending.Mode.{Plain}
 use Rattle.pdh_nesting.specs.Receiving.{far}
 use Rattle.pdh_clock.specs.Contents.{Contents, IsRowOf, counts, frame_count}
 use Rattle.pdh_clock.specs.Begun.{shortage}
@@ -33,7 +34,7 @@ pub record CanSend (chain : Chain) (frames : ℕ) (inputs : Inputs) : Type 0 whe
 -- all frames of the line were put
 abbrev pub IsSent : Chain → ℕ → Contents → Inputs → Inputs → Outputs → Outputs → Type 0
 IsSent chain frames clock inputs inputs_now outputs outputs_now =
-    Muxes (shapes_of chain) (counts clock.rows) (says_of None) (frame_count clock.rows) frames inputs inputs_now outputs outputs_now
+    Muxes Plain (shapes_of chain) (counts clock.rows) (says_of None) (frame_count clock.rows) frames inputs inputs_now outputs outputs_now
 
 -- list 0 has so many bits
 pub record HasLine (bits : ℕ) (inputs : Inputs) : Type 0 where

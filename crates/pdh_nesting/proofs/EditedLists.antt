@@ -1,5 +1,5 @@
 -- The edits of a list, place by place: where each edit fits the list that those before it left.
-use Rattle.std.proofs.Common.{◌≡◌, ℕ, ◌+◌, ◌-◌, ◌<◌, ◌≤◌, Bool, true, false, cond, ltb, List, [], ◌∷◌, ◌++◌, length, get_or, take, drop, replicate, slice_index_or, refl, sym, ap, ◌∙◌, subst, inl, inr, arith, length-append}
+use Rattle.std.proofs.Common.{◌≡◌, ℕ, ◌+◌, ◌-◌, ◌≤◌, Bool, true, false, cond, ltb, List, [], ◌∷◌, ◌++◌, length, get_or, take, drop, replicate, slice_index_or, refl, sym, ap, ◌∙◌, subst, inl, inr, arith, length-append}
 use Rattle.std.proofs.lemmas.Bool.{cases_lt, lt-ltb, le-ltb}
 use Rattle.std.proofs.lemmas.List.{length-take-le, length-drop, length-replicate, get_or-append_right, get_or_append_left, get_or-take, get_or-drop, get_or-replicate}
 use Rattle.pdh_line.specs.Edits.{half_store, Edit, edit_bits, edited, edit_list, edited_list}
@@ -108,7 +108,7 @@ one_edit edit bits room = go edit.over room
     go false room = under-list edit.place bits room
 
 -- edits of bits that are the same leave the same
-edited-same : (edits : List Edit) (f g : ℕ → Bool) → ((i : ℕ) → f i ≡ g i) → (i : ℕ) → edited edits f i ≡ edited edits g i
+pub edited-same : (edits : List Edit) (f g : ℕ → Bool) → ((i : ℕ) → f i ≡ g i) → (i : ℕ) → edited edits f i ≡ edited edits g i
 edited-same [] f g same i = same i
 edited-same (edit ∷ edits) f g same i = edited-same edits (edit_bits edit f) (edit_bits edit g) (one edit.over) i
   where

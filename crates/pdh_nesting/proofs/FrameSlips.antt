@@ -1,15 +1,12 @@
 -- The slips of a frame of a tributary, slot by slot.
-use Rattle.std.proofs.Common.{◌≡◌, ℕ, zero, suc, ◌+◌, ◌-◌, ◌*◌, ◌<◌, ◌≤◌, Bool, true, false, not, ◌&&◌, ◌||◌, cond, eqb, leb, List, [], ◌∷◌, ◌++◌, filter, refl, sym, ap, ◌∙◌, subst, inl, inr, arith, eq-eqb}
+use Rattle.std.proofs.Common.{◌≡◌, ℕ, zero, suc, ◌+◌, ◌-◌, Bool, true, false, not, ◌&&◌, ◌||◌, cond, eqb, leb, List, [], ◌∷◌, ◌++◌, filter, refl, sym, ap, ◌∙◌, subst, arith, eq-eqb}
 use Rattle.std.specs.Prelude.{count_by}
-use Rattle.std.proofs.lemmas.Bool.{leb-true, leb-false, cases_Bool}
 use Rattle.std.proofs.lemmas.List.Sums.{sum_by-cons}
-use Rattle.pdh_shape.specs.Frame.{FrameShape, IsFrame}
-use Rattle.pdh_shape.specs.Tributary.{reads_from, reads_below}
-use Rattle.pdh_shape.specs.OwnNumbers.{lead, store_size}
+use Rattle.pdh_shape.specs.Frame.{FrameShape}
+use Rattle.pdh_shape.specs.Tributary.{reads_from}
+use Rattle.pdh_shape.specs.OwnNumbers.{store_size}
 use Rattle.pdh_line.specs.Edits.{half_store}
 use Rattle.pdh_line.specs.Sending.{Slip, arrived_in, arrives_at, slips_from, shifted}
-use Rattle.pdh_line.proofs.Ranges.{and_true}
-use Rattle.pdh_line.proofs.SendingLaws.{reads_below-suc}
 use Rattle.pdh_nesting.proofs.Orders.{Each}
 
 -- ---- the slips of a kind in a slot

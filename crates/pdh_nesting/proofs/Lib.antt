@@ -14,6 +14,7 @@ pub mod Delay
 pub mod Orders
 pub mod FrameSlips
 pub mod SlipOnce
+pub mod FewEvents
 pub mod QuietSlips
 pub mod CarriedSlips
 pub mod EditedLists
@@ -21,6 +22,7 @@ pub mod StoredSlips
 pub mod SlipParts
 pub mod SlippedLeaves
 pub mod WithoutSlips
+pub mod SameInputs
 pub mod Keys
 pub mod KeyedEvents
 pub mod StepOrder

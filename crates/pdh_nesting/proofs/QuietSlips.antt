@@ -8,7 +8,7 @@ use Rattle.pdh_shape.specs.Frame.{FrameShape, IsFrame}
 use Rattle.pdh_shape.specs.Tributary.{reads_from}
 use Rattle.pdh_shape.specs.OwnNumbers.{lead, store_size}
 use Rattle.pdh_line.specs.Progress.{arrived}
-use Rattle.pdh_line.specs.Edits.{half_store, Edit, edit_bits, edited}
+use Rattle.pdh_line.specs.Edits.{half_store, Edit, edited}
 use Rattle.pdh_line.specs.Sending.{HasStores, arrived_in, arrives_at, justifies, sent, sends_more, read_before, Slip, Start, slips_from, slips_at, slips_in, carries_at, start_of, edits_in, edits_to}
 use Rattle.pdh_line.specs.Sending.Mode.{Slipping}
 use Rattle.pdh_line.specs.Events.{Kind, Event, overflows, underflows, IsQuiet, overflow_at, underflow_at}

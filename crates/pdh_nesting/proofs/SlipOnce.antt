@@ -8,7 +8,7 @@ use Rattle.pdh_line.specs.Progress.{arrived}
 use Rattle.pdh_line.specs.Sending.{Mode, Slip, Start, arrived_in, sends_more, slips_from, slips_in, start_of, carries_at, carriage}
 use Rattle.pdh_line.specs.Sending.Mode.{Plain, Slipping}
 use Rattle.pdh_line.specs.Events.{Event, overflows, underflows, one_if, overflow_at, underflow_at}
-use Rattle.pdh_line.specs.Events.Kind.{Overflow, Underflow}
+use Rattle.pdh_line.specs.Events.Kind.{Underflow}
 use Rattle.pdh_line.proofs.Ranges.{and_true}
 use Rattle.pdh_nesting.proofs.Orders.{Each}
 use Rattle.pdh_nesting.proofs.FrameSlips.{in_slot, each_if, over, under, one, put_in, gone_in, slip_in, rest_of}

@@ -1,6 +1,6 @@
 -- What a store holds in slip mode is a number of bits: no more are gone from it than were put in. So each edit of its tributary's
 -- bits fits a list that holds what was taken.
-use Rattle.std.proofs.Common.{◌≡◌, ℕ, zero, suc, ◌+◌, ◌-◌, ◌*◌, ◌<◌, ◌≤◌, Bool, true, false, not, ◌&&◌, ◌||◌, cond, eqb, leb, List, [], ◌∷◌, ◌++◌, map, refl, sym, ap, ◌∙◌, subst, arith}
+use Rattle.std.proofs.Common.{◌≡◌, ℕ, zero, suc, ◌+◌, ◌-◌, ◌<◌, ◌≤◌, Bool, true, false, not, ◌&&◌, ◌||◌, cond, eqb, leb, List, [], ◌∷◌, ◌++◌, map, refl, sym, ap, ◌∙◌, subst, arith}
 use Rattle.std.specs.Prelude.{flat_map}
 use Rattle.std.specs.List.{range_with_len}
 use Rattle.std.proofs.lemmas.Bool.{leb-true, leb-false}
@@ -14,7 +14,7 @@ use Rattle.pdh_line.specs.Edits.{half_store, Edit}
 use Rattle.pdh_line.specs.Sending.{HasStores, arrived_in, arrives_at, carried, came_before, Slip, slips_from, slips_in, shifted, carries_at, start_of, edits_in, edits_to}
 use Rattle.pdh_line.proofs.Ranges.{and_true, range_push}
 use Rattle.pdh_line.proofs.SendingLaws.{arrived_in-zero, arrived_in-all, arrived-suc, came_before_grows, reads_below-suc, reads_below-all}
-use Rattle.pdh_nesting.proofs.FrameSlips.{over, emptied, under, one, put_in, gone_in, slip_in, rest_of, dropped-next, added-next, shifted-some}
+use Rattle.pdh_nesting.proofs.FrameSlips.{over, emptied, one, put_in, gone_in, rest_of, dropped-next, added-next, shifted-some}
 use Rattle.pdh_nesting.proofs.EditedLists.{Fits, edited_len, fits-append, edited_len-append}
 
 -- ---- a frame

@@ -1,11 +1,11 @@
 -- Worked slips of chains, and what they do to the leaves, computed by the checker.
-use Rattle.std.specs.Prelude.{◌≡◌, ℕ, ◌*◌, Bool, true, false, ◌==◌, ◌&&◌, nat_le, nat_lt, if◌then◌else◌, List, [], ◌∷◌, ◌++◌, map, replicate, refl}
+use Rattle.std.specs.Prelude.{◌≡◌, ℕ, true, false, ◌==◌, ◌&&◌, nat_le, nat_lt, if◌then◌else◌, [], ◌∷◌, ◌++◌, map, replicate, refl}
 use Rattle.std.specs.List.{range_with_len}
 use Rattle.pdh_shape.specs.Frame.{idle}
 use Rattle.pdh_eframes.specs.Sets.{set_role}
 use Rattle.pdh_eframes.specs.Plans.{e2, e3}
 use Rattle.pdh_line.specs.Progress.{arrived}
-use Rattle.pdh_line.specs.Sending.Mode.{Plain, Slipping}
+use Rattle.pdh_line.specs.Sending.Mode.{Slipping}
 use Rattle.pdh_line.specs.Sending.{start_of, odd_before, line_bit}
 use Rattle.pdh_line.specs.Events.{Event}
 use Rattle.pdh_line.specs.Events.Kind.{Overflow, Underflow}
@@ -13,7 +13,7 @@ use Rattle.pdh_line.specs.Nodes.{Counts, leaf_node}
 use Rattle.pdh_nesting.specs.Chains.{numbers_of}
 use Rattle.pdh_nesting.specs.Sending.{Content, line_in, chain_line}
 use Rattle.pdh_nesting.specs.Events.{events_in}
-use Rattle.pdh_nesting.specs.Slips.{leaf_edits, slipped, is_above, slipped_back}
+use Rattle.pdh_nesting.specs.Slips.{leaf_edits, slipped, is_above}
 use Rattle.pdh_nesting.specs.StepOrder.{keyed_in}
 use Rattle.pdh_nesting.proofs.KnownChains.{locked_e2}
 use Rattle.pdh_nesting.proofs.WorkedEvents.{silent_first}

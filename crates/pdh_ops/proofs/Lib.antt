@@ -7,6 +7,9 @@ pub mod DisturbRun
 pub mod LineComes
 pub mod Completing
 pub mod DemuxFiles
+pub mod SmoothFiles
+pub mod SmoothRun
+pub mod MadeAgain
 pub mod ScheduleComes
 pub mod MuxComes
 pub mod Firsts
@@ -30,3 +33,8 @@ pub mod InspectWatched
 pub mod NeverFailing
 pub mod Stopping
 pub mod LineWorks
+pub mod ToldBehind
+pub mod SlipsComeBack
+pub mod MuxSlipRun
+pub mod LinePut
+pub mod FewSlips

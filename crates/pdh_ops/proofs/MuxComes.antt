@@ -15,7 +15,7 @@ use Rattle.pdh_answers.specs.Names.{schedule_name, leaf_name, name_of}
 use Rattle.pdh_answers.specs.Answer.{Answer, and_then}
 use Rattle.pdh_runner.specs.Reading.{HasLength, IsSizeStop}
 use Rattle.pdh_ops.specs.Schedules.{rows_of, frames_in}
-use Rattle.pdh_ops.specs.Commands.Mux.{mux_inputs, leaf_bits, bits_held, bits_needed, short_node, stop_of_shortage, short_leaf, muxed, muxing}
+use Rattle.pdh_ops.specs.Commands.Mux.{mux_inputs, leaf_bits, bits_held, bits_needed, short_node, stop_of_shortage, short_leaf, Job, muxed, making_line}
 use Rattle.pdh_runner.specs.Operation.{AreTold, OfInputs, AreHeld, all_held, Files, bytes_in}
 use Rattle.pdh_runner.specs.Performing.{with_stop}
 use Rattle.pdh_runner.specs.Refusing.{Refuses}
@@ -35,15 +35,15 @@ use Rattle.pdh_shape.specs.OwnNumbers.{most_frames}
 
 -- ---- the inputs as they are told
 
-schedule_told : (chain : Chain) (feac : Option ℕ) (state : ShelfState) (files : Files) → AreTold (muxing chain feac) state.told files → state.told schedule_name ≡ Known (files schedule_name)
-schedule_told chain feac state files told = told 0 (omega arith)
+schedule_told : (chain : Chain) (job : Job) (state : ShelfState) (files : Files) → AreTold (making_line chain job) state.told files → state.told schedule_name ≡ Known (files schedule_name)
+schedule_told chain job state files told = told 0 (omega arith)
 
-pub leaf_told : (chain : Chain) (feac : Option ℕ) (state : ShelfState) (files : Files) (k : ℕ) → k < leaves_of chain → AreTold (muxing chain feac) state.told files → state.told (leaf_name k) ≡ Known (files (leaf_name k))
-leaf_told chain feac state files k low told = told (suc k) (omega arith)
+pub leaf_told : (chain : Chain) (job : Job) (state : ShelfState) (files : Files) (k : ℕ) → k < leaves_of chain → AreTold (making_line chain job) state.told files → state.told (leaf_name k) ≡ Known (files (leaf_name k))
+leaf_told chain job state files k low told = told (suc k) (omega arith)
 
 -- what holds of inputs as they were told holds of them as they are told now
-pub of_inputs_since : (chain : Chain) (feac : Option ℕ) (P : Files → Type 0) (a b : ShelfState) → Looks a b → OfInputs (muxing chain feac) a P → OfInputs (muxing chain feac) b P
-of_inputs_since chain feac P a b looks holds files told = holds files (subst (λ (t : List ℕ → Told). AreTold (muxing chain feac) t files) looks.told told)
+pub of_inputs_since : (chain : Chain) (job : Job) (P : Files → Type 0) (a b : ShelfState) → Looks a b → OfInputs (making_line chain job) a P → OfInputs (making_line chain job) b P
+of_inputs_since chain job P a b looks holds files told = holds files (subst (λ (t : List ℕ → Told). AreTold (making_line chain job) t files) looks.told told)
 
 -- ---- inputs that aren't held
 
@@ -59,8 +59,8 @@ length_is state name bytes files known told = go (files name) (known.told (files
     go None e = absurd (cc)
     go (Some line) e = cc
 
-held_files : (chain : Chain) (feac : Option ℕ) (state : ShelfState) (files : Files) (n k : ℕ) → AreTold (muxing chain feac) state.told files → k < leaves_of chain → HasLength (leaf_name k) n state → is_none (files (leaf_name k)) ≡ false
-held_files chain feac state files n k told low known = is_held state (leaf_name k) n (files (leaf_name k)) known (leaf_told chain feac state files k low told)
+held_files : (chain : Chain) (job : Job) (state : ShelfState) (files : Files) (n k : ℕ) → AreTold (making_line chain job) state.told files → k < leaves_of chain → HasLength (leaf_name k) n state → is_none (files (leaf_name k)) ≡ false
+held_files chain job state files n k told low known = is_held state (leaf_name k) n (files (leaf_name k)) known (leaf_told chain job state files k low told)
 
 no_schedule : (chain : Chain) (files : Files) → files schedule_name ≡ None → all_held (mux_inputs chain) files ≡ Err (Missing Schedule)
 no_schedule chain files none = let e : is_none (files schedule_name) ≡ true = ap is_none none in rw e refl
@@ -82,37 +82,37 @@ every_leaf : (chain : Chain) (files : Files) → is_none (files schedule_name) �
 every_leaf chain files first each =
     held_by_leaves chain files None first (none_of_range (λ leaf. is_none (files (leaf_name leaf))) 0 (leaves_of chain) (λ i h h'. each i (omega arith)))
 
-comes_held : (chain : Chain) (feac : Option ℕ) (files : Files) (stop : Stop) → all_held (mux_inputs chain) files ≡ Err stop → ◌≡◌ {A = Answer} (Err stop) ((muxing chain feac).comes_to files)
-comes_held chain feac files stop e = sym (ap (λ r. and_then r (λ _. and_then (rows_of chain (bytes_in files schedule_name)) (muxed chain files))) e)
+comes_held : (chain : Chain) (job : Job) (files : Files) (stop : Stop) → all_held (mux_inputs chain) files ≡ Err stop → ◌≡◌ {A = Answer} (Err stop) ((making_line chain job).comes_to files)
+comes_held chain job files stop e = sym (ap (λ r. and_then r (λ _. and_then (rows_of chain (bytes_in files schedule_name)) (muxed chain job files))) e)
 
-pub schedule_size_refuses : (chain : Chain) (feac : Option ℕ) (a b : ShelfState) (stop : Stop) → IsSizeStop Schedule a b stop → Refuses (muxing chain feac) a b stop
-schedule_size_refuses chain feac a b stop cause =
-    size_refuses (muxing chain feac) Schedule 0 a b stop (omega arith) refl (λ files told i h. absurd (omega arith))
-    (λ missing files told. comes_held chain feac files (Missing Schedule) (no_schedule chain files (missing (files schedule_name) (schedule_told chain feac a files told)))) cause
+pub schedule_size_refuses : (chain : Chain) (job : Job) (a b : ShelfState) (stop : Stop) → IsSizeStop Schedule a b stop → Refuses (making_line chain job) a b stop
+schedule_size_refuses chain job a b stop cause =
+    size_refuses (making_line chain job) Schedule 0 a b stop (omega arith) refl (λ files told i h. absurd (omega arith))
+    (λ missing files told. comes_held chain job files (Missing Schedule) (no_schedule chain files (missing (files schedule_name) (schedule_told chain job a files told)))) cause
 
 -- the schedule and the leaves before one are held
-held_before : (chain : Chain) (feac : Option ℕ) (a : ShelfState) (schedule k : ℕ) (leaf : ℕ → ℕ) → k ≤ leaves_of chain → HasLength schedule_name schedule a → ((i : ℕ) → i < k → HasLength (leaf_name i) (leaf i) a) → OfInputs (muxing chain feac) a (AreHeld (muxing chain feac) (suc k))
-held_before chain feac a schedule k leaf upto first before files told zero h = is_held a schedule_name schedule (files schedule_name) first (schedule_told chain feac a files told)
-held_before chain feac a schedule k leaf upto first before files told (suc i) h = held_files chain feac a files (leaf i) i told (omega arith) (before i (omega arith))
+held_before : (chain : Chain) (job : Job) (a : ShelfState) (schedule k : ℕ) (leaf : ℕ → ℕ) → k ≤ leaves_of chain → HasLength schedule_name schedule a → ((i : ℕ) → i < k → HasLength (leaf_name i) (leaf i) a) → OfInputs (making_line chain job) a (AreHeld (making_line chain job) (suc k))
+held_before chain job a schedule k leaf upto first before files told zero h = is_held a schedule_name schedule (files schedule_name) first (schedule_told chain job a files told)
+held_before chain job a schedule k leaf upto first before files told (suc i) h = held_files chain job a files (leaf i) i told (omega arith) (before i (omega arith))
 
-pub leaf_size_refuses : (chain : Chain) (feac : Option ℕ) (a b : ShelfState) (schedule k : ℕ) (leaf : ℕ → ℕ) (stop : Stop) → k < leaves_of chain → HasLength schedule_name schedule a → ((i : ℕ) → i < k → HasLength (leaf_name i) (leaf i) a) →
-    IsSizeStop (Leaf k) a b stop → Refuses (muxing chain feac) a b stop
-leaf_size_refuses chain feac a b schedule k leaf stop low first before cause =
-    size_refuses (muxing chain feac) (Leaf k) (suc k) a b stop (omega arith) refl (held_before chain feac a schedule k leaf (omega arith) first before)
+pub leaf_size_refuses : (chain : Chain) (job : Job) (a b : ShelfState) (schedule k : ℕ) (leaf : ℕ → ℕ) (stop : Stop) → k < leaves_of chain → HasLength schedule_name schedule a → ((i : ℕ) → i < k → HasLength (leaf_name i) (leaf i) a) →
+    IsSizeStop (Leaf k) a b stop → Refuses (making_line chain job) a b stop
+leaf_size_refuses chain job a b schedule k leaf stop low first before cause =
+    size_refuses (making_line chain job) (Leaf k) (suc k) a b stop (omega arith) refl (held_before chain job a schedule k leaf (omega arith) first before)
     (λ missing files told.
-    comes_held chain feac files (Missing (Leaf k)) (no_leaf chain files k low (is_held a schedule_name schedule (files schedule_name) first (schedule_told chain feac a files told))
-    (λ i h. held_files chain feac a files (leaf i) i told (omega arith) (before i h)) (ap is_none (missing (files (leaf_name k)) (leaf_told chain feac a files k low told)))))
+    comes_held chain job files (Missing (Leaf k)) (no_leaf chain files k low (is_held a schedule_name schedule (files schedule_name) first (schedule_told chain job a files told))
+    (λ i h. held_files chain job a files (leaf i) i told (omega arith) (before i h)) (ap is_none (missing (files (leaf_name k)) (leaf_told chain job a files k low told)))))
     cause
 
-pub all_are_held : (chain : Chain) (feac : Option ℕ) (sizes : InputSizes) (a : ShelfState) → AreSizes chain sizes a → AllHeld chain a
-all_are_held chain feac sizes a are files told = every_leaf chain files (is_held a schedule_name sizes.schedule (files schedule_name) are.schedule (schedule_told chain feac a files told))
-    (λ i h. held_files chain feac a files (slice_index sizes.leaves i) i told h (are.leaf i h))
+pub all_are_held : (chain : Chain) (job : Job) (sizes : InputSizes) (a : ShelfState) → AreSizes chain sizes a → AllHeld chain a
+all_are_held chain job sizes a are files told = every_leaf chain files (is_held a schedule_name sizes.schedule (files schedule_name) are.schedule (schedule_told chain job a files told))
+    (λ i h. held_files chain job a files (slice_index sizes.leaves i) i told h (are.leaf i h))
 
-pub has_schedule : (chain : Chain) (feac : Option ℕ) (sizes : InputSizes) (a : ShelfState) → AreSizes chain sizes a → HasSchedule (muxing chain feac) 0 a
-has_schedule chain feac sizes a are = record {
+pub has_schedule : (chain : Chain) (job : Job) (sizes : InputSizes) (a : ShelfState) → AreSizes chain sizes a → HasSchedule (making_line chain job) 0 a
+has_schedule chain job sizes a are = record {
   known = omega arith;
   named = refl;
-  due = λ files told short. text_due (mux_inputs chain) files (all_are_held chain feac sizes a are files told) short;
+  due = λ files told short. text_due (mux_inputs chain) files (all_are_held chain job sizes a are files told) short;
   early = refl;
 }
 
@@ -124,28 +124,28 @@ text_held None bytes e = absurd (cc)
 text_held (Some text) bytes e = (text, refl)
 
 -- what `mux` comes to, by its schedule
-pub mux_begins : (chain : Chain) (feac : Option ℕ) (a : ShelfState) (bytes : ℕ) → AllHeld chain a → HasLength schedule_name bytes a → Begins chain (muxing chain feac) (muxed chain) a
-mux_begins chain feac a bytes held known files told =
-    let t = text_held (files schedule_name) bytes (known.told (files schedule_name) (schedule_told chain feac a files told)) in (
+pub mux_begins : (chain : Chain) (job : Job) (a : ShelfState) (bytes : ℕ) → AllHeld chain a → HasLength schedule_name bytes a → Begins chain (making_line chain job) (muxed chain job) a
+mux_begins chain job a bytes held known files told =
+    let t = text_held (files schedule_name) bytes (known.told (files schedule_name) (schedule_told chain job a files told)) in (
       t.0,
-      schedule_told chain feac a files told ∙ ap Known t.1,
-      ap (λ r. and_then r (λ _. and_then (rows_of chain (bytes_in files schedule_name)) (muxed chain files))) (held files told)
-          ∙ ap (λ (h : Option (List ℕ)). and_then (rows_of chain (unwrap_or h [])) (muxed chain files)) t.1,
+      schedule_told chain job a files told ∙ ap Known t.1,
+      ap (λ r. and_then r (λ _. and_then (rows_of chain (bytes_in files schedule_name)) (muxed chain job files))) (held files told)
+          ∙ ap (λ (h : Option (List ℕ)). and_then (rows_of chain (unwrap_or h [])) (muxed chain job files)) t.1,
     )
 
-pub has_rows : (chain : Chain) (feac : Option ℕ) (a : ShelfState) (bytes : ℕ) (rows : List Row) → HasLength schedule_name bytes a → RowsAre chain a (Ok rows) → HasRows chain a rows
-has_rows chain feac a bytes rows known are files told =
-    let t = text_held (files schedule_name) bytes (known.told (files schedule_name) (schedule_told chain feac a files told)) in
-    ap (λ (h : Option (List ℕ)). rows_of chain (unwrap_or h [])) t.1 ∙ are t.0 (schedule_told chain feac a files told ∙ ap Known t.1)
+pub has_rows : (chain : Chain) (job : Job) (a : ShelfState) (bytes : ℕ) (rows : List Row) → HasLength schedule_name bytes a → RowsAre chain a (Ok rows) → HasRows chain a rows
+has_rows chain job a bytes rows known are files told =
+    let t = text_held (files schedule_name) bytes (known.told (files schedule_name) (schedule_told chain job a files told)) in
+    ap (λ (h : Option (List ℕ)). rows_of chain (unwrap_or h [])) t.1 ∙ are t.0 (schedule_told chain job a files told ∙ ap Known t.1)
 
 -- ---- too many frames, or a leaf that is too short
 
-pub comes_muxed : (chain : Chain) (feac : Option ℕ) (a : ShelfState) (rows : List Row) (files : Files) → AllHeld chain a → HasRows chain a rows → AreTold (muxing chain feac) a.told files → (muxing chain feac).comes_to files ≡ muxed chain files rows
-comes_muxed chain feac a rows files held are told =
-    ap (λ r. and_then r (λ _. and_then (rows_of chain (bytes_in files schedule_name)) (muxed chain files))) (held files told) ∙ ap (λ r. and_then r (muxed chain files)) (are files told)
+pub comes_muxed : (chain : Chain) (job : Job) (a : ShelfState) (rows : List Row) (files : Files) → AllHeld chain a → HasRows chain a rows → AreTold (making_line chain job) a.told files → (making_line chain job).comes_to files ≡ muxed chain job files rows
+comes_muxed chain job a rows files held are told =
+    ap (λ r. and_then r (λ _. and_then (rows_of chain (bytes_in files schedule_name)) (muxed chain job files))) (held files told) ∙ ap (λ r. and_then r (muxed chain job files)) (are files told)
 
-held_is : (chain : Chain) (feac : Option ℕ) (sizes : InputSizes) (a : ShelfState) (files : Files) (k : ℕ) → k < leaves_of chain → AreSizes chain sizes a → AreTold (muxing chain feac) a.told files → bits_held files k ≡ 8 * slice_index sizes.leaves k
-held_is chain feac sizes a files k low are told = ap (λ n. 8 * n) (length_is a (leaf_name k) (slice_index sizes.leaves k) files (are.leaf k low) (leaf_told chain feac a files k low told))
+held_is : (chain : Chain) (job : Job) (sizes : InputSizes) (a : ShelfState) (files : Files) (k : ℕ) → k < leaves_of chain → AreSizes chain sizes a → AreTold (making_line chain job) a.told files → bits_held files k ≡ 8 * slice_index sizes.leaves k
+held_is chain job sizes a files k low are told = ap (λ n. 8 * n) (length_is a (leaf_name k) (slice_index sizes.leaves k) files (are.leaf k low) (leaf_told chain job a files k low told))
 
 -- leaf k is the first that is too short
 pub is_short_leaf : (chain : Chain) (files : Files) (rows : List Row) (k : ℕ) → k < leaves_of chain → ((i : ℕ) → i < k → nat_lt (bits_held files i) (bits_needed chain rows i) ≡ false)
@@ -165,22 +165,22 @@ unfolding short_leaf
 each_long chain files rows k none low =
     each_fails (λ leaf. nat_lt (bits_held files leaf) (bits_needed chain rows leaf)) 0 (leaves_of chain) k none (omega arith) (omega arith)
 
-pub long_enough : (chain : Chain) (feac : Option ℕ) (sizes : InputSizes) (a : ShelfState) (rows : List Row) (files : Files) (k : ℕ) → k < leaves_of chain → AreSizes chain sizes a → AreTold (muxing chain feac) a.told files → IsLong chain rows sizes k → nat_lt (bits_held files k) (bits_needed chain rows k) ≡ false
-long_enough chain feac sizes a rows files k low are told long = let e = held_is chain feac sizes a files k low are told in grind (arith, nat_tests)
+pub long_enough : (chain : Chain) (job : Job) (sizes : InputSizes) (a : ShelfState) (rows : List Row) (files : Files) (k : ℕ) → k < leaves_of chain → AreSizes chain sizes a → AreTold (making_line chain job) a.told files → IsLong chain rows sizes k → nat_lt (bits_held files k) (bits_needed chain rows k) ≡ false
+long_enough chain job sizes a rows files k low are told long = let e = held_is chain job sizes a files k low are told in grind (arith, nat_tests)
 
-short_comes : (chain : Chain) (feac : Option ℕ) (sizes : InputSizes) (a : ShelfState) (rows : List Row) (k have need : ℕ) (files : Files) → AreSizes chain sizes a → AreTold (muxing chain feac) a.told files → IsShort chain rows sizes k have need →
-    muxed chain files rows ≡ Err (Short (Leaf k) have need)
-short_comes chain feac sizes a rows k have need files are told short =
+short_comes : (chain : Chain) (job : Job) (sizes : InputSizes) (a : ShelfState) (rows : List Row) (k have need : ℕ) (files : Files) → AreSizes chain sizes a → AreTold (making_line chain job) a.told files → IsShort chain rows sizes k have need →
+    muxed chain job files rows ≡ Err (Short (Leaf k) have need)
+short_comes chain job sizes a rows k have need files are told short =
     let few : nat_lt most_frames (frames_in rows) ≡ false = let f = short.few in grind (arith, nat_tests) in
-    let e = held_is chain feac sizes a files k short.leaf are told in
+    let e = held_is chain job sizes a files k short.leaf are told in
     let have_is : bits_held files k ≡ have = e ∙ sym short.have_is in
     let here : nat_lt (bits_held files k) (bits_needed chain rows k) ≡ true = let f = short.short in let n = short.need_is in grind (arith, nat_tests) in
-    let first = is_short_leaf chain files rows k short.leaf (λ i h. long_enough chain feac sizes a rows files i (omega (arith, short.leaf)) are told (short.before i h)) here in
+    let first = is_short_leaf chain files rows k short.leaf (λ i h. long_enough chain job sizes a rows files i (omega (arith, short.leaf)) are told (short.before i h)) here in
     rw (few, short.scheduled, first) (ap (λ n. Err (Short (Leaf k) n (bits_needed chain rows k))) have_is ∙ ap (λ n. Err (Short (Leaf k) have n)) (sym short.need_is))
 
 -- a node is the first that is too short
-node_comes : (chain : Chain) (rows : List Row) (node : Path) (have need : ℕ) (files : Files) → IsShortNode chain rows node have need → muxed chain files rows ≡ Err (ShortNode node have need)
-node_comes chain rows node have need files short =
+node_comes : (chain : Chain) (job : Job) (rows : List Row) (node : Path) (have need : ℕ) (files : Files) → IsShortNode chain rows node have need → muxed chain job files rows ≡ Err (ShortNode node have need)
+node_comes chain job rows node have need files short =
     let few : nat_lt most_frames (frames_in rows) ≡ false = let f = short.few in grind (arith, nat_tests) in
     rw few (stops (short_node chain rows) _ short.first)
   where
@@ -188,17 +188,17 @@ node_comes chain rows node have need files short =
     stops None rest e = absurd (cc)
     stops (Some first) rest e = cc
 
-many_comes : (chain : Chain) (rows : List Row) (files : Files) → most_frames < frames_in rows → muxed chain files rows ≡ Err (ManyFrames (frames_in rows))
-many_comes chain rows files h = let many : nat_lt most_frames (frames_in rows) ≡ true = grind (arith, nat_tests) in rw many refl
+many_comes : (chain : Chain) (job : Job) (rows : List Row) (files : Files) → most_frames < frames_in rows → muxed chain job files rows ≡ Err (ManyFrames (frames_in rows))
+many_comes chain job rows files h = let many : nat_lt most_frames (frames_in rows) ≡ true = grind (arith, nat_tests) in rw many refl
 
-pub enough_refuses : (chain : Chain) (feac : Option ℕ) (sizes : InputSizes) (rows : List Row) (a b : ShelfState) (stop : Stop) → AreSizes chain sizes a → HasRows chain a rows → IsEnoughStop chain rows sizes stop → Refuses (muxing chain feac) a b stop
-enough_refuses chain feac sizes rows a b (ManyFrames n) are has cause = λ files told.
-    ap (λ m. Err (ManyFrames m)) cause.0 ∙ sym (comes_muxed chain feac a rows files (all_are_held chain feac sizes a are) has told ∙ many_comes chain rows files (subst (λ m. most_frames < m) cause.0 cause.1))
-enough_refuses chain feac sizes rows a b (ShortNode node have need) are has cause = λ files told.
-    sym (comes_muxed chain feac a rows files (all_are_held chain feac sizes a are) has told ∙ node_comes chain rows node have need files cause)
-enough_refuses chain feac sizes rows a b (Short (Leaf k) have need) are has cause = λ files told.
-    sym (comes_muxed chain feac a rows files (all_are_held chain feac sizes a are) has told ∙ short_comes chain feac sizes a rows k have need files are told cause)
-enough_refuses chain feac sizes rows a b stop are has cause = absurd cause
+pub enough_refuses : (chain : Chain) (job : Job) (sizes : InputSizes) (rows : List Row) (a b : ShelfState) (stop : Stop) → AreSizes chain sizes a → HasRows chain a rows → IsEnoughStop chain rows sizes stop → Refuses (making_line chain job) a b stop
+enough_refuses chain job sizes rows a b (ManyFrames n) are has cause = λ files told.
+    ap (λ m. Err (ManyFrames m)) cause.0 ∙ sym (comes_muxed chain job a rows files (all_are_held chain job sizes a are) has told ∙ many_comes chain job rows files (subst (λ m. most_frames < m) cause.0 cause.1))
+enough_refuses chain job sizes rows a b (ShortNode node have need) are has cause = λ files told.
+    sym (comes_muxed chain job a rows files (all_are_held chain job sizes a are) has told ∙ node_comes chain job rows node have need files cause)
+enough_refuses chain job sizes rows a b (Short (Leaf k) have need) are has cause = λ files told.
+    sym (comes_muxed chain job a rows files (all_are_held chain job sizes a are) has told ∙ short_comes chain job sizes a rows k have need files are told cause)
+enough_refuses chain job sizes rows a b stop are has cause = absurd cause
 
 -- they count nothing
 pub enough_counts : (chain : Chain) (rows : List Row) (sizes : InputSizes) (x y : Counts) (stop : Stop) → IsEnoughStop chain rows sizes stop → y ≡ x → y ≡ with_stop stop x
@@ -208,8 +208,8 @@ enough_counts chain rows sizes x y (Missing f) cause same = absurd cause
 enough_counts chain rows sizes x y stop cause same = same
 
 -- the bytes of a leaf's file that were read give its bits
-pub bits_are : (chain : Chain) (feac : Option ℕ) (a : ShelfState) (k : ℕ) (bytes : List ℕ) (files : Files) → k < leaves_of chain → Holds (a.told (leaf_name k)) bytes → AreTold (muxing chain feac) a.told files → leaf_bits files k ≡ bits_of bytes
-bits_are chain feac a k bytes files low holds told = ap (λ (h : Option (List ℕ)). bits_of (unwrap_or h [])) (holds (files (leaf_name k)) (leaf_told chain feac a files k low told))
+pub bits_are : (chain : Chain) (job : Job) (a : ShelfState) (k : ℕ) (bytes : List ℕ) (files : Files) → k < leaves_of chain → Holds (a.told (leaf_name k)) bytes → AreTold (making_line chain job) a.told files → leaf_bits files k ≡ bits_of bytes
+bits_are chain job a k bytes files low holds told = ap (λ (h : Option (List ℕ)). bits_of (unwrap_or h [])) (holds (files (leaf_name k)) (leaf_told chain job a files k low told))
 
 -- sizes that were answered are known after the files were looked at again
 pub sizes_since : (chain : Chain) (sizes : InputSizes) (a b : ShelfState) → Looks a b → AreSizes chain sizes a → AreSizes chain sizes b

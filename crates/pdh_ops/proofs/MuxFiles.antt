@@ -23,12 +23,13 @@ use Rattle.pdh_blocks.specs.Held.{AllDiffer}
 use Rattle.pdh_blocks.specs.Opened.{HasBytesFor}
 use Rattle.pdh_answers.specs.Names.{leaf_name, line_name, schedule_name, name_of}
 use Rattle.pdh_ops.specs.Schedules.{rows_of, frames_in}
-use Rattle.pdh_ops.specs.Commands.Mux.{short_node, bits_held, bits_needed, stop_of_kind, stop_of_event, event_of, muxed, muxing, mux_says}
+use Rattle.pdh_ops.specs.Commands.Mux.{short_node, bits_held, bits_needed, stop_of_kind, stop_of_event, event_of, Job, run_answer, muxed, making_line, mux_says}
+use Rattle.pdh_ops.specs.Commands.Mux.Job.{Plainly, WithSlips}
 use Rattle.pdh_runner.specs.Operation.{AreTold, OfInputs, reaches_outputs, IsReadDue, Files, bytes_in}
 use Rattle.pdh_runner.specs.Performing.{GoesOn}
 use Rattle.pdh_runner.specs.PortFiles.{HasBits, AreFiles, AreRead, opened_for, input_name}
 use Rattle.pdh_runner.specs.Running.{ArePrepared}
-use Rattle.pdh_ops.specs.MuxSteps.{AreSizes, AllHeld, HasRows, AreEnough, IsPlanned, AreLeafInputs, CanSend, CanMake, IsMuxPort, run_answer, entering}
+use Rattle.pdh_ops.specs.MuxSteps.{AreSizes, AllHeld, HasRows, AreEnough, IsPlanned, AreLeafInputs, CanSend, CanMake, IsMuxPort, entering}
 use Rattle.pdh_answers.specs.declared.file.File.{File}
 use Rattle.pdh_answers.specs.declared.file.File.TheVariants.{Line, Leaf as LeafFile}
 use Rattle.pdh_ops.specs.declared.commands.mux.InputSizes.{InputSizes}
@@ -39,13 +40,13 @@ use Rattle.pdh_ops.proofs.OutputNames.{numbered, numbered_at, numbered_differ, l
 use Rattle.pdh_runner.proofs.PortOpen.{open_for, long_has, told_read, left_read, holds_read, holds_written}
 use Rattle.pdh_shape.specs.OwnNumbers.{most_frames}
 
-told_now : (chain : Chain) (feac : Option ℕ) (a b : ShelfState) (files : Files) → Looks a b → AreTold (muxing chain feac) a.told files → AreTold (muxing chain feac) b.told files
-told_now chain feac a b files looks told = subst (λ (t : List ℕ → Told). AreTold (muxing chain feac) t files) (sym looks.told) told
+told_now : (chain : Chain) (job : Job) (a b : ShelfState) (files : Files) → Looks a b → AreTold (making_line chain job) a.told files → AreTold (making_line chain job) b.told files
+told_now chain job a b files looks told = subst (λ (t : List ℕ → Told). AreTold (making_line chain job) t files) (sym looks.told) told
 
 -- ---- the answer
 
-runs_to : (chain : Chain) (files : Files) (rows : List Row) → frames_in rows ≤ most_frames → short_node chain rows ≡ None → ((i : ℕ) → i < leaves_of chain → nat_lt (bits_held files i) (bits_needed chain rows i) ≡ false) → muxed chain files rows ≡ run_answer chain rows
-runs_to chain files rows few scheduled long =
+runs_to : (chain : Chain) (job : Job) (files : Files) (rows : List Row) → frames_in rows ≤ most_frames → short_node chain rows ≡ None → ((i : ℕ) → i < leaves_of chain → nat_lt (bits_held files i) (bits_needed chain rows i) ≡ false) → muxed chain job files rows ≡ run_answer chain job rows
+runs_to chain job files rows few scheduled long =
     let test : nat_lt most_frames (frames_in rows) ≡ false = grind (arith, nat_tests) in
     rw (test, scheduled, no_short_leaf chain files rows long) refl
 
@@ -54,19 +55,24 @@ has_long : (bits : ℕ) (held : Option (List ℕ)) → HasBytesFor bits held →
 has_long bits None has = absurd has
 has_long bits (Some bytes) has = let few : (bits + 7) / 8 ≤ length bytes = has in grind (arith, nat_tests)
 
-pub planned_comes : (chain : Chain) (feac : Option ℕ) (plan : Plan) (b : ShelfState) (files : Files) → IsPlanned chain plan b → AreTold (muxing chain feac) b.told files → (muxing chain feac).comes_to files ≡ run_answer chain plan.clock.rows
-planned_comes chain feac plan b files is told =
-    comes_muxed chain feac b plan.clock.rows files is.held is.rows_are told
-    ∙ runs_to chain files plan.clock.rows (let e = is.scheduled.frames_are in omega (arith, is.scheduled.few)) is.scheduled.enough
-    (λ i low. has_long (bits_needed chain plan.clock.rows i) (files (leaf_name i)) ((is.leaves_have i low).told (files (leaf_name i)) (leaf_told chain feac b files i low told)))
+pub planned_comes : (chain : Chain) (job : Job) (plan : Plan) (b : ShelfState) (files : Files) → IsPlanned chain plan b → AreTold (making_line chain job) b.told files → (making_line chain job).comes_to files ≡ run_answer chain job plan.clock.rows
+planned_comes chain job plan b files is told =
+    comes_muxed chain job b plan.clock.rows files is.held is.rows_are told
+    ∙ runs_to chain job files plan.clock.rows (let e = is.scheduled.frames_are in omega (arith, is.scheduled.few)) is.scheduled.enough
+    (λ i low. has_long (bits_needed chain plan.clock.rows i) (files (leaf_name i)) ((is.leaves_have i low).told (files (leaf_name i)) (leaf_told chain job b files i low told)))
 
 pub kind_reaches : (kind : Kind) (place : Place) → reaches_outputs (Err (stop_of_kind kind place)) ≡ true
 kind_reaches StoreOverflow place = refl
 kind_reaches StoreUnderflow place = refl
 
-reaches : (chain : Chain) (event : Option Event) (n : ℕ) → reaches_outputs (option_map_or (λ event. Err (stop_of_event event)) event (Ok (mux_says chain n))) ≡ true
-reaches chain None n = refl
-reaches chain (Some event) n = kind_reaches event.kind (place_of event)
+event_reaches : (chain : Chain) (event : Option Event) (n : ℕ) → reaches_outputs (option_map_or (λ event. Err (stop_of_event event)) event (Ok (mux_says chain n))) ≡ true
+event_reaches chain None n = refl
+event_reaches chain (Some event) n = kind_reaches event.kind (place_of event)
+
+-- whatever the line is made for
+reaches : (chain : Chain) (job : Job) (rows : List Row) → reaches_outputs (run_answer chain job rows) ≡ true
+reaches chain (Plainly feac) rows = event_reaches chain (event_of chain rows) (frames_in rows)
+reaches chain WithSlips rows = refl
 
 -- ---- the plan
 
@@ -114,27 +120,27 @@ module _ (chain : Chain) (rows : List Row) (reads : List Input) (are : AreLeafIn
   }
 
   -- they are read in the run, and due there
-  pub mux_reads : (feac : Option ℕ) (a : ShelfState) → GoesOn (muxing chain feac) a → AreRead (muxing chain feac) a reads
-  mux_reads feac a goes_on = record {
+  pub mux_reads : (job : Job) (a : ShelfState) → GoesOn (making_line chain job) a → AreRead (making_line chain job) a reads
+  mux_reads job a goes_on = record {
     input = λ k input here. let at = leaf_of k input here in (suc k, omega (arith, at.0), ap input_name at.1);
-    in_run = λ k input here. subst (λ (input : Input). (muxing chain feac).reads_in_run input.file ≡ true) (sym (leaf_of k input here).1) refl;
-    due = λ k input here. subst (λ (input : Input). OfInputs (muxing chain feac) a (IsReadDue (muxing chain feac) input.file)) (sym (leaf_of k input here).1) goes_on;
+    in_run = λ k input here. subst (λ (input : Input). (making_line chain job).reads_in_run input.file ≡ true) (sym (leaf_of k input here).1) refl;
+    due = λ k input here. subst (λ (input : Input). OfInputs (making_line chain job) a (IsReadDue (making_line chain job) input.file)) (sym (leaf_of k input here).1) goes_on;
   }
 
   -- the port is open for `mux`
-  pub mux_port : (feac : Option ℕ) (plan : Plan) (a b : ShelfState) (writes : List File) → plan.clock.rows ≡ rows → writes ≡ Line ∷ [] → Looks a b → b.counts ≡ a.counts → IsPlanned chain plan b → IsMuxPort chain feac rows a (opened_for b reads writes)
-  mux_port feac plan a b writes rows_are writes_are looks same is = record {
-    open_for = open_for (muxing chain feac) a b reads writes looks same goes_on (ap length writes_are) named;
-    rows_are = λ files told. subst (λ rows. rows_of chain (bytes_in files schedule_name) ≡ Ok rows) rows_are (is.rows_are files (told_now chain feac a b files looks told));
+  pub mux_port : (job : Job) (plan : Plan) (a b : ShelfState) (writes : List File) → plan.clock.rows ≡ rows → writes ≡ Line ∷ [] → Looks a b → b.counts ≡ a.counts → IsPlanned chain plan b → IsMuxPort chain job rows a (opened_for b reads writes)
+  mux_port job plan a b writes rows_are writes_are looks same is = record {
+    open_for = open_for (making_line chain job) a b reads writes looks same goes_on (ap length writes_are) named;
+    rows_are = λ files told. subst (λ rows. rows_of chain (bytes_in files schedule_name) ≡ Ok rows) rows_are (is.rows_are files (told_now chain job a b files looks told));
     comes = comes;
-    gives = λ files told k low. told_leaf files k low (leaf_told chain feac b files k low (told_now chain feac a b files looks told));
+    gives = λ files told k low. told_leaf files k low (leaf_told chain job b files k low (told_now chain job a b files looks told));
   }
     where
-      comes : OfInputs (muxing chain feac) a (λ files. (muxing chain feac).comes_to files ≡ run_answer chain rows)
-      comes files told = planned_comes chain feac plan b files is (told_now chain feac a b files looks told) ∙ ap (run_answer chain) rows_are
+      comes : OfInputs (making_line chain job) a (λ files. (making_line chain job).comes_to files ≡ run_answer chain job rows)
+      comes files told = planned_comes chain job plan b files is (told_now chain job a b files looks told) ∙ ap (run_answer chain job) rows_are
 
-      goes_on : GoesOn (muxing chain feac) a
-      goes_on files told = ap reaches_outputs (comes files told) ∙ reaches chain (event_of chain rows) (frames_in rows)
+      goes_on : GoesOn (making_line chain job) a
+      goes_on files told = ap reaches_outputs (comes files told) ∙ reaches chain job rows
 
       named : (k : ℕ) → k < 1 → slice_get (map name_of writes) k ≡ Some line_name
       named zero low = ap (λ (all : List File). slice_get (map name_of all) 0) writes_are
@@ -159,19 +165,20 @@ module _ (chain : Chain) (rows : List Row) (reads : List Input) (are : AreLeafIn
   }
 
 -- the port that a plan asks for
-pub mux_prepared : (chain : Chain) (feac : Option ℕ) (plan : Plan) (reads : List Input) → AreLeafInputs chain plan.clock.rows reads → (writes : List File) → writes ≡ Line ∷ [] → (b : ShelfState) → IsPlanned chain plan b → IfSome feac (λ code. code < 64)
-    → ArePrepared (muxing chain feac) (CanMake chain feac plan) (IsMuxPort chain feac plan.clock.rows) b reads writes
-mux_prepared chain feac plan reads are writes out b is code = record {
+pub mux_prepared : (chain : Chain) (job : Job) (feac : Option ℕ) (plan : Plan) (reads : List Input) → AreLeafInputs chain plan.clock.rows reads → (writes : List File) → writes ≡ Line ∷ [] → (b : ShelfState) → IsPlanned chain plan b → IfSome feac (λ code. code < 64)
+    → ArePrepared (making_line chain job) (CanMake chain feac plan) (IsMuxPort chain job plan.clock.rows) b reads writes
+mux_prepared chain job feac plan reads are writes out b is code = record {
   files = mux_files chain plan.clock.rows reads are plan b writes refl out is;
   port = record {
     fresh = refl;
     levels = is.scheduled.levels_are;
+    few = is.scheduled.few;
     code = code;
     sends = mux_can_send chain plan.clock.rows reads are plan b writes refl is;
     line = holds_written b reads writes 0 1 (ap length out) (lit< tt);
   };
   given = λ begun looks same.
-      let port = mux_port chain plan.clock.rows reads are feac plan begun b writes refl out looks same is in
-      record { open_for = port.open_for; due = mux_reads chain plan.clock.rows reads are feac begun port.open_for.goes_on; alone = tt };
-  lists = λ begun looks same. mux_port chain plan.clock.rows reads are feac plan begun b writes refl out looks same is;
+      let port = mux_port chain plan.clock.rows reads are job plan begun b writes refl out looks same is in
+      record { open_for = port.open_for; due = mux_reads chain plan.clock.rows reads are job begun port.open_for.goes_on; alone = tt };
+  lists = λ begun looks same. mux_port chain plan.clock.rows reads are job plan begun b writes refl out looks same is;
 }

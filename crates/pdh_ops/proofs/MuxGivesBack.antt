@@ -30,6 +30,7 @@ use Rattle.pdh_answers.specs.Names.{schedule_name, leaf_name}
 use Rattle.pdh_answers.specs.Answer.{Answer, and_then, status_of}
 use Rattle.pdh_ops.specs.Schedules.{rows_of, rows_or_stop, rows_in, frames_in}
 use Rattle.pdh_ops.specs.Commands.Mux.{mux_inputs, line_len, short_node, leaf_bits, bits_held, bits_needed, short_leaf, event_of, stop_of_event, stop_of_shortage, muxed, frames_made, mux_line, line_bytes, muxing, mux_says}
+use Rattle.pdh_ops.specs.Commands.Mux.Job.{Plainly}
 use Rattle.pdh_watch.specs.Monitors.{State}
 use Rattle.pdh_answers.specs.Lines.{IsTold}
 use Rattle.pdh_runner.specs.Performing.{Performs}
@@ -40,7 +41,7 @@ use Rattle.pdh_words.specs.declared.commands.Command.{Command}
 use Rattle.pdh_words.specs.declared.commands.Command.TheVariants.{Mux}
 use Rattle.pdh_answers.specs.declared.answer.Done.{Done}
 use Rattle.pdh_answers.specs.declared.answer.Stop.{Stop}
-use Rattle.pdh_answers.specs.declared.answer.Stop.TheVariants.{Memory, Usage, Read, Write, Missing, LongSchedule, BadRow, UnknownNode, CountOver, ShortNode, Short, Overflow, Underflow, ManyFrames, NoAlignment, NotWhole, LongScript, BadScriptRow, PastEnd}
+use Rattle.pdh_answers.specs.declared.answer.Stop.TheVariants.{Memory, Usage, Read, Write, Missing, LongSchedule, BadRow, UnknownNode, CountOver, ShortNode, Short, Overflow, Underflow, ManyFrames, NoAlignment, NotWhole, LongScript, BadScriptRow, PastEnd, Unheard}
 use Rattle.pdh_answers.specs.declared.file.File.TheVariants.{Leaf}
 use Rattle.pdh_chain.proofs.Scheduled.{arrive_singly}
 use Rattle.pdh_ops.proofs.MuxComes.{each_long}
@@ -71,6 +72,7 @@ stop_status (NotWhole n) = omega arith
 stop_status LongScript = omega arith
 stop_status (BadScriptRow l) = omega arith
 stop_status (PastEnd l) = omega arith
+stop_status Unheard = omega arith
 
 -- the frames are made without an event, by a schedule in which no node is short and from leaves that are long enough
 pub record IsDone (chain : Chain) (files : Files) (rows : List Row) : Type 0 where
@@ -78,8 +80,8 @@ pub record IsDone (chain : Chain) (files : Files) (rows : List Row) : Type 0 whe
   pub scheduled : short_node chain rows ≡ None
   pub long : (k : ℕ) → k < leaves_of chain → nat_lt (bits_held files k) (bits_needed chain rows k) ≡ false
 
-muxed_done : (chain : Chain) (files : Files) (rows : List Row) (done : Done) → ◌≡◌ {A = Answer} (Ok done) (muxed chain files rows) → IsDone chain files rows
-muxed_done chain files rows done h = go (nat_lt most_frames (frames_in rows)) (short_node chain rows) (short_leaf chain files rows) (event_of chain rows) refl refl refl h
+muxed_done : (chain : Chain) (feac : Option ℕ) (files : Files) (rows : List Row) (done : Done) → ◌≡◌ {A = Answer} (Ok done) (muxed chain (Plainly feac) files rows) → IsDone chain files rows
+muxed_done chain feac files rows done h = go (nat_lt most_frames (frames_in rows)) (short_node chain rows) (short_leaf chain files rows) (event_of chain rows) refl refl refl h
   where
     go : (many : Bool) (node : Option Shortage) (short : Option ℕ) (event : Option Event) → short_node chain rows ≡ node → short_leaf chain files rows ≡ short → event_of chain rows ≡ event →
         ◌≡◌ {A = Answer} (Ok done) (cond many (Err (ManyFrames (frames_in rows)))
@@ -99,14 +101,14 @@ pub record DidMux (chain : Chain) (files : Files) : Type 0 where
 pub mux_done : (chain : Chain) (feac : Option ℕ) (files : Files) (done : Done) → ◌≡◌ {A = Answer} (Ok done) ((muxing chain feac).comes_to files) → DidMux chain files
 mux_done chain feac files done h = by_rows (rows_of chain (bytes_in files schedule_name)) refl (by_held (all_held (mux_inputs chain) files) h)
   where
-    by_held : (r : Result (Unit {0}) Stop) → ◌≡◌ {A = Answer} (Ok done) (and_then r (λ _. and_then (rows_of chain (bytes_in files schedule_name)) (muxed chain files))) → ◌≡◌ {A = Answer} (Ok done) (and_then (rows_of chain (bytes_in files schedule_name)) (muxed chain files))
+    by_held : (r : Result (Unit {0}) Stop) → ◌≡◌ {A = Answer} (Ok done) (and_then r (λ _. and_then (rows_of chain (bytes_in files schedule_name)) (muxed chain (Plainly feac) files))) → ◌≡◌ {A = Answer} (Ok done) (and_then (rows_of chain (bytes_in files schedule_name)) (muxed chain (Plainly feac) files))
     by_held (Ok u) h = h
     by_held (Err stop) h = absurd (cc)
 
-    by_rows : (r : Result (List Row) Stop) → rows_of chain (bytes_in files schedule_name) ≡ r → ◌≡◌ {A = Answer} (Ok done) (and_then r (muxed chain files)) → DidMux chain files
+    by_rows : (r : Result (List Row) Stop) → rows_of chain (bytes_in files schedule_name) ≡ r → ◌≡◌ {A = Answer} (Ok done) (and_then r (muxed chain (Plainly feac) files)) → DidMux chain files
     by_rows (Ok rows) e h =
         let same : rows ≡ rows_in chain files = sym (ap (λ r. result_unwrap_or r []) e) in
-        record { rows = e ∙ ap Ok same; done = subst (IsDone chain files) same (muxed_done chain files rows done h) }
+        record { rows = e ∙ ap Ok same; done = subst (IsDone chain files) same (muxed_done chain feac files rows done h) }
     by_rows (Err stop) e h = absurd (cc)
 
 -- ---- the line

@@ -79,13 +79,13 @@ frames_before chain rows made whole event first met quiet begun within =
     ap (λ x. x / top_len (shapes_of chain)) least ∙ frame-is (top_len (shapes_of chain)) whole made begun within
 
 -- what stands in no bit's way is no event either
-pub clear_quiet : (chain : Chain) (rows : List Row) (size : ℕ → ℕ) (bits x : ℕ) → IsClear (shapes_of chain) (counts rows) (frame_count rows) size bits → x < bits → events_in Plain (shapes_of chain) (counts rows) [] x ≡ []
+pub clear_quiet : (chain : Chain) (rows : List Row) (size : ℕ → ℕ) (bits x : ℕ) → IsClear Plain (shapes_of chain) (counts rows) (frame_count rows) size bits → x < bits → events_in Plain (shapes_of chain) (counts rows) [] x ≡ []
 clear_quiet chain rows size bits x clear less =
     subst (λ o. Tells (Other (shapes_of chain) (counts rows) (frame_count rows) size [] 0 (suc x)) o (events_in Plain (shapes_of chain) (counts rows) [] x)) (clear x less)
     (chain_tells (shapes_of chain) (counts rows) (frame_count rows) size top [] 0 x (are_frames chain) (at_top (shapes_of chain) (few_shapes chain)))
 
 -- whole frames in whose way nothing stands are before the first event
-pub clear_before : (chain : Chain) (rows : List Row) (size : ℕ → ℕ) (whole : ℕ) → whole ≤ frames_in rows → IsClear (shapes_of chain) (counts rows) (frame_count rows) size (whole * top_len (shapes_of chain)) → whole ≤ frames_made chain rows
+pub clear_before : (chain : Chain) (rows : List Row) (size : ℕ → ℕ) (whole : ℕ) → whole ≤ frames_in rows → IsClear Plain (shapes_of chain) (counts rows) (frame_count rows) size (whole * top_len (shapes_of chain)) → whole ≤ frames_made chain rows
 unfolding frames_made
 clear_before chain rows size whole upto clear =
     let len = top_len (shapes_of chain) in

@@ -27,6 +27,7 @@ use Rattle.pdh_answers.specs.Names.{name_of, schedule_name}
 use Rattle.pdh_answers.specs.Answer.{Answer, and_then, status_of, stop_of_fault}
 use Rattle.pdh_ops.specs.Schedules.{rows_of, rows_or_stop, rows_in, frames_in}
 use Rattle.pdh_ops.specs.Commands.Mux.{mux_inputs, line_len, short_node, stop_of_shortage, leaf_bits, bits_held, bits_needed, short_leaf, event_of, stop_of_event, muxed, line_bytes, muxing, mux_says}
+use Rattle.pdh_ops.specs.Commands.Mux.Job.{Plainly}
 use Rattle.pdh_runner.specs.Operation.{AreTold, Files, bytes_in}
 use Rattle.pdh_watch.specs.Monitors.{State}
 use Rattle.pdh_answers.specs.Lines.{IsTold}
@@ -38,7 +39,7 @@ use Rattle.pdh_words.specs.declared.commands.Command.TheVariants.{Mux}
 use Rattle.pdh_answers.specs.declared.file.File.{File}
 use Rattle.pdh_answers.specs.declared.file.File.TheVariants.{Leaf}
 use Rattle.pdh_answers.specs.declared.answer.Stop.{Stop}
-use Rattle.pdh_answers.specs.declared.answer.Stop.TheVariants.{Memory, Usage, Read, Write, Missing, LongSchedule, BadRow, UnknownNode, CountOver, ShortNode, Short, Overflow, Underflow, ManyFrames, NoAlignment, NotWhole, LongScript, BadScriptRow, PastEnd}
+use Rattle.pdh_answers.specs.declared.answer.Stop.TheVariants.{Memory, Usage, Read, Write, Missing, LongSchedule, BadRow, UnknownNode, CountOver, ShortNode, Short, Overflow, Underflow, ManyFrames, NoAlignment, NotWhole, LongScript, BadScriptRow, PastEnd, Unheard}
 use Rattle.pdh_chain.proofs.Scheduled.{scheduled-fewer}
 use Rattle.pdh_ops.proofs.Scheduled.{all_scheduled}
 use Rattle.pdh_ops.proofs.MuxGivesBack.{DidMux, mux_done, frames_there, line_front, stop_status}
@@ -47,12 +48,12 @@ use Rattle.pdh_shape.specs.OwnNumbers.{most_frames}
 -- ---- no event
 
 -- where no node is short, each tributary is within the tolerance over the frames that its node begins
-all_within : (chain : Chain) (files : Files) → short_node chain (rows_in chain files) ≡ None → AreWithin chain files
+pub all_within : (chain : Chain) (files : Files) → short_node chain (rows_in chain files) ≡ None → AreWithin chain files
     → AllWithin (shapes_of chain) (counts (rows_in chain files)) [] (line_len chain (rows_in chain files))
 all_within chain files none within =
     scheduled-within (shapes_of chain) (counts (rows_in chain files)) (frame_count (rows_in chain files)) [] (line_len chain (rows_in chain files)) (all_scheduled chain (rows_in chain files) none) within
 
-within_none : (chain : Chain) (files : Files) → short_node chain (rows_in chain files) ≡ None → AreWithin chain files → event_of chain (rows_in chain files) ≡ None
+pub within_none : (chain : Chain) (files : Files) → short_node chain (rows_in chain files) ≡ None → AreWithin chain files → event_of chain (rows_in chain files) ≡ None
 unfolding event_of
 within_none chain files none within =
     first_event-none (shapes_of chain) (counts (rows_in chain files)) (frames_in (rows_in chain files)) (are_frames chain) (read_evenly chain) (all_within chain files none within)
@@ -63,8 +64,8 @@ names_event (Err (Overflow place)) = true
 names_event (Err (Underflow place)) = true
 names_event answer = false
 
-muxed_none : (chain : Chain) (files : Files) (rows : List Row) → (short_node chain rows ≡ None → event_of chain rows ≡ None) → names_event (muxed chain files rows) ≡ false
-muxed_none chain files rows none = go (nat_lt most_frames (frames_in rows)) (short_node chain rows) (short_leaf chain files rows) (event_of chain rows) none
+muxed_none : (chain : Chain) (feac : Option ℕ) (files : Files) (rows : List Row) → (short_node chain rows ≡ None → event_of chain rows ≡ None) → names_event (muxed chain (Plainly feac) files rows) ≡ false
+muxed_none chain feac files rows none = go (nat_lt most_frames (frames_in rows)) (short_node chain rows) (short_leaf chain files rows) (event_of chain rows) none
   where
     go : (many : Bool) (node : Option Shortage) (short : Option ℕ) (event : Option Event) → (node ≡ None → event ≡ None) →
         names_event (cond many (Err (ManyFrames (frames_in rows)))
@@ -88,11 +89,11 @@ comes_none chain feac files none = by_held (find (λ file. is_none (files (name_
     by_fault NoMemory = refl
 
     by_rows : (r : Result (List Row) ScheduleFault) → (short_node chain (result_unwrap_or (rows_or_stop r) []) ≡ None → event_of chain (result_unwrap_or (rows_or_stop r) []) ≡ None)
-        → names_event (and_then (rows_or_stop r) (muxed chain files)) ≡ false
-    by_rows (Ok rows) e = muxed_none chain files rows e
+        → names_event (and_then (rows_or_stop r) (muxed chain (Plainly feac) files)) ≡ false
+    by_rows (Ok rows) e = muxed_none chain feac files rows e
     by_rows (Err fault) e = by_fault fault
 
-    by_held : (missing : Option File) → names_event (and_then (option_map_or (λ file. Err (Missing file)) missing (Ok (tt {0}))) (λ _. and_then (rows_of chain (bytes_in files schedule_name)) (muxed chain files))) ≡ false
+    by_held : (missing : Option File) → names_event (and_then (option_map_or (λ file. Err (Missing file)) missing (Ok (tt {0}))) (λ _. and_then (rows_of chain (bytes_in files schedule_name)) (muxed chain (Plainly feac) files))) ≡ false
     by_held (Some file) = refl
     by_held None = by_rows (schedule_of (levels_of chain) (bytes_in files schedule_name)) none
 
@@ -117,6 +118,7 @@ no_eight chain feac a b (NotWhole n) files eight cause told none = absurd (omega
 no_eight chain feac a b LongScript files eight cause told none = absurd (omega arith)
 no_eight chain feac a b (BadScriptRow l) files eight cause told none = absurd (omega arith)
 no_eight chain feac a b (PastEnd l) files eight cause told none = absurd (omega arith)
+no_eight chain feac a b Unheard files eight cause told none = absurd (omega arith)
 
 answer_no_event : (chain : Chain) (feac : Option ℕ) (a b : ShelfState) (k l : SinkState) (v : List State) (status : ℕ) (answer : Answer) → Performs (muxing chain feac) a b answer → IsTold v answer k l status → HasNoEvent (Some (Mux chain feac)) a status
 answer_no_event chain feac a b k l v status (Ok done) performs tells files told within eight = elim tells [ inl sent ↦ absurd (omega (arith, sent.0, eight)) | inr failed ↦ absurd (omega (arith, failed.0, eight)) ]

@@ -81,7 +81,8 @@ numbered_differ f n apart i j name here there =
     let same' : 0 + j ≡ j = omega arith in
     apart i j a.0 b.0 (ap f same ∙ sym a.1 ∙ b.1 ∙ ap f same')
 
-in_last : (names : List (List ℕ)) (last : List ℕ) (k : ℕ) (name : List ℕ) → slice_get (names ++ last ∷ []) k ≡ Some name → (slice_get names k ≡ Some name) ⊎ (name ≡ last)
+-- a name is among others or behind them
+pub in_last : (names : List (List ℕ)) (last : List ℕ) (k : ℕ) (name : List ℕ) → slice_get (names ++ last ∷ []) k ≡ Some name → (slice_get names k ≡ Some name) ⊎ (name ≡ last)
 in_last [] last zero name here = inr (sym (same_Some _ _ here))
 in_last [] last (suc k) name here = absurd (none-some name here)
 in_last (first ∷ names) last zero name here = inl here

@@ -5,22 +5,25 @@ pub mod Clock
 pub mod Inspect
 pub mod Disturb
 pub mod Drill
+pub mod Smooth
 use Rattle.pdh_words.specs.declared.commands.Command.{Command}
-use Rattle.pdh_words.specs.declared.commands.Command.TheVariants.{Demux as DemuxWords, Mux as MuxWords, ClockCheck, ClockMake, Inspect as InspectWords, InspectE1, Show, E1Pack, E1Unpack, Ds1Pack, Ds1Unpack, Disturb as DisturbWords, Drill as DrillWords}
+use Rattle.pdh_words.specs.declared.commands.Command.TheVariants.{Demux as DemuxWords, Mux as MuxWords, MuxSlip as MuxSlipWords, ClockCheck, ClockMake, Inspect as InspectWords, InspectE1, Show, E1Pack, E1Unpack, Ds1Pack, Ds1Unpack, Disturb as DisturbWords, Drill as DrillWords, Smooth as SmoothWords}
 use Rattle.pdh_runner.specs.Operation.{Operation}
 use Rattle.pdh_streams.specs.Codecs.{packing, unpacking}
 use Rattle.pdh_streams.specs.E1.{e1_codec}
 use Rattle.pdh_streams.specs.Ds1.{ds1_codec}
 use Rattle.pdh_ops.specs.Commands.Demux.{demuxing}
-use Rattle.pdh_ops.specs.Commands.Mux.{muxing}
+use Rattle.pdh_ops.specs.Commands.Mux.{muxing, muxing_slips}
 use Rattle.pdh_ops.specs.Commands.Clock.{checking, making}
 use Rattle.pdh_ops.specs.Commands.Inspect.{inspecting, inspecting_e1, showing}
 use Rattle.pdh_ops.specs.Commands.Disturb.{disturbing}
 use Rattle.pdh_ops.specs.Commands.Drill.{drilling}
+use Rattle.pdh_ops.specs.Commands.Smooth.{smoothing}
 
 abbrev pub operation_of : Command → Operation
 operation_of (DemuxWords chain bits) = demuxing chain bits
 operation_of (MuxWords chain feac) = muxing chain feac
+operation_of (MuxSlipWords chain) = muxing_slips chain
 operation_of (ClockCheck chain) = checking chain
 operation_of (ClockMake chain frames bias) = making chain frames bias
 operation_of (InspectWords chain bits) = inspecting chain bits
@@ -32,3 +35,4 @@ operation_of (Ds1Pack form) = packing (ds1_codec form)
 operation_of (Ds1Unpack form) = unpacking (ds1_codec form)
 operation_of (DisturbWords chain) = disturbing chain
 operation_of (DrillWords chain seed frames) = drilling chain seed frames
+operation_of (SmoothWords chain) = smoothing chain

@@ -9,6 +9,9 @@ pub mod GivesBack
 pub mod Rejoined
 pub mod Packs
 pub mod Tolerated
+pub mod Slips
+pub mod MadeAgain
 pub mod InTime
 pub mod ShowSteps
+pub mod SmoothSteps
 pub mod laws

@@ -1,7 +1,7 @@
 -- The steps of `mux`: what each finds, and why it stops.
-use Rattle.std.specs.Prelude.{◌≡◌, ℕ, ◌*◌, ◌<◌, ◌≤◌, List, Bool, Option, Some, None, Ok, Err, true, IsTrue, IfSome, All, map, take, slice_index}
+use Rattle.std.specs.Prelude.{◌≡◌, ℕ, ◌*◌, ◌<◌, ◌≤◌, List, Bool, Option, Some, None, Ok, true, IsTrue, IfSome, All, map, take, slice_index}
 use Rattle.std.specs.List.{range_with_len}
-use Rattle.std.specs.Option.{option_map, option_map_or}
+use Rattle.std.specs.Option.{option_map}
 use Rattle.pdh_edge.specs.Files.{ShelfState}
 use Rattle.pdh_edge.specs.Ports.{Inputs}
 use Rattle.pdh_blocks.specs.State.{PortState}
@@ -12,10 +12,9 @@ use Rattle.pdh_chain.specs.declared.chain.Chain.{Chain}
 use Rattle.pdh_clock.specs.Row.{Row}
 use Rattle.pdh_clock.specs.Contents.{IsRowOf}
 use Rattle.pdh_answers.specs.Names.{schedule_name, leaf_name}
-use Rattle.pdh_answers.specs.Answer.{Answer}
 use Rattle.pdh_runner.specs.Reading.{HasLength}
 use Rattle.pdh_ops.specs.Schedules.{rows_of, frames_in}
-use Rattle.pdh_ops.specs.Commands.Mux.{mux_inputs, leaf_bits, short_node, stop_of_shortage, bits_needed, event_of, stop_of_event, muxing, mux_says}
+use Rattle.pdh_ops.specs.Commands.Mux.{mux_inputs, leaf_bits, short_node, stop_of_shortage, bits_needed, Job, run_answer, muxing, making_line}
 use Rattle.pdh_runner.specs.Operation.{OfInputs, all_held, Files, bytes_in}
 use Rattle.pdh_runner.specs.PortFiles.{HasBits, IsOpenFor}
 use Rattle.pdh_answers.specs.declared.file.File.TheVariants.{Leaf}
@@ -103,25 +102,22 @@ pub record IsPlanned (chain : Chain) (plan : Plan) (state : ShelfState) : Type 0
   pub rows_are : HasRows chain state plan.clock.rows
   pub leaves_have : (k : ℕ) → k < leaves_of chain → HasBits (leaf_name k) (bits_needed chain plan.clock.rows k) state
 
--- what a line that nothing refuses before its run comes to: its first event, or all its frames
-abbrev pub run_answer : Chain → List Row → Answer
-run_answer chain rows = option_map_or (λ event. Err (stop_of_event event)) (event_of chain rows) (Ok (mux_says chain (frames_in rows)))
-
 -- the bits of leaf k's file that enter
 abbrev pub entering : Chain → List Row → Files → ℕ → List Bool
 entering chain rows files k = take (bits_needed chain rows k) (leaf_bits files k)
 
--- a port is open for `mux` with these rows: its lists give the bits that enter
-pub record IsMuxPort (chain : Chain) (feac : Option ℕ) (rows : List Row) (old : ShelfState) (port : PortState) : Type 0 where
-  pub open_for : IsOpenFor (muxing chain feac) old port
+-- a port is open for making a line of these rows: its lists give the bits that enter
+pub record IsMuxPort (chain : Chain) (job : Job) (rows : List Row) (old : ShelfState) (port : PortState) : Type 0 where
+  pub open_for : IsOpenFor (making_line chain job) old port
   pub rows_are : HasRows chain old rows
-  pub comes : OfInputs (muxing chain feac) old (λ files. (muxing chain feac).comes_to files ≡ run_answer chain rows)
-  pub gives : OfInputs (muxing chain feac) old (λ files. (k : ℕ) → k < leaves_of chain → (inputs_of port).told k ≡ Some (entering chain rows files k))
+  pub comes : OfInputs (making_line chain job) old (λ files. (making_line chain job).comes_to files ≡ run_answer chain job rows)
+  pub gives : OfInputs (making_line chain job) old (λ files. (k : ℕ) → k < leaves_of chain → (inputs_of port).told k ≡ Some (entering chain rows files k))
 
 -- a fresh port can send the line of a plan with this code, and has a list for it
 pub record CanMake (chain : Chain) (feac : Option ℕ) (plan : Plan) (port : PortState) : Type 0 where
   pub fresh : port.fresh ≡ true
   pub levels : plan.clock.levels ≡ levels_of chain
+  pub few : plan.frames ≤ most_frames
   pub code : IfSome feac (λ code. code < 64)
   pub sends : CanSend chain plan.clock.rows plan.frames (inputs_of port)
   pub line : IsTrue ((outputs_of port).holds 0)

@@ -1,46 +1,57 @@
 //! The commands: each in a file of its own, and the one place that tells them apart.
 
+mod apart;
 mod clock;
 mod demux;
 mod disturb;
 mod drill;
 mod inspect;
 mod mux;
+mod muxslip;
 mod show;
+mod smooth;
 
 ghost use Rattle.std.specs.Prelude.{◌≡◌, map};
 ghost use Rattle.std.specs.String.{string_bytes};
 ghost use Rattle.pdh_words.specs.Commands.{command_of};
-ghost use Rattle.pdh_ops.specs.Run.{Does, Watches};
+ghost use Rattle.pdh_answers.specs.SlipLines.{log_state};
+ghost use Rattle.pdh_ops.specs.Run.{Does, Watches, Hears};
 
-use pdh_answers::Stop;
-use pdh_edge::Shelf;
+use pdh_answers::{SinkLog, Stop};
+use pdh_edge::{Shelf, Sink};
 use pdh_runner::Ended;
-use pdh_streams::{Ds1, E1, pack_file, unpack_file};
+use pdh_streams::{pack_ds1, pack_e1, unpack_ds1, unpack_e1};
 use pdh_watch::Monitor;
 use pdh_words::{Command, command_for};
 use std::alloc::Global;
 
-/// Does what the words command.
-pub fn answer<S: Shelf>(
+/// Does what the words command, and tells the log the slips of `muxslip`.
+pub fn answer<S: Shelf, K: Sink>(
     alloc: Global,
     words: &[String],
     mut shelf: S,
     monitors: &mut Vec<Box<dyn Monitor>>,
+    log: &mut SinkLog<K>,
 ) -> Ended<S>
+    requires fresh { log.old.told ≡ 0 }
     ensures does { Does (command_of (map string_bytes words.now)) (S.state shelf) (S.state result.shelf) result.answer }
     ensures watches { Watches (command_of (map string_bytes words.now)) (S.state shelf) (S.state result.shelf) result.answer (map ⟦<Box<dyn Monitor> as Monitor>⟧.state monitors.old.items) (map ⟦<Box<dyn Monitor> as Monitor>⟧.state monitors.new.items) }
+    ensures hears { Hears (command_of (map string_bytes words.now)) (S.state shelf) result.answer (log_state (K.state log.old.out) log.old.told) (log_state (K.state log.new.out) log.new.told) }
 {
     let Some(command) = command_for(words) else {
         return Ended::new(shelf, Err(Stop::Usage));
     };
     match command {
-        Command::Demux { chain, bits } => demux::demux(alloc, chain, bits, shelf, monitors),
-        Command::Mux { chain, feac } => mux::mux(alloc, chain, feac, shelf, monitors),
-        Command::Inspect { chain, bits } => inspect::inspect(alloc, chain, bits, shelf, monitors),
-        Command::InspectE1 => inspect::inspect_e1(alloc, shelf, monitors),
-        Command::Show { chain, frame } => show::show(alloc, chain, frame, shelf, monitors),
-        Command::Disturb { chain } => disturb::disturb(alloc, chain, shelf, monitors),
+        Command::Demux { chain, bits } => demux::demux(alloc, chain, bits, shelf, monitors, log),
+        Command::Mux { chain, feac } => mux::mux(alloc, chain, feac, shelf, monitors, log),
+        Command::MuxSlip { chain } => muxslip::muxslip(alloc, chain, shelf, monitors, log),
+        Command::Inspect { chain, bits } => inspect::inspect(
+            alloc, chain, bits, shelf, monitors, log,
+        ),
+        Command::InspectE1 => inspect::inspect_e1(alloc, shelf, monitors, log),
+        Command::Show { chain, frame } => show::show(alloc, chain, frame, shelf, monitors, log),
+        Command::Smooth { chain } => smooth::smooth(alloc, chain, shelf, monitors, log),
+        Command::Disturb { chain } => disturb::disturb(alloc, chain, shelf, monitors, log),
         Command::ClockCheck { chain } => {
             let answer = clock::check(alloc, chain, &mut shelf);
             Ended::new(shelf, answer)
@@ -54,21 +65,15 @@ pub fn answer<S: Shelf>(
             Ended::new(shelf, answer)
         }
         Command::E1Pack => {
-            let answer = pack_file(alloc, &E1, &mut shelf);
+            let answer = pack_e1(alloc, &mut shelf);
             Ended::new(shelf, answer)
         }
         Command::E1Unpack => {
-            let answer = unpack_file(alloc, &E1, &mut shelf);
+            let answer = unpack_e1(alloc, &mut shelf);
             Ended::new(shelf, answer)
         }
-        Command::Ds1Pack { frame } => {
-            let answer = pack_file(alloc, &Ds1 { form: frame }, &mut shelf);
-            Ended::new(shelf, answer)
-        }
-        Command::Ds1Unpack { frame } => {
-            let answer = unpack_file(alloc, &Ds1 { form: frame }, &mut shelf);
-            Ended::new(shelf, answer)
-        }
+        Command::Ds1Pack { frame } => pack_ds1(alloc, frame, shelf, monitors, log),
+        Command::Ds1Unpack { frame } => unpack_ds1(alloc, frame, shelf, monitors, log),
         Command::Drill {
             chain,
             seed,

@@ -7,6 +7,7 @@ ghost use Rattle.pdh_blocks.specs.Kept.{Keeps};
 ghost use Rattle.pdh_chain.specs.declared.chain.Chain.{Chain};
 ghost use Rattle.pdh_answers.specs.Answer.{Answer};
 ghost use Rattle.pdh_answers.specs.declared.file.File.{File};
+ghost use Rattle.pdh_answers.specs.SlipLines.{log_state};
 ghost use Rattle.pdh_runner.specs.LineSteps.{CanRead, IsLinePort, ReadsLine};
 ghost use Rattle.pdh_runner.specs.Operation.{Operation};
 ghost use Rattle.pdh_runner.specs.Performing.{Performs, IsWatched};
@@ -14,10 +15,10 @@ ghost use Rattle.pdh_runner.specs.Running.{ComesOut, IsCountedBy, IsSeen};
 ghost use Rattle.pdh_runner.specs.Lines.{IsLine};
 ghost use Rattle.pdh_runner.specs.declared.port.Input.{Input};
 
-use pdh_answers::File;
+use pdh_answers::{File, SinkLog};
 use pdh_blocks::ShelfPort;
 use pdh_chain::Chain;
-use pdh_edge::Shelf;
+use pdh_edge::{Shelf, Sink};
 use pdh_runner::{Ended, Input, PortFiles, Work, Worked, line_of, run_over};
 use pdh_watch::Monitor;
 use std::alloc::{AllocError, Global};
@@ -84,28 +85,32 @@ impl<L: LineWork> Work for LinePlan<L> {
         PortFiles::line(alloc, self.line)
     }
 
-    fn work<S: Shelf>(
+    fn work<S: Shelf, K: Sink>(
         &self,
         alloc: Global,
         port: ShelfPort<S>,
         monitors: &mut Vec<Box<dyn Monitor>>,
+        _log: &mut SinkLog<K>,
     ) -> Worked<S> {
         self.work.read(alloc, self.line.bits, port, monitors)
     }
 }
 
 /// Finds the line and does a command's work over it; or the line is refused, as one that isn't there or has too many frames.
-pub fn run_line<L: LineWork, S: Shelf>(
+pub fn run_line<L: LineWork, S: Shelf, K: Sink>(
     alloc: Global,
     work: L,
     mut shelf: S,
     monitors: &mut Vec<Box<dyn Monitor>>,
+    log: &mut SinkLog<K>,
 ) -> Ended<S>
+    requires fresh { log.old.told ≡ 0 }
     ensures performs { Performs (L.operation work) (S.state shelf) (S.state result.shelf) result.answer }
     ensures watches { IsWatched (L.operation work) (S.state shelf) (S.state result.shelf) result.answer (map ⟦<Box<dyn Monitor> as Monitor>⟧.state monitors.old.items) (map ⟦<Box<dyn Monitor> as Monitor>⟧.state monitors.new.items) }
+    ensures hears { log_state (K.state log.new.out) log.new.told ≡ log_state (K.state log.old.out) log.old.told }
 {
     match line_of(work.chain(), work.file(), &mut shelf) {
-        Ok(line) => run_over(alloc, &LinePlan { work, line }, shelf, monitors),
+        Ok(line) => run_over(alloc, &LinePlan { work, line }, shelf, monitors, log),
         Err(stop) => Ended::new(shelf, Err(stop)),
     }
 }

@@ -16,13 +16,13 @@ use Rattle.pdh_answers.specs.Names.{name_of}
 use Rattle.pdh_answers.specs.Answer.{Answer}
 use Rattle.pdh_answers.specs.declared.file.File.{File}
 use Rattle.pdh_answers.specs.declared.answer.Stop.{Stop}
-use Rattle.pdh_answers.specs.declared.answer.Stop.TheVariants.{Memory, Read, Overflow, Underflow, NoAlignment}
+use Rattle.pdh_answers.specs.declared.answer.Stop.TheVariants.{Memory, Read, Overflow, Underflow, NoAlignment, Unheard}
 use Rattle.pdh_runner.specs.Operation.{Operation, View, IsOutput, reaches_outputs}
 use Rattle.pdh_runner.specs.Performing.{Comes, AreWhole, AreBegun, ChangesOnly, Performs, WatchedBy, IsWatched}
 use Rattle.pdh_runner.specs.PortFiles.{HasFiles, IsOpenFor, IsStopOf, PutsFront}
-use Rattle.pdh_runner.specs.Running.{IsAlone, IsGiven, AreStarted, IsDone, IsUnstarted, StopsReading, StopsWriting, IsSeen}
+use Rattle.pdh_runner.specs.Running.{IsAlone, IsGiven, AreStarted, IsDone, IsUnstarted, StopsReading, StopsWriting, StopsTelling, IsSeen}
 use Rattle.pdh_runner.specs.declared.port.Input.{Input}
-use Rattle.pdh_runner.specs.declared.running.Outcome.TheVariants.{Whole, Memory as NoMemory, Failed}
+use Rattle.pdh_runner.specs.declared.running.Outcome.TheVariants.{Whole, Memory as NoMemory, Failed, Unheard as LogFailed}
 use Rattle.pdh_runner.proofs.PortRun.{others, unfailed, whole, begun, out_of_memory, read_failed, reading_stops, write_failed, writing_stops, front_of_all, front_still, all_still}
 
 -- ---- files
@@ -62,6 +62,15 @@ module _ {operation : Operation} {a : ShelfState} {reads : List Input} {p q : Po
     | inl ready ↦ begun operation a p q given.open_for port kept ready puts
     | inr none ↦ λ i low. absurd (omega (arith, low, none))
   ]
+
+  -- the log failed
+  pub unheard_ends : IsPort q → StopsTelling operation a p q → Performs operation a q.shelf (Err Unheard)
+  unheard_ends port stops = record {
+    cause = (given.open_for.goes_on, stops.tells);
+    outputs = are_begun port stops.started stops.puts;
+    others = others operation a p q given.open_for port kept;
+    counted = unfailed operation a p q given.open_for port kept (stops.unread ∙ given.open_for.unread) (stops.unwritten ∙ given.open_for.unwritten);
+  }
 
   -- a call failed
   pub failed_ends : (writes : List File) (stop : Stop) → IsPort q → HasFiles reads writes q → IsStopOf reads writes q stop → StopsReading operation a p q ⊎ StopsWriting operation a p q → Performs operation a q.shelf (Err stop)
@@ -167,6 +176,14 @@ memory_seen (Some view) operation a b q before after seen = seen
 
 pub memory_watched : (operation : Operation) (a b : ShelfState) (q : PortState) (before after : List State) → IsSeen operation.shows operation a q NoMemory before after → IsWatched operation a b (Err Memory) before after
 memory_watched operation a b q before after seen = memory_seen operation.shows operation a b q before after seen
+
+-- or the log failed
+unheard_seen : (view : Option View) (operation : Operation) (a b : ShelfState) (q : PortState) (before after : List State) → IsSeen view operation a q LogFailed before after → WatchedBy view operation a b (Err Unheard) before after
+unheard_seen None operation a b q before after seen = seen
+unheard_seen (Some view) operation a b q before after seen = seen
+
+pub unheard_watched : (operation : Operation) (a b : ShelfState) (q : PortState) (before after : List State) → IsSeen operation.shows operation a q LogFailed before after → IsWatched operation a b (Err Unheard) before after
+unheard_watched operation a b q before after seen = unheard_seen operation.shows operation a b q before after seen
 
 -- and a command that never had a port shows nothing
 same_seen : (view : Option View) (operation : Operation) (a b : ShelfState) (before after : List State) → after ≡ before → WatchedBy view operation a b (Err Memory) before after

@@ -11,3 +11,4 @@ pub mod LineStops
 pub mod OneOutput
 pub mod OneInput
 pub mod LineRun
+pub mod Heard

@@ -10,7 +10,7 @@ use Rattle.pdh_runner.specs.Performing.{Comes, FailsInTurn, FailsEarly, with_sto
 use Rattle.pdh_runner.specs.Refusing.{Refuses}
 use Rattle.pdh_answers.specs.declared.file.File.{File}
 use Rattle.pdh_answers.specs.declared.answer.Stop.{Stop}
-use Rattle.pdh_answers.specs.declared.answer.Stop.TheVariants.{Memory, Usage, Read, Write, Missing, Overflow, Underflow, NoAlignment}
+use Rattle.pdh_answers.specs.declared.answer.Stop.TheVariants.{Memory, Usage, Read, Write, Missing, Overflow, Underflow, NoAlignment, Unheard}
 use Rattle.pdh_runner.proofs.Touching.{read_fails_since}
 use Rattle.pdh_runner.proofs.Causes.{looks_others}
 
@@ -49,6 +49,7 @@ refuses_since operation a b c (Write file) looks same cause = absurd cause
 refuses_since operation a b c (Overflow p) looks same cause = absurd cause
 refuses_since operation a b c (Underflow p) looks same cause = absurd cause
 refuses_since operation a b c (NoAlignment n) looks same cause = absurd cause
+refuses_since operation a b c Unheard looks same cause = absurd cause
 refuses_since operation a b c stop looks same cause = comes_before operation a b _ looks cause
 
 -- it ends the command
@@ -60,6 +61,7 @@ refuses_performs operation a b (Write file) looks cause counted = absurd cause
 refuses_performs operation a b (Overflow p) looks cause counted = absurd cause
 refuses_performs operation a b (Underflow p) looks cause counted = absurd cause
 refuses_performs operation a b (NoAlignment n) looks cause counted = absurd cause
+refuses_performs operation a b Unheard looks cause counted = absurd cause
 refuses_performs operation a b stop looks cause counted = record { cause = cause; outputs = looks.told; others = looks_others (IsOutput operation) a b looks; counted = counted }
 
 -- ---- why a size isn't known, and why bytes aren't read

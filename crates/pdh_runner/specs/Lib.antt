@@ -7,3 +7,4 @@ pub mod Lines
 pub mod PortFiles
 pub mod Running
 pub mod LineSteps
+pub mod Hearing

@@ -38,6 +38,7 @@ pub record ReadsLine (operation : Operation) (file : File) (chain : Chain) (next
   pub in_run : operation.reads_in_run file ≡ true
   pub no_outputs : operation.outputs.count ≡ 0
   pub shows : (view : View) → operation.shows ≡ Some view → file ≡ view.file
+  pub tells : operation.tells ≡ None
 
 -- ---- its port
 

@@ -1,9 +1,10 @@
--- A command as a record: what it reads and writes, what it comes to, and what it shows to the monitors.
+-- A command as a record: what it reads and writes, what it comes to, and what it shows to the monitors and tells a log.
 use Rattle.std.specs.Prelude.{◌≡◌, ℕ, ◌<◌, List, [], Bool, true, false, find, is_none, unwrap_or, Option, Result, Ok, Err}
 use Rattle.std.specs.Option.{option_map_or}
 use Rattle.pdh_edge.specs.Files.{Told, ShelfState}
 use Rattle.pdh_edge.specs.Files.Told.{Known}
 use Rattle.pdh_watch.specs.declared.event.Event.{Event}
+use Rattle.pdh_slips.specs.declared.slip.Slip.{Slip}
 use Rattle.pdh_answers.specs.Names.{name_of}
 use Rattle.pdh_answers.specs.Answer.{Answer}
 use Rattle.pdh_answers.specs.declared.file.File.{File}
@@ -45,6 +46,8 @@ pub record Operation : Type 0 where
   pub is_due : File → Files → Bool
   -- what it shows to the monitors
   pub shows : Option View
+  -- the slips that it tells a log, in order
+  pub tells : Option (Files → List Slip)
 
 -- ---- parts of records
 

@@ -1,5 +1,5 @@
 -- What a command does: why it answers, what it leaves of the files, and what the monitors see.
-use Rattle.std.specs.Prelude.{◌≡◌, ◌⊎◌, ℕ, ◌<◌, List, [], take, ⊤, true, false, Option, Some, Result, Ok, Err}
+use Rattle.std.specs.Prelude.{◌≡◌, ◌≢◌, ◌⊎◌, ℕ, ◌<◌, List, [], take, ⊤, true, false, Option, Some, None, Result, Ok, Err}
 use Rattle.pdh_bits.specs.Bits.{bits_of}
 use Rattle.pdh_edge.specs.Files.{ShelfState, Looks, Counts, with_read_fault, with_write_fault, with_miss, Range, FailsToRead, FailsToReadRange, FailsToWrite, Holds, HoldsPrefix, told_empty}
 use Rattle.pdh_edge.specs.declared.shelf.Call.TheVariants.{Size as SizeCall, Read as ReadCall, Start as StartCall, Append as AppendCall}
@@ -11,7 +11,7 @@ use Rattle.pdh_answers.specs.Answer.{Answer}
 use Rattle.pdh_runner.specs.Operation.{Operation, View, OfInputs, IsOutput, reaches_outputs, AreHeld, IsReadDue, Files, bytes_in}
 use Rattle.pdh_answers.specs.declared.file.File.{File}
 use Rattle.pdh_answers.specs.declared.answer.Stop.{Stop}
-use Rattle.pdh_answers.specs.declared.answer.Stop.TheVariants.{Memory, Usage, Read, Write, Missing, Overflow, Underflow, NoAlignment}
+use Rattle.pdh_answers.specs.declared.answer.Stop.TheVariants.{Memory, Usage, Read, Write, Missing, Overflow, Underflow, NoAlignment, Unheard}
 
 -- ---- why a command answers
 
@@ -32,12 +32,14 @@ pub record FailsInTurn (operation : Operation) (file : File) (old new : ShelfSta
   pub how : (FailsToRead SizeCall (name_of file) old new × OfInputs operation old (AreHeld operation at)) ⊎ (FailsToRead ReadCall (name_of file) old new × OfInputs operation old (IsReadDue operation file))
 
 -- Why a command stops. Want of memory has no cause here; a call that failed to read did so in its turn; one that failed to
--- write did so behind all steps that refuse the inputs; every other stop is what the inputs come to.
+-- write did so behind all steps that refuse the inputs, and so did a log that failed, of a command that has
+-- slips to tell; every other stop is what the inputs come to.
 abbrev pub IsCause : Operation → ShelfState → ShelfState → Stop → Type 0
 IsCause operation old new Memory = ⊤
 IsCause operation old new Usage = ⊥
 IsCause operation old new (Read file) = FailsInTurn operation file old new
 IsCause operation old new (Write file) = GoesOn operation old
+IsCause operation old new Unheard = GoesOn operation old × (operation.tells ≢ None)
 IsCause operation old new stop = Comes operation old (Err stop)
 
 abbrev pub HasCause : Operation → ShelfState → ShelfState → Answer → Type 0
@@ -121,8 +123,8 @@ abbrev pub AreLeftUnread : Operation → File → ShelfState → ShelfState → 
 AreLeftUnread operation file old new = (FailsEarly operation file old new × (new.told ≡ old.told)) ⊎ (FailsLate operation file old new × AreBegun operation old new)
 
 -- How an answer leaves the files. What was done, an event of a store and a line without an alignment leave whole outputs; a
--- call that failed to write leaves them cut, and so does one that failed to read in the run; every other stop leaves the files
--- as they were.
+-- call that failed to write leaves them cut, and so does one that failed to read in the run, and a log that failed; every other stop
+-- leaves the files as they were.
 abbrev pub AreLeft : Operation → ShelfState → ShelfState → Answer → Type 0
 AreLeft operation old new (Ok done) = AreWhole operation old new
 AreLeft operation old new (Err (Overflow place)) = AreWhole operation old new
@@ -130,6 +132,7 @@ AreLeft operation old new (Err (Underflow place)) = AreWhole operation old new
 AreLeft operation old new (Err (NoAlignment bits)) = AreWhole operation old new
 AreLeft operation old new (Err (Read file)) = AreLeftUnread operation file old new
 AreLeft operation old new (Err (Write file)) = AreCut operation file old new
+AreLeft operation old new (Err Unheard) = AreBegun operation old new
 AreLeft operation old new (Err stop) = new.told ≡ old.told
 
 -- all files but those with such names are told as before

@@ -3,7 +3,7 @@ use Rattle.std.specs.Prelude.{⊤, Err}
 use Rattle.pdh_edge.specs.Files.{ShelfState}
 use Rattle.pdh_runner.specs.Performing.{Comes, FailsInTurn, FailsEarly}
 use Rattle.pdh_answers.specs.declared.answer.Stop.{Stop}
-use Rattle.pdh_answers.specs.declared.answer.Stop.TheVariants.{Memory, Usage, Read, Write, Overflow, Underflow, NoAlignment}
+use Rattle.pdh_answers.specs.declared.answer.Stop.TheVariants.{Memory, Usage, Read, Write, Overflow, Underflow, NoAlignment, Unheard}
 use Rattle.pdh_runner.specs.Operation.{Operation}
 
 -- memory is wanting, a call failed to read in its turn and before the run, or the inputs come to this stop
@@ -15,4 +15,5 @@ Refuses operation old new (Write file) = ⊥
 Refuses operation old new (Overflow place) = ⊥
 Refuses operation old new (Underflow place) = ⊥
 Refuses operation old new (NoAlignment bits) = ⊥
+Refuses operation old new Unheard = ⊥
 Refuses operation old new stop = Comes operation old (Err stop)

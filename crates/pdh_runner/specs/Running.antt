@@ -16,7 +16,7 @@ use Rattle.pdh_runner.specs.Performing.{Comes, OfBeginning, SeeEvents}
 use Rattle.pdh_runner.specs.PortFiles.{AreFiles, AreRead, IsOpenFor, PutsAll, PutsFront, opened_for}
 use Rattle.pdh_runner.specs.declared.port.Input.{Input}
 use Rattle.pdh_runner.specs.declared.running.Outcome.{Outcome}
-use Rattle.pdh_runner.specs.declared.running.Outcome.TheVariants.{Whole, Memory, Failed}
+use Rattle.pdh_runner.specs.declared.running.Outcome.TheVariants.{Whole, Memory, Failed, Unheard}
 
 -- ---- what the work is given
 
@@ -73,9 +73,18 @@ pub record StopsWriting (operation : Operation) (begun : ShelfState) (old new : 
   pub left : IsReady new ⊎ IsRefused new
   pub puts : PutsFront operation begun (outputs_of new)
 
+-- the log of a command that has slips to tell failed, no call did, and what the outputs took is a prefix of what makes all their bytes
+pub record StopsTelling (operation : Operation) (begun : ShelfState) (old new : PortState) : Type 0 where
+  pub tells : operation.tells ≢ None
+  pub unread : new.feed_faults ≡ old.feed_faults
+  pub unwritten : new.drain_faults ≡ old.drain_faults
+  pub started : AreStarted operation new
+  pub puts : PutsFront operation begun (outputs_of new)
+
 abbrev pub ComesOut : Operation → ShelfState → PortState → PortState → Outcome → Type 0
 ComesOut operation begun old new (Whole answer) = IsDone operation begun old new answer
 ComesOut operation begun old new Memory = IsUnstarted old new
+ComesOut operation begun old new Unheard = StopsTelling operation begun old new
 ComesOut operation begun old new Failed = StopsReading operation begun old new ⊎ StopsWriting operation begun old new
 
 -- a call of the port was counted that failed, where the work stopped by one

@@ -7,6 +7,7 @@ ghost use Rattle.pdh_blocks.specs.Lists.{outputs_of};
 ghost use Rattle.pdh_blocks.specs.Kept.{Drains};
 ghost use Rattle.pdh_blocks.specs.Opened.{IsWritten};
 ghost use Rattle.pdh_answers.specs.Names.{name_of};
+ghost use Rattle.pdh_runner.specs.Hearing.{IsCallStop};
 ghost use Rattle.pdh_runner.specs.PortFiles.{AreFiles, AreSources, opened_for, HasFiles, IsStopAt, IsStopOf};
 
 use pdh_answers::{Done, File, Stop};
@@ -127,7 +128,8 @@ impl PortFiles {
     // How a call that failed for the file of this number ends the command.
     fn stop_at(&self, number: u32) -> Stop
         requires { number < length self.now.inputs.items + length self.now.outputs.items }
-        ensures { IsStopAt self.now.inputs.items self.now.outputs.items number result }
+        ensures at { IsStopAt self.now.inputs.items self.now.outputs.items number result }
+        ensures call { IsCallStop result }
     {
         let number = number as usize;
         let inputs = self.inputs.len();
@@ -142,7 +144,8 @@ impl PortFiles {
     pub fn stop<S: Shelf>(&self, port: &ShelfPort<S>) -> Stop
         requires files { HasFiles self.now.inputs.items self.now.outputs.items (over (S.state port.now.shelf) port.now.blocks) }
         requires failed { port.now.blocks.feed_faults + port.now.blocks.drain_faults ≢ 0 }
-        ensures { IsStopOf self.now.inputs.items self.now.outputs.items (over (S.state port.now.shelf) port.now.blocks) result }
+        ensures of { IsStopOf self.now.inputs.items self.now.outputs.items (over (S.state port.now.shelf) port.now.blocks) result }
+        ensures call { IsCallStop result }
     {
         match port.failed_name() {
             Some(number) => self.stop_at(number),
@@ -160,6 +163,7 @@ impl PortFiles {
         ensures part { OnErr result (PutsPart nothing (outputs_of (over (S.state port.old.shelf) port.old.blocks)) (outputs_of (over (S.state port.new.shelf) port.new.blocks))) }
         ensures cause { HasCause port.old.blocks.drain_faults port.new.blocks.drain_faults result }
         ensures err { IfErr result (IsStopOf self.now.inputs.items self.now.outputs.items (over (S.state port.new.shelf) port.new.blocks)) }
+        ensures call { IfErr result IsCallStop }
     {
         if port.finish().is_ok() {
             return Ok(());

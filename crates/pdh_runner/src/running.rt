@@ -5,15 +5,17 @@ ghost use Rattle.pdh_edge.specs.Files.{ShelfState};
 ghost use Rattle.pdh_watch.specs.Monitors.{State};
 ghost use Rattle.pdh_blocks.specs.State.{PortState, over};
 ghost use Rattle.pdh_blocks.specs.Kept.{Keeps};
+ghost use Rattle.pdh_answers.specs.SlipLines.{log_state};
 ghost use Rattle.pdh_runner.specs.Operation.{Operation};
 ghost use Rattle.pdh_runner.specs.PortFiles.{HasFiles};
 ghost use Rattle.pdh_runner.specs.Running.{IsGiven, ArePrepared, ComesOut, IsCountedBy, IsSeen};
+ghost use Rattle.pdh_runner.specs.Hearing.{LogsSlips, WorkLogsSlips, Ends};
 ghost use Rattle.pdh_runner.specs.Performing.{OfBeginning, Performs, IsWatched};
 
 use crate::port::{Ended, PortFiles};
-use pdh_answers::{Done, Stop};
+use pdh_answers::{Done, SinkLog, Stop};
 use pdh_blocks::ShelfPort;
-use pdh_edge::Shelf;
+use pdh_edge::{Shelf, Sink};
 use pdh_watch::Monitor;
 use std::alloc::{AllocError, Global};
 
@@ -26,6 +28,8 @@ pub enum Outcome {
     Memory,
     /// A call of the port failed.
     Failed,
+    /// The log of slips couldn't be told of one.
+    Unheard,
 }
 
 /// A port over which a command's work was done, and how it came out.
@@ -57,20 +61,24 @@ pub trait Work: Drop {
         ensures { IfOk result (λ files. (state : ShelfState) → planned self.now state
             → ArePrepared (operation self.now) (opened self.now) (gives self.now) state files.inputs.items files.outputs.items) };
 
-    /// Does the work, and shows the monitors what the command shows.
-    fn work<S: Shelf>(
+    /// Does the work, shows the monitors what the command shows, and tells the log what it tells.
+    fn work<S: Shelf, K: Sink>(
         &self,
         alloc: Global,
         port: ShelfPort<S>,
         monitors: &mut Vec<Box<dyn Monitor>>,
+        log: &mut SinkLog<K>,
     ) -> Worked<S>
-        requires { opened self.now (over (S.state port.shelf) port.blocks) }
+        requires opened { opened self.now (over (S.state port.shelf) port.blocks) }
+        requires fresh { log.old.told ≡ 0 }
         ensures kept { Keeps (over (S.state port.shelf) port.blocks) (over (S.state result.port.shelf) result.port.blocks) }
         ensures counted { IsCountedBy (over (S.state result.port.shelf) result.port.blocks) result.outcome }
         ensures comes { (begun : ShelfState) → gives self.now begun (over (S.state port.shelf) port.blocks)
             → ComesOut (operation self.now) begun (over (S.state port.shelf) port.blocks) (over (S.state result.port.shelf) result.port.blocks) result.outcome }
         ensures seen { (begun : ShelfState) → gives self.now begun (over (S.state port.shelf) port.blocks)
-            → IsSeen (operation self.now).shows (operation self.now) begun (over (S.state result.port.shelf) result.port.blocks) result.outcome (map ⟦<Box<dyn Monitor> as Monitor>⟧.state monitors.old.items) (map ⟦<Box<dyn Monitor> as Monitor>⟧.state monitors.new.items) };
+            → IsSeen (operation self.now).shows (operation self.now) begun (over (S.state result.port.shelf) result.port.blocks) result.outcome (map ⟦<Box<dyn Monitor> as Monitor>⟧.state monitors.old.items) (map ⟦<Box<dyn Monitor> as Monitor>⟧.state monitors.new.items) }
+        ensures heard { (begun : ShelfState) → gives self.now begun (over (S.state port.shelf) port.blocks)
+            → WorkLogsSlips (operation self.now) begun result.outcome (log_state (K.state log.old.out) log.old.told) (log_state (K.state log.new.out) log.new.told) };
 }
 
 // Appends what waits where the work was done, and answers how the command ends.
@@ -88,6 +96,7 @@ fn finished<S: Shelf>(
         → Keeps old (over (S.state port.old.shelf) port.old.blocks) → ComesOut operation begun old (over (S.state port.old.shelf) port.old.blocks) outcome
         → IsSeen operation.shows operation begun (over (S.state port.old.shelf) port.old.blocks) outcome before after
         → IsWatched operation begun (S.state port.new.shelf) result before after }
+    ensures ends { Ends outcome result }
 {
     match outcome {
         Outcome::Whole(answer) => {
@@ -96,26 +105,30 @@ fn finished<S: Shelf>(
         }
         Outcome::Memory => Err(Stop::Memory),
         Outcome::Failed => Err(files.stop(port)),
+        Outcome::Unheard => Err(Stop::Unheard),
     }
 }
 
 /// Does a command's work over a port of its files, where no step before refuses them.
-pub fn run_over<W: Work, S: Shelf>(
+pub fn run_over<W: Work, S: Shelf, K: Sink>(
     alloc: Global,
     work: &W,
     shelf: S,
     monitors: &mut Vec<Box<dyn Monitor>>,
+    log: &mut SinkLog<K>,
 ) -> Ended<S>
-    requires { W.planned work.now (S.state shelf) }
+    requires planned { W.planned work.now (S.state shelf) }
+    requires fresh { log.old.told ≡ 0 }
     ensures performs { OfBeginning (S.state shelf) (λ begun. Performs (W.operation work.now) begun (S.state result.shelf) result.answer) }
     ensures watches { OfBeginning (S.state shelf) (λ begun. IsWatched (W.operation work.now) begun (S.state result.shelf) result.answer (map ⟦<Box<dyn Monitor> as Monitor>⟧.state monitors.old.items) (map ⟦<Box<dyn Monitor> as Monitor>⟧.state monitors.new.items)) }
+    ensures hears { OfBeginning (S.state shelf) (λ begun. LogsSlips (W.operation work.now) begun result.answer (log_state (K.state log.old.out) log.old.told) (log_state (K.state log.new.out) log.new.told)) }
 {
     let Ok(files) = work.files(alloc) else {
         return Ended::new(shelf, Err(Stop::Memory));
     };
     match files.open(alloc, shelf) {
         Ok(port) => {
-            let Worked { mut port, outcome } = work.work(alloc, port, monitors);
+            let Worked { mut port, outcome } = work.work(alloc, port, monitors, log);
             let answer = finished(&files, &mut port, outcome);
             Ended::new(port.close(), answer)
         }

@@ -6,7 +6,7 @@ use Rattle.pdh_bits.specs.Bits.{bits_of, bytes_of}
 use Rattle.pdh_edge.specs.Ports.{Outputs, PrefixOf, after}
 use Rattle.pdh_edge.specs.MemLists.{outputs_of, length_of, bits_held}
 use Rattle.pdh_framed.specs.Taking.{Gains, GainsPart}
-use Rattle.pdh_streams.specs.declared.codec.Unpacked.{Unpacked}
+use Rattle.pdh_streams.specs.declared.delivering.Unpacked.{Unpacked}
 use Rattle.pdh_streams.specs.Codecs.{FrameCodec, unpacked_payload, found_in}
 use Rattle.pdh_streams.specs.Delivering.{IsPayload}
 use Rattle.pdh_streams.specs.Steps.{IsUnpacked}
@@ -43,9 +43,9 @@ pub first_holds : {outputs : Outputs} → outputs ≡ outputs_of ([] ∷ []) →
 first_holds is = ap (λ (o : Outputs). o.holds 0) is ∙ lt-ltb 0 1 (lit< tt)
 
 -- what was put, and what was found
-pub is_unpacked : (codec now : FrameCodec) (line : List ℕ) (got : List Bool) (unpacked : Unpacked) → now ≡ codec → got ≡ codec.payload (bits_of line) → unpacked.payload.items ≡ bytes_of got → unpacked.found ≡ now.found (bits_of line) → IsUnpacked codec line unpacked
+pub is_unpacked : (codec : FrameCodec) (line : List ℕ) (got : List Bool) (unpacked : Unpacked) → got ≡ codec.payload (bits_of line) → unpacked.payload.items ≡ bytes_of got → unpacked.found ≡ codec.found (bits_of line) → IsUnpacked codec line unpacked
 unfolding unpacked_payload found_in
-is_unpacked codec now line got unpacked same is written found = record {
+is_unpacked codec line got unpacked is written found = record {
   payload_is = written ∙ ap bytes_of is;
-  found_is = found ∙ ap (λ (c : FrameCodec). c.found (bits_of line)) same;
+  found_is = found;
 }

@@ -4,3 +4,7 @@ pub mod DeliveringLaws
 pub mod E1Packing
 pub mod E1Taking
 pub mod Ds1Taking
+pub mod StreamLaws
+pub mod StreamFiles
+pub mod StreamRun
+pub mod Ds1Files

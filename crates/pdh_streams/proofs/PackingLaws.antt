@@ -30,7 +30,7 @@ pub record IsRead (codec : FrameCodec) (a b : ShelfState) (payload line : List �
   pub line_is : line ≡ codec.packed payload
 
 module _ (codec : FrameCodec) where
-  begins : BeginsWith (packing codec) Payload (payload_of codec) (packed_answer codec)
+  pub begins : BeginsWith (packing codec) Payload (payload_of codec) (packed_answer codec)
   unfolding packed_answer
   begins = record { some = lit< tt; first = refl; missing = refl; comes = λ files. refl; due = λ files on. on; reaches = λ payload. refl }
 
@@ -74,10 +74,10 @@ module _ (codec : FrameCodec) where
       refuses_since (packing codec) a b b (NotWhole octets) looks same
       (length_refuses (packing codec) Payload (payload_of codec) (packed_answer codec) b octets (NotWhole octets) begins known (cut_payload octets few cut))
 
-  pub payload_unread : (a b c : ShelfState) (octets : ℕ) (stop : Stop) → Looks a b → b.counts ≡ a.counts → HasLength payload_name octets b → octets / codec.frame_octets ≤ most_frames → octets % codec.whole_octets ≡ 0 → IsReadStop Payload b c stop → Refuses (packing codec) a c stop
-  payload_unread a b c octets stop looks same known few whole cause =
+  pub payload_unread : (a b c : ShelfState) (octets : ℕ) (stop : Stop) → Looks a b → b.counts ≡ a.counts → HasLength payload_name octets b → octets / codec.frame_octets ≤ most_frames → octets % codec.whole_octets ≡ 0 → codec.in_run Payload ≡ false → IsReadStop Payload b c stop → Refuses (packing codec) a c stop
+  payload_unread a b c octets stop looks same known few whole early cause =
       refuses_since (packing codec) a b c stop looks same
-      (reading_refuses (packing codec) Payload (payload_of codec) (packed_answer codec) b c octets stop begins refl known (whole_payload octets few whole) cause)
+      (reading_refuses (packing codec) Payload (payload_of codec) (packed_answer codec) b c octets stop begins early known (whole_payload octets few whole) cause)
 
   -- ---- what is written
 

@@ -19,7 +19,7 @@ use Rattle.pdh_runner.proofs.Refusing.{refuses_since}
 use Rattle.pdh_runner.proofs.OneInput.{RefusesAll, ServesAll, missing_refuses, length_refuses, reading_refuses, comes_of_bytes, goes_on_by_bytes, bytes_are}
 use Rattle.pdh_runner.proofs.OneOutput.{HasOutput, Writes, start_refused, append_refused, writing_done, whole, others, touches_again}
 use Rattle.pdh_streams.specs.declared.codec.Found.{Found}
-use Rattle.pdh_streams.specs.declared.codec.Unpacked.{Unpacked}
+use Rattle.pdh_streams.specs.declared.delivering.Unpacked.{Unpacked}
 use Rattle.pdh_streams.specs.Codecs.{FrameCodec, frames_framed, framed_of, unpacked_payload, found_in, unpacked_answer, unpacking}
 use Rattle.pdh_streams.specs.Steps.{RefusesFramed, IsUnpacked}
 
@@ -48,7 +48,7 @@ module _ (codec : FrameCodec) where
     | inr some ↦ ap reaches_outputs (unpacked_some line some)
   ]
 
-  begins : BeginsWith (unpacking codec) codec.file (framed_of codec) (unpacked_answer codec)
+  pub begins : BeginsWith (unpacking codec) codec.file (framed_of codec) (unpacked_answer codec)
   begins = record { some = lit< tt; first = refl; missing = refl; comes = λ files. refl; due = λ files on. on; reaches = unpacked_reaches }
 
   -- ---- what a length decides
@@ -81,10 +81,10 @@ module _ (codec : FrameCodec) where
   pub unpacking_refused : (a b : ShelfState) (stop : Stop) → RefusesFramed codec a b stop → Refuses (unpacking codec) a b stop
   unpacking_refused a b stop refused = refused (unpacking codec) (unpacked_answer codec) begins
 
-  pub framed_unread : (a b c : ShelfState) (octets : ℕ) (stop : Stop) → Looks a b → b.counts ≡ a.counts → HasLength (name_of codec.file) octets b → 8 * octets / codec.frame_bits ≤ most_frames → IsReadStop codec.file b c stop → Refuses (unpacking codec) a c stop
-  framed_unread a b c octets stop looks same known few cause =
+  pub framed_unread : (a b c : ShelfState) (octets : ℕ) (stop : Stop) → Looks a b → b.counts ≡ a.counts → HasLength (name_of codec.file) octets b → 8 * octets / codec.frame_bits ≤ most_frames → codec.in_run codec.file ≡ false → IsReadStop codec.file b c stop → Refuses (unpacking codec) a c stop
+  framed_unread a b c octets stop looks same known few early cause =
       refuses_since (unpacking codec) a b c stop looks same
-      (reading_refuses (unpacking codec) codec.file (framed_of codec) (unpacked_answer codec) b c octets stop begins refl known (whole_framed octets few) cause)
+      (reading_refuses (unpacking codec) codec.file (framed_of codec) (unpacked_answer codec) b c octets stop begins early known (whole_framed octets few) cause)
 
   -- ---- what is written
 

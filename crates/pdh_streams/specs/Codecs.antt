@@ -9,13 +9,15 @@ use Rattle.pdh_answers.specs.declared.file.File.TheVariants.{Payload}
 use Rattle.pdh_answers.specs.declared.answer.Done.{Done}
 use Rattle.pdh_answers.specs.declared.answer.Stop.{Stop}
 use Rattle.pdh_answers.specs.declared.answer.Stop.TheVariants.{Missing, ManyFrames, NoAlignment, NotWhole}
-use Rattle.pdh_runner.specs.Operation.{Operation, one_name, none_in_run, due_at_outputs, Files, bytes_in}
+use Rattle.pdh_runner.specs.Operation.{Operation, one_name, due_at_outputs, Files, bytes_in}
 use Rattle.pdh_streams.specs.declared.codec.Found.{Found}
 
 -- the frames of a line, what stands in it, and what its two commands say
 pub record FrameCodec : Type 0 where
   -- the file of the line
   pub file : File
+  -- the bytes of a file are read in the run, behind the start of the output, or before it
+  pub in_run : File → Bool
   -- how many bits a frame has, and how many octets of a payload it carries
   pub frame_bits : ℕ
   pub frame_octets : ℕ
@@ -57,9 +59,10 @@ packing codec = record {
   outputs = one_name (name_of codec.file);
   bytes = λ files _. codec.packed (bytes_in files payload_name);
   comes_to = pack_comes codec;
-  reads_in_run = none_in_run;
+  reads_in_run = codec.in_run;
   is_due = due_at_outputs (pack_comes codec);
   shows = None;
+  tells = None;
 }
 
 -- ---- unpacking
@@ -81,10 +84,12 @@ unpacked_payload codec line = bytes_of (codec.payload (bits_of line))
 unfoldable pub found_in : FrameCodec → List ℕ → Found
 found_in codec line = codec.found (bits_of line)
 
--- what is said of that; or nothing was delivered, and then how many bits the line has
+-- what is said of what was found in a line of so many bits; or nothing was delivered
+abbrev pub answer_of : FrameCodec → ℕ → Found → Answer
+answer_of codec bits found = (if found.delivered == 0 then Err (NoAlignment bits) else Ok (codec.unpack_says found))
+
 unfoldable pub unpacked_answer : FrameCodec → List ℕ → Answer
-unpacked_answer codec line =
-    (if (found_in codec line).delivered == 0 then Err (NoAlignment (8 * length line)) else Ok (codec.unpack_says (found_in codec line)))
+unpacked_answer codec line = answer_of codec (8 * length line) (found_in codec line)
 
 abbrev pub unpack_comes : FrameCodec → Files → Answer
 unpack_comes codec files = and_then (framed_of codec (files (name_of codec.file))) (unpacked_answer codec)
@@ -96,7 +101,8 @@ unpacking codec = record {
   outputs = one_name payload_out_name;
   bytes = λ files _. unpacked_payload codec (bytes_in files (name_of codec.file));
   comes_to = unpack_comes codec;
-  reads_in_run = none_in_run;
+  reads_in_run = codec.in_run;
   is_due = due_at_outputs (unpack_comes codec);
   shows = None;
+  tells = None;
 }

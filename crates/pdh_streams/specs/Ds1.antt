@@ -7,6 +7,7 @@ use Rattle.pdh_ds1.specs.Codec.{frames_of, packed_line}
 use Rattle.pdh_ds1.specs.View.{far_of, superframes_in, blocks_in, errors_in}
 use Rattle.pdh_answers.specs.declared.file.File.TheVariants.{Ds1Line}
 use Rattle.pdh_answers.specs.declared.answer.Done.{Done}
+use Rattle.pdh_runner.specs.Operation.{all_in_run}
 use Rattle.pdh_streams.specs.declared.codec.Found.{Found}
 use Rattle.pdh_streams.specs.Texts.{counted_line, found_line}
 use Rattle.pdh_streams.specs.Codecs.{FrameCodec}
@@ -28,6 +29,7 @@ unpack_says Extended found = found_line (codes "ds1unpack esf: superframes ") fo
 abbrev pub ds1_codec : Frame1 → FrameCodec
 ds1_codec form = record {
   file = Ds1Line;
+  in_run = all_in_run;
   frame_bits = 193;
   frame_octets = 24;
   whole_octets = 576;

@@ -5,6 +5,7 @@ use Rattle.pdh_e1.specs.Multiframe.{packed_octet, sent_word}
 use Rattle.pdh_g706.specs.Tracking.{e1_far, multiframes_in, blocks_in, errors_in, counted}
 use Rattle.pdh_answers.specs.declared.file.File.TheVariants.{E1Line}
 use Rattle.pdh_answers.specs.declared.answer.Done.{Done}
+use Rattle.pdh_runner.specs.Operation.{none_in_run}
 use Rattle.pdh_streams.specs.declared.codec.Found.{Found}
 use Rattle.pdh_streams.specs.Texts.{counted_line, found_line}
 use Rattle.pdh_streams.specs.Codecs.{FrameCodec}
@@ -37,6 +38,7 @@ unpack_says found = found_line (codes "e1unpack: multiframes ") found
 abbrev pub e1_codec : FrameCodec
 e1_codec = record {
   file = E1Line;
+  in_run = none_in_run;
   frame_bits = 256;
   frame_octets = 31;
   whole_octets = 496;

@@ -4,3 +4,4 @@ pub mod E1
 pub mod Ds1
 pub mod Steps
 pub mod Delivering
+pub mod Streaming

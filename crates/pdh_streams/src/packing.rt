@@ -1,51 +1,98 @@
-//! A payload's file to the file of the line that carries it.
+//! `ds1pack`: a payload's file to the file of the DS1 line that carries it.
 
-ghost use Rattle.std.specs.Prelude.{◌≡◌, ◌%◌, length, IfOk, IfErr, Some, Ok};
-ghost use Rattle.pdh_edge.specs.Files.{Looks, Holds};
-ghost use Rattle.pdh_answers.specs.Names.{payload_name};
-ghost use Rattle.pdh_runner.specs.Refusing.{Refuses};
-ghost use Rattle.pdh_runner.specs.Performing.{IsCounted, Performs};
-ghost use Rattle.pdh_streams.specs.Codecs.{payload_of, packing};
+ghost use Rattle.std.specs.Prelude.{◌≡◌, map};
+ghost use Rattle.pdh_edge.specs.Files.{ShelfState};
+ghost use Rattle.pdh_blocks.specs.State.{over};
+ghost use Rattle.pdh_blocks.specs.Kept.{Keeps};
+ghost use Rattle.pdh_answers.specs.SlipLines.{log_state};
+ghost use Rattle.pdh_runner.specs.Performing.{Performs, IsWatched};
+ghost use Rattle.pdh_runner.specs.Running.{ComesOut, IsCountedBy};
+ghost use Rattle.pdh_streams.specs.Codecs.{packing};
+ghost use Rattle.pdh_streams.specs.Ds1.{ds1_codec};
+ghost use Rattle.pdh_streams.specs.Steps.{IsWholePayload, CanStream, IsPackPort};
 
-use crate::codec::Codec;
-use pdh_answers::{Done, File, Stop};
-use pdh_edge::Shelf;
-use pdh_runner::files::{append, read, size, start};
-use pdh_shape::MOST_FRAMES;
-use std::alloc::Global;
+use crate::ds1::{Ds1, pack_says};
+use crate::inputs::whole_payload;
+use crate::streaming::{MOST_BITS, stream};
+use pdh_answers::{File, SinkLog};
+use pdh_blocks::ShelfPort;
+use pdh_ds1::{Ds1Packer, Frame1};
+use pdh_edge::{Shelf, Sink};
+use pdh_packed::Packed;
+use pdh_runner::{Ended, Input, Outcome, PortFiles, Work, Worked, run_over};
+use pdh_watch::Monitor;
+use std::alloc::{AllocError, Global};
 
-// The payload, if it fills whole multiframes or superframes, and no more frames than a line may have.
-fn read_payload<C: Codec, S: Shelf>(
-    alloc: Global,
-    codec: &C,
-    shelf: &mut S,
-) -> Result<Vec<u8>, Stop>
-    ensures looks { Looks (S.state shelf.old) (S.state shelf.new) }
-    ensures payload { IfOk result (λ payload. Holds ((S.state shelf.old).told payload_name) payload.items) }
-    ensures served { IfOk result (λ payload. payload_of (C.codec codec.now) (Some payload.items) ≡ Ok payload.items) }
-    ensures whole { IfOk result (λ payload. length payload.items % (C.codec codec.now).whole_octets ≡ 0) }
-    ensures err { IfErr result (Refuses (packing (C.codec codec.now)) (S.state shelf.old) (S.state shelf.new)) }
-    ensures counted { IsCounted (S.state shelf.old) (S.state shelf.new) result }
-{
-    let octets = size(shelf, File::Payload)?;
-    let frames = codec.frames_filled(octets);
-    if frames > MOST_FRAMES {
-        return Err(Stop::ManyFrames(frames));
-    }
-    if codec.left_over(octets) != 0 {
-        return Err(Stop::NotWhole(octets));
-    }
-    read(alloc, shelf, File::Payload, octets)
+// The payload that is packed.
+#[derive(Drop)]
+struct PackPlan {
+    form: Frame1,
+    payload: Input,
 }
 
-/// Reads the payload, writes the line that carries it, and answers what is said of it.
-pub fn pack_file<C: Codec, S: Shelf>(alloc: Global, codec: &C, shelf: &mut S) -> Result<Done, Stop>
-    ensures { Performs (packing (C.codec codec.now)) (S.state shelf.old) (S.state shelf.new) result }
+impl PackPlan {
+    // Gives the packer of the form the payload's bits.
+    fn pack<S: Shelf>(&self, alloc: Global, port: &mut ShelfPort<S>) -> Outcome
+        requires { CanStream self.now.payload.bits (over (S.state port.old.shelf) port.old.blocks) }
+        ensures kept { Keeps (over (S.state port.old.shelf) port.old.blocks) (over (S.state port.new.shelf) port.new.blocks) }
+        ensures counted { IsCountedBy (over (S.state port.new.shelf) port.new.blocks) result }
+        ensures comes { (begun : ShelfState) → IsPackPort self.now.form self.now.payload begun (over (S.state port.old.shelf) port.old.blocks)
+            → ComesOut (packing (ds1_codec self.now.form)) begun (over (S.state port.old.shelf) port.old.blocks) (over (S.state port.new.shelf) port.new.blocks) result }
+    {
+        let Ok(mut packer) = Ds1Packer::open(alloc, self.form) else {
+            return Outcome::Memory;
+        };
+        let Ok(mut buffer) = Packed::open(alloc, MOST_BITS) else {
+            return Outcome::Memory;
+        };
+        let bits = self.payload.bits;
+        match stream(&mut packer, bits, &mut buffer, port) {
+            Ok(()) => Outcome::Whole(Ok(pack_says(self.form, bits / 8))),
+            Err(_) => Outcome::Failed,
+        }
+    }
+}
+
+impl Work for PackPlan {
+    ghost operation = { λ p. packing (ds1_codec p.form) };
+
+    ghost planned = { λ p state. IsWholePayload (ds1_codec p.form) p.payload state };
+
+    ghost opened = { λ p port. CanStream p.payload.bits port };
+
+    ghost gives = { λ p begun port. IsPackPort p.form p.payload begun port };
+
+    fn files(&self, alloc: Global) -> Result<PortFiles, AllocError> {
+        PortFiles::line_to_line(alloc, self.payload, File::Ds1Line)
+    }
+
+    fn work<S: Shelf, K: Sink>(
+        &self,
+        alloc: Global,
+        mut port: ShelfPort<S>,
+        _monitors: &mut Vec<Box<dyn Monitor>>,
+        _log: &mut SinkLog<K>,
+    ) -> Worked<S> {
+        let outcome = self.pack(alloc, &mut port);
+        Worked { port, outcome }
+    }
+}
+
+/// Reads the payload, writes the line of superframes of a form that carries it, and answers how many they are.
+pub fn pack_ds1<S: Shelf, K: Sink>(
+    alloc: Global,
+    form: Frame1,
+    mut shelf: S,
+    monitors: &mut Vec<Box<dyn Monitor>>,
+    log: &mut SinkLog<K>,
+) -> Ended<S>
+    requires fresh { log.old.told ≡ 0 }
+    ensures performs { Performs (packing (ds1_codec form)) (S.state shelf) (S.state result.shelf) result.answer }
+    ensures watches { IsWatched (packing (ds1_codec form)) (S.state shelf) (S.state result.shelf) result.answer (map ⟦<Box<dyn Monitor> as Monitor>⟧.state monitors.old.items) (map ⟦<Box<dyn Monitor> as Monitor>⟧.state monitors.new.items) }
+    ensures hears { log_state (K.state log.new.out) log.new.told ≡ log_state (K.state log.old.out) log.old.told }
 {
-    let payload = read_payload(alloc, codec, shelf)?;
-    let line = codec.pack(alloc, &payload)?;
-    let file = codec.file();
-    start(shelf, file)?;
-    append(shelf, file, &line)?;
-    Ok(codec.says_packed(payload.len() as u64))
+    match whole_payload(&Ds1 { form }, &mut shelf) {
+        Ok(payload) => run_over(alloc, &PackPlan { form, payload }, shelf, monitors, log),
+        Err(stop) => Ended::new(shelf, Err(stop)),
+    }
 }

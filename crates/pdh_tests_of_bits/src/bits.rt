@@ -12,16 +12,16 @@ const SIXTEEN_BITS: [bool; 16] = [
 #[test]
 fn bits_of_two_bytes(rt: HostRuntime) -> Result<(), Fail> {
     let bits = bits_of(rt.alloc(), &[0xF4, 0x10])?;
-    assert_eq!(rt; bits.as_slice(), SIXTEEN_BITS.as_slice());
+    assert!(rt; bits.as_slice() == SIXTEEN_BITS.as_slice());
     Ok(())
 }
 
 #[test]
 fn whole_bytes_of_bits(rt: HostRuntime) -> Result<(), Fail> {
     let all = bytes_of(rt.alloc(), &SIXTEEN_BITS)?;
-    assert_eq!(rt; all.as_slice(), [0xF4, 0x10].as_slice());
+    assert!(rt; all.as_slice() == [0xF4, 0x10].as_slice());
     let one = bytes_of(rt.alloc(), &SIXTEEN_BITS[..15])?;
-    assert_eq!(rt; one.as_slice(), [0xF4].as_slice());
+    assert!(rt; one.as_slice() == [0xF4].as_slice());
     Ok(())
 }
 
@@ -29,20 +29,20 @@ fn whole_bytes_of_bits(rt: HostRuntime) -> Result<(), Fail> {
 fn bits_go_out_as_bytes(rt: HostRuntime) -> Result<(), Fail> {
     let mut out = BitOut::open(rt.alloc(), 16)?;
     for bit in SIXTEEN_BITS {
-        assert_eq!(rt; out.push(bit), Ok(()));
+        assert!(rt; out.push(bit) == Ok(()));
     }
-    assert_eq!(rt; out.push(true), Err(Full));
-    assert_eq!(rt; out.held(), 16);
+    assert!(rt; out.push(true) == Err(Full));
+    assert!(rt; out.held() == 16);
 
     let mut one = [0xAA];
-    assert_eq!(rt; out.take_bytes(&mut one), 1);
-    assert_eq!(rt; one, [0xF4]);
-    assert_eq!(rt; out.push(true), Ok(()));
-    assert_eq!(rt; out.held(), 9);
+    assert!(rt; out.take_bytes(&mut one) == 1);
+    assert!(rt; one == [0xF4]);
+    assert!(rt; out.push(true) == Ok(()));
+    assert!(rt; out.held() == 9);
 
     let mut three = [0xAA; 3];
-    assert_eq!(rt; out.take_bytes(&mut three), 1);
-    assert_eq!(rt; three, [0x10, 0xAA, 0xAA]);
-    assert_eq!(rt; out.held(), 1);
+    assert!(rt; out.take_bytes(&mut three) == 1);
+    assert!(rt; three == [0x10, 0xAA, 0xAA]);
+    assert!(rt; out.held() == 1);
     Ok(())
 }

@@ -13,13 +13,13 @@ const FIRST_OCTETS: [u8; 32] = [
 fn packs_zeros_and_takes_them_back(rt: HostRuntime) -> Result<(), Fail> {
     let payload = vec![in rt.alloc(); 0u8; 992]?;
     let line = pack(rt.alloc(), &payload)?;
-    assert_eq!(rt; line.len(), 1024);
+    assert!(rt; line.len() == 1024);
     for frame in 0..32 {
-        assert_eq!(rt; line.get(32 * frame), Some(&FIRST_OCTETS[frame]));
-        assert_eq!(rt; line.get(32 * frame + 31), Some(&0));
+        assert!(rt; line.get(32 * frame) == Some(&FIRST_OCTETS[frame]));
+        assert!(rt; line.get(32 * frame + 31) == Some(&0));
     }
     let back = unpack(rt.alloc(), &line)?;
-    assert_eq!(rt; back.as_slice(), payload.as_slice());
+    assert!(rt; back.as_slice() == payload.as_slice());
     Ok(())
 }
 
@@ -30,32 +30,23 @@ fn finds_a_payload_bit_that_was_turned(rt: HostRuntime) -> Result<(), Fail> {
     if let Some(octet) = line.get_mut(5) {
         *octet = 1;
     }
-    assert_eq!(rt;
-        unpack(rt.alloc(), &line).err(),
-        Some(UnpackFault::Wrong { frame: 8 })
-    );
+    assert!(rt; unpack(rt.alloc(), &line).err() == Some(UnpackFault::Wrong { frame: 8 }));
     Ok(())
 }
 
 #[test]
 fn refuses_what_is_not_whole(rt: HostRuntime) -> Result<(), Fail> {
     let octets = vec![in rt.alloc(); 0u8; 495]?;
-    assert_eq!(rt;
-        pack(rt.alloc(), &octets).err(),
-        Some(PackFault::NotWhole { len: 495 })
-    );
-    assert_eq!(rt;
-        unpack(rt.alloc(), &octets).err(),
-        Some(UnpackFault::NotWhole { len: 495 })
-    );
+    assert!(rt; pack(rt.alloc(), &octets).err() == Some(PackFault::NotWhole { len: 495 }));
+    assert!(rt; unpack(rt.alloc(), &octets).err() == Some(UnpackFault::NotWhole { len: 495 }));
     Ok(())
 }
 
 #[test]
 fn words_of_one_bit(rt: HostRuntime) -> Result<(), Fail> {
-    assert_eq!(rt; crc4_after(0, &[1]), 3);
-    assert_eq!(rt; crc4_after(0, &[4]), 12);
-    assert_eq!(rt; crc4_after(0, &[8]), 11);
+    assert!(rt; crc4_after(0, &[1]) == 3);
+    assert!(rt; crc4_after(0, &[4]) == 12);
+    assert!(rt; crc4_after(0, &[8]) == 11);
     Ok(())
 }
 
@@ -63,10 +54,10 @@ fn words_of_one_bit(rt: HostRuntime) -> Result<(), Fail> {
 /// first, so its octets and its word were turned.
 #[test]
 fn words_by_another_program(rt: HostRuntime) -> Result<(), Fail> {
-    assert_eq!(rt; crc4_after(0, b"123456789"), 14);
-    assert_eq!(rt; crc4_after(0, b"G.704"), 6);
-    assert_eq!(rt; crc4_after(0, b"multiframe"), 0);
-    assert_eq!(rt; crc4_after(0, &[0x1B, 0x5F]), 1);
-    assert_eq!(rt; crc4_after(0, &[0xFF; 256]), 4);
+    assert!(rt; crc4_after(0, b"123456789") == 14);
+    assert!(rt; crc4_after(0, b"G.704") == 6);
+    assert!(rt; crc4_after(0, b"multiframe") == 0);
+    assert!(rt; crc4_after(0, &[0x1B, 0x5F]) == 1);
+    assert!(rt; crc4_after(0, &[0xFF; 256]) == 4);
     Ok(())
 }

@@ -22,12 +22,9 @@ fn sizes_of_files_in_memory(rt: HostRuntime) -> Result<(), AllocError> {
         ("line", Err(Failed)),
         ("out", Ok(Some(10))),
     ] {
-        assert_eq!(rt; shelf.size(name), want, "size of {name}");
+        assert!(rt; shelf.size(name) == want, "size of {name}");
     }
-    assert_eq!(rt;
-        (shelf.read_faults(), shelf.write_faults(), shelf.misses()),
-        (1, 0, 1)
-    );
+    assert!(rt; (shelf.read_faults(), shelf.write_faults(), shelf.misses()) == (1, 0, 1));
     Ok(())
 }
 
@@ -42,17 +39,13 @@ fn bytes_of_a_file_in_memory(rt: HostRuntime) -> Result<(), AllocError> {
         (4, Err(Failed), b"---"),
     ] {
         let mut buffer = [b'-'; 3];
-        assert_eq!(rt;
-            shelf.read_at("line", at, &mut buffer),
-            want,
+        assert!(rt;
+            shelf.read_at("line", at, &mut buffer) == want,
             "read at {at}"
         );
-        assert_eq!(rt; &buffer[..], &read[..], "read at {at}");
+        assert!(rt; &buffer[..] == &read[..], "read at {at}");
     }
-    assert_eq!(rt;
-        (shelf.read_faults(), shelf.write_faults(), shelf.misses()),
-        (2, 0, 0)
-    );
+    assert!(rt; (shelf.read_faults(), shelf.write_faults(), shelf.misses()) == (2, 0, 0));
     Ok(())
 }
 
@@ -61,15 +54,12 @@ fn starts_in_memory(rt: HostRuntime) -> Result<(), AllocError> {
     let mut shelf = shelf_of_two(rt.alloc())?;
     shelf.fail(Call::Start, 1)?;
     for (name, want) in [("line", Err(Failed)), ("out", Err(Failed)), ("out", Ok(()))] {
-        assert_eq!(rt; shelf.start(name), want, "start of {name}");
+        assert!(rt; shelf.start(name) == want, "start of {name}");
     }
-    assert_eq!(rt; shelf.file("out"), Some(&b""[..]));
-    assert_eq!(rt; shelf.file("line"), Some(&b"abcdef"[..]));
-    assert_eq!(rt; shelf.file("none"), None);
-    assert_eq!(rt;
-        (shelf.read_faults(), shelf.write_faults(), shelf.misses()),
-        (0, 2, 0)
-    );
+    assert!(rt; shelf.file("out") == Some(&b""[..]));
+    assert!(rt; shelf.file("line") == Some(&b"abcdef"[..]));
+    assert!(rt; shelf.file("none") == None);
+    assert!(rt; (shelf.read_faults(), shelf.write_faults(), shelf.misses()) == (0, 2, 0));
     Ok(())
 }
 
@@ -77,7 +67,7 @@ fn starts_in_memory(rt: HostRuntime) -> Result<(), AllocError> {
 fn appends_in_memory(rt: HostRuntime) -> Result<(), AllocError> {
     let mut shelf = shelf_of_two(rt.alloc())?;
     shelf.fail(Call::Append, 2)?;
-    assert_eq!(rt; shelf.start("out"), Ok(()));
+    assert!(rt; shelf.start("out") == Ok(()));
     for (name, piece, want) in [
         ("line", "a", Err(Failed)),
         ("out", "abc", Ok(())),
@@ -85,18 +75,14 @@ fn appends_in_memory(rt: HostRuntime) -> Result<(), AllocError> {
         ("out", "de", Err(Failed)),
         ("out", "d", Ok(())),
     ] {
-        assert_eq!(rt;
-            shelf.append(name, piece.as_bytes()),
-            want,
+        assert!(rt;
+            shelf.append(name, piece.as_bytes()) == want,
             "{piece} to {name}"
         );
     }
-    assert_eq!(rt; shelf.file("out"), Some(&b"abcd"[..]));
-    assert_eq!(rt; shelf.file("line"), Some(&b"abcdef"[..]));
-    assert_eq!(rt;
-        (shelf.read_faults(), shelf.write_faults(), shelf.misses()),
-        (0, 3, 0)
-    );
+    assert!(rt; shelf.file("out") == Some(&b"abcd"[..]));
+    assert!(rt; shelf.file("line") == Some(&b"abcdef"[..]));
+    assert!(rt; (shelf.read_faults(), shelf.write_faults(), shelf.misses()) == (0, 3, 0));
     Ok(())
 }
 
@@ -110,10 +96,10 @@ fn sink_in_memory(rt: HostRuntime) -> Result<(), AllocError> {
         ("cdef", Err(Failed)),
         ("cde", Ok(())),
     ] {
-        assert_eq!(rt; sink.write(piece.as_bytes()), want, "{piece}");
+        assert!(rt; sink.write(piece.as_bytes()) == want, "{piece}");
     }
-    assert_eq!(rt; sink.written(), &b"abcde"[..]);
-    assert_eq!(rt; sink.faults(), 2);
+    assert!(rt; sink.written() == &b"abcde"[..]);
+    assert!(rt; sink.faults() == 2);
     Ok(())
 }
 
@@ -130,18 +116,15 @@ fn never_failing(alloc: Global) -> Result<NeverFails, AllocError> {
 #[test]
 fn files_that_never_fail(rt: HostRuntime) -> Result<(), AllocError> {
     let mut shelf = never_failing(rt.alloc())?;
-    assert_eq!(rt; shelf.size("line"), Ok(Some(6)));
-    assert_eq!(rt; shelf.size("script"), Ok(Some(0)));
-    assert_eq!(rt; shelf.size("none"), Ok(None));
-    assert_eq!(rt; shelf.start("out"), Ok(()));
-    assert_eq!(rt; shelf.append("out", b"1234"), Ok(()));
-    assert_eq!(rt; Sink::write(&mut shelf, b"text"), Ok(()));
-    assert_eq!(rt; shelf.append("line", b"56"), Ok(()));
-    assert_eq!(rt; shelf.size("line"), Ok(None));
-    assert_eq!(rt; shelf.taken(), 10);
-    assert_eq!(rt;
-        (shelf.read_faults(), shelf.write_faults(), shelf.misses()),
-        (0, 0, 2)
-    );
+    assert!(rt; shelf.size("line") == Ok(Some(6)));
+    assert!(rt; shelf.size("script") == Ok(Some(0)));
+    assert!(rt; shelf.size("none") == Ok(None));
+    assert!(rt; shelf.start("out") == Ok(()));
+    assert!(rt; shelf.append("out", b"1234") == Ok(()));
+    assert!(rt; Sink::write(&mut shelf, b"text") == Ok(()));
+    assert!(rt; shelf.append("line", b"56") == Ok(()));
+    assert!(rt; shelf.size("line") == Ok(None));
+    assert!(rt; shelf.taken() == 10);
+    assert!(rt; (shelf.read_faults(), shelf.write_faults(), shelf.misses()) == (0, 0, 2));
     Ok(())
 }

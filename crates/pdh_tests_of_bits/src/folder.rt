@@ -10,11 +10,11 @@ use std::{fs, io};
 // Writes a file in a folder, twice anew, and then more to it.
 fn write_file<R: Files + Drop>(rt: &impl Abort, folder: &mut Folder<R>, name: &str) {
     for piece in ["wrong", "right"] {
-        assert_eq!(rt; folder.start(name), Ok(()));
-        assert_eq!(rt; folder.append(name, piece.as_bytes()), Ok(()));
+        assert!(rt; folder.start(name) == Ok(()));
+        assert!(rt; folder.append(name, piece.as_bytes()) == Ok(()));
     }
-    assert_eq!(rt; folder.append(name, b" end"), Ok(()));
-    assert_eq!(rt; folder.size(name), Ok(Some(9)));
+    assert!(rt; folder.append(name, b" end") == Ok(()));
+    assert!(rt; folder.size(name) == Ok(Some(9)));
 }
 
 // Reads parts of that file: one behind the other, back and forth, past the file's end, and from the
@@ -22,31 +22,28 @@ fn write_file<R: Files + Drop>(rt: &impl Abort, folder: &mut Folder<R>, name: &s
 fn read_file<R: Files + Drop>(rt: &impl Abort, folder: &mut Folder<R>, name: &str) {
     let mut four = [b'-'; 4];
     for _twice in 0..2 {
-        assert_eq!(rt; folder.read_at(name, 0, &mut four), Ok(()));
-        assert_eq!(rt; &four[..], &b"righ"[..]);
+        assert!(rt; folder.read_at(name, 0, &mut four) == Ok(()));
+        assert!(rt; &four[..] == &b"righ"[..]);
     }
     let mut buffer = [b'-'; 5];
     for (at, found) in [(4, b"t end"), (3, b"ht en"), (0, b"right")] {
-        assert_eq!(rt; folder.read_at(name, at, &mut buffer), Ok(()));
-        assert_eq!(rt; &buffer[..], &found[..]);
+        assert!(rt; folder.read_at(name, at, &mut buffer) == Ok(()));
+        assert!(rt; &buffer[..] == &found[..]);
     }
-    assert_eq!(rt; folder.read_at(name, 5, &mut buffer), Err(Failed));
-    assert_eq!(rt; folder.read_at(name, 5, &mut four), Ok(()));
-    assert_eq!(rt; &four[..], &b" end"[..]);
+    assert!(rt; folder.read_at(name, 5, &mut buffer) == Err(Failed));
+    assert!(rt; folder.read_at(name, 5, &mut four) == Ok(()));
+    assert!(rt; &four[..] == &b" end"[..]);
 }
 
 // What a folder does with one file.
 fn use_file<R: Files + Drop>(rt: &impl Abort, mut folder: Folder<R>, name: &str, below: &str) {
-    assert_eq!(rt; folder.size(name), Ok(None));
-    assert_eq!(rt; folder.append(name, b"ab"), Err(Failed));
+    assert!(rt; folder.size(name) == Ok(None));
+    assert!(rt; folder.append(name, b"ab") == Err(Failed));
     write_file(rt, &mut folder, name);
     // A name below a file isn't a file that is missing.
-    assert_eq!(rt; folder.size(below), Err(Failed));
+    assert!(rt; folder.size(below) == Err(Failed));
     read_file(rt, &mut folder, name);
-    assert_eq!(rt;
-        (folder.read_faults(), folder.write_faults(), folder.misses()),
-        (2, 1, 1)
-    );
+    assert!(rt; (folder.read_faults(), folder.write_faults(), folder.misses()) == (2, 1, 1));
 }
 
 #[test]
@@ -69,17 +66,17 @@ fn folder_of_a_file_with_a_long_name(rt: HostRuntime) -> io::Result<()> {
 // A folder in which a file of this name was written.
 fn folder_with<R: Files + Drop>(rt: &impl Abort, files: R, name: &str, bytes: &[u8]) -> Folder<R> {
     let mut folder = Folder::new(files);
-    assert_eq!(rt; folder.start(name), Ok(()));
-    assert_eq!(rt; folder.append(name, bytes), Ok(()));
+    assert!(rt; folder.start(name) == Ok(()));
+    assert!(rt; folder.append(name, bytes) == Ok(()));
     folder
 }
 
 // Looks whether a file has these six bytes.
 fn has_bytes<R: Files + Drop>(rt: &impl Abort, folder: &mut Folder<R>, name: &str, bytes: &[u8]) {
     let mut six = [b'-'; 6];
-    assert_eq!(rt; folder.size(name), Ok(Some(6)));
-    assert_eq!(rt; folder.read_at(name, 0, &mut six), Ok(()));
-    assert_eq!(rt; &six[..], bytes);
+    assert!(rt; folder.size(name) == Ok(Some(6)));
+    assert!(rt; folder.read_at(name, 0, &mut six) == Ok(()));
+    assert!(rt; &six[..] == bytes);
 }
 
 #[test]
@@ -88,14 +85,14 @@ fn links_to_what_is_read(rt: HostRuntime) -> io::Result<()> {
     fs::hard_link(&rt, "pf_line", "pf_hard")?;
     symlink(&rt, "pf_line", "pf_soft")?;
     has_bytes(&rt, &mut folder, "pf_line", b"abcdef");
-    assert_eq!(rt; folder.start("pf_hard"), Err(Failed));
-    assert_eq!(rt; folder.start("pf_soft"), Err(Failed));
+    assert!(rt; folder.start("pf_hard") == Err(Failed));
+    assert!(rt; folder.start("pf_soft") == Err(Failed));
     has_bytes(&rt, &mut folder, "pf_line", b"abcdef");
     let mut other = Folder::new(rt.clone()?);
     has_bytes(&rt, &mut other, "pf_soft", b"abcdef");
-    assert_eq!(rt; other.start("pf_line"), Err(Failed));
+    assert!(rt; other.start("pf_line") == Err(Failed));
     has_bytes(&rt, &mut other, "pf_soft", b"abcdef");
-    assert_eq!(rt; (folder.write_faults(), other.write_faults()), (2, 1));
+    assert!(rt; (folder.write_faults(), other.write_faults()) == (2, 1));
     for name in ["pf_line", "pf_hard", "pf_soft"] {
         fs::remove_file(&rt, name)?;
     }
@@ -109,8 +106,11 @@ fn other_names_keep_their_bytes(rt: HostRuntime) -> io::Result<()> {
     symlink(&rt, "pf_kept", "pf_link")?;
     symlink(&rt, "pf_nowhere", "pf_bare")?;
     for name in ["pf_old", "pf_link", "pf_bare"] {
-        assert_eq!(rt; folder.start(name), Ok(()), "start of {name}");
-        assert_eq!(rt; folder.append(name, b"ghijkl"), Ok(()), "append to {name}");
+        assert!(rt; folder.start(name) == Ok(()), "start of {name}");
+        assert!(rt;
+            folder.append(name, b"ghijkl") == Ok(()),
+            "append to {name}"
+        );
     }
     let mut other = Folder::new(rt.clone()?);
     has_bytes(&rt, &mut other, "pf_kept", b"abcdef");
@@ -118,7 +118,7 @@ fn other_names_keep_their_bytes(rt: HostRuntime) -> io::Result<()> {
         has_bytes(&rt, &mut other, name, b"ghijkl");
         fs::remove_file(&rt, name)?;
     }
-    assert_eq!(rt; other.size("pf_nowhere"), Ok(None));
+    assert!(rt; other.size("pf_nowhere") == Ok(None));
     fs::remove_file(&rt, "pf_kept")
 }
 
@@ -128,10 +128,10 @@ fn what_is_no_file(rt: HostRuntime) -> io::Result<()> {
     fs::create_dir(&rt, "pf_dir")?;
     symlink(&rt, "/dev/null", "pf_null")?;
     for name in ["pf_dir", "/dev/null", "pf_null"] {
-        assert_eq!(rt; folder.size(name), Err(Failed), "size of {name}");
-        assert_eq!(rt; folder.start(name), Err(Failed), "start of {name}");
+        assert!(rt; folder.size(name) == Err(Failed), "size of {name}");
+        assert!(rt; folder.start(name) == Err(Failed), "start of {name}");
     }
-    assert_eq!(rt; (folder.read_faults(), folder.write_faults()), (3, 3));
+    assert!(rt; (folder.read_faults(), folder.write_faults()) == (3, 3));
     fs::remove_dir(&rt, "pf_dir")?;
     fs::remove_file(&rt, "pf_null")
 }
@@ -140,10 +140,10 @@ fn what_is_no_file(rt: HostRuntime) -> io::Result<()> {
 fn a_name_beside_is_taken(rt: HostRuntime) -> io::Result<()> {
     let mut folder = folder_with(&rt, rt.clone()?, "pf_two", b"abcdef");
     let mut left = folder_with(&rt, rt.clone()?, "pf_two.new", b"remain");
-    assert_eq!(rt; folder.start("pf_two"), Ok(()));
-    assert_eq!(rt; folder.size("pf_two"), Ok(Some(0)));
+    assert!(rt; folder.start("pf_two") == Ok(()));
+    assert!(rt; folder.size("pf_two") == Ok(Some(0)));
     has_bytes(&rt, &mut left, "pf_two.new", b"remain");
-    assert_eq!(rt; folder.size("pf_two.new1"), Ok(None));
+    assert!(rt; folder.size("pf_two.new1") == Ok(None));
     fs::remove_file(&rt, "pf_two")?;
     fs::remove_file(&rt, "pf_two.new")
 }
@@ -151,7 +151,7 @@ fn a_name_beside_is_taken(rt: HostRuntime) -> io::Result<()> {
 #[test]
 fn standard_output(rt: HostRuntime) -> io::Result<()> {
     let mut out = Out::new(rt.clone()?);
-    assert_eq!(rt; out.write(b"written\n"), Ok(()));
-    assert_eq!(rt; out.faults(), 0);
+    assert!(rt; out.write(b"written\n") == Ok(()));
+    assert!(rt; out.faults() == 0);
     Ok(())
 }

@@ -29,11 +29,11 @@ fn four_tributaries_take_turns(rt: HostRuntime) -> Result<(), Fail> {
     let mut line = Packed::open(alloc, 44)?;
     interleave(&tributaries, 0, 11, &mut line);
     let mut bytes = [0; 5];
-    assert_eq!(rt; line.write_bytes(0, &mut bytes), 5);
-    assert_eq!(rt; bytes, [0xEC, 0xA8, 0x64, 0x20, 0x22]);
+    assert!(rt; line.write_bytes(0, &mut bytes) == 5);
+    assert!(rt; bytes == [0xEC, 0xA8, 0x64, 0x20, 0x22]);
     deal(&line, 0, 11, &mut tributaries);
     let mut byte = [0];
-    assert_eq!(rt; tributaries[1].write_bytes(16, &mut byte), 1);
-    assert_eq!(rt; byte, [0xCC]);
+    assert!(rt; tributaries[1].write_bytes(16, &mut byte) == 1);
+    assert!(rt; byte == [0xCC]);
     Ok(())
 }

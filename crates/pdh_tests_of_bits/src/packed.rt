@@ -7,19 +7,19 @@ use std::test::Fail;
 fn bits_of_bytes_at_any_place(rt: HostRuntime) -> Result<(), Fail> {
     let mut list = Packed::open(rt.alloc(), 80)?;
     list.append_bytes(&[0xF4, 0x10, 0x00, 0x00, 0x00, 0x00, 0x00, 0x0F, 0xA5]);
-    assert_eq!(rt; list.len(), 72);
-    assert_eq!(rt; list.read(3, 9).number(), 0b101000001);
-    assert_eq!(rt; list.read(60, 12).number(), 0xFA5);
-    assert_eq!(rt; list.ones(0, 72), 14);
+    assert!(rt; list.len() == 72);
+    assert!(rt; list.read(3, 9).number() == 0b101000001);
+    assert!(rt; list.read(60, 12).number() == 0xFA5);
+    assert!(rt; list.ones(0, 72) == 14);
     assert!(rt; list.is_odd(0, 61));
     let mut bytes = [0xEE; 3];
-    assert_eq!(rt; list.write_bytes(60, &mut bytes), 1);
-    assert_eq!(rt; bytes, [0xFA, 0xEE, 0xEE]);
+    assert!(rt; list.write_bytes(60, &mut bytes) == 1);
+    assert!(rt; bytes == [0xFA, 0xEE, 0xEE]);
     let mut copy = Packed::open(rt.alloc(), 68)?;
     copy.append_from(&list, 4, 68);
-    assert_eq!(rt; copy.read(4, 64).number(), 0x1000_0000_0000_0FA5);
+    assert!(rt; copy.read(4, 64).number() == 0x1000_0000_0000_0FA5);
     copy.clear();
-    assert_eq!(rt; copy.len(), 0);
+    assert!(rt; copy.len() == 0);
     Ok(())
 }
 
@@ -28,15 +28,15 @@ fn the_last_bits_are_kept(rt: HostRuntime) -> Result<(), Fail> {
     let mut ring = BitRing::open(rt.alloc(), 64)?;
     ring.push_word(Word::of(0xF4, 8));
     ring.push(true);
-    assert_eq!(rt; ring.held(), 9);
+    assert!(rt; ring.held() == 9);
     assert!(rt; ring.get(0));
     assert!(rt; !ring.get(1));
     ring.push_word(Word::of(0x0123_4567_89AB_CDEF, 60));
-    assert_eq!(rt; ring.held(), 64);
-    assert_eq!(rt; ring.read(0, 64).number(), 0x9123_4567_89AB_CDEF);
+    assert!(rt; ring.held() == 64);
+    assert!(rt; ring.read(0, 64).number() == 0x9123_4567_89AB_CDEF);
     ring.drop_oldest(60);
-    assert_eq!(rt; ring.held(), 4);
-    assert_eq!(rt; ring.read(1, 3).number(), 0b111);
+    assert!(rt; ring.held() == 4);
+    assert!(rt; ring.read(1, 3).number() == 0b111);
     Ok(())
 }
 
@@ -48,40 +48,40 @@ fn bits_move_into_a_ring_and_out(rt: HostRuntime) -> Result<(), Fail> {
         list.append_bytes(&[byte]);
     }
     let mut ring = BitRing::open(rt.alloc(), 192)?;
-    assert_eq!(rt; (ring.held(), ring.capacity(), list.len()), (0, 192, 192));
+    assert!(rt; (ring.held(), ring.capacity(), list.len()) == (0, 192, 192));
     ring.append_bit(true);
     ring.append_from(&list, 4, 150);
-    assert_eq!(rt; ring.held(), 151);
+    assert!(rt; ring.held() == 151);
     assert!(rt; ring.bit(0));
     let mut back = Packed::open(rt.alloc(), 150)?;
-    assert_eq!(rt; (back.len(), back.capacity()), (0, 150));
+    assert!(rt; (back.len(), back.capacity()) == (0, 150));
     ring.append_to(1, 150, &mut back);
     let mut bytes = [0; 4];
-    assert_eq!(rt; back.write_bytes(0, &mut bytes), 4);
-    assert_eq!(rt; bytes, [0x00, 0x10, 0x20, 0x30]);
-    assert_eq!(rt; back.write_bytes(112, &mut bytes), 4);
-    assert_eq!(rt; bytes, [0xE0, 0xF1, 0x01, 0x11]);
+    assert!(rt; back.write_bytes(0, &mut bytes) == 4);
+    assert!(rt; bytes == [0x00, 0x10, 0x20, 0x30]);
+    assert!(rt; back.write_bytes(112, &mut bytes) == 4);
+    assert!(rt; bytes == [0xE0, 0xF1, 0x01, 0x11]);
     ring.clear();
-    assert_eq!(rt; ring.held(), 0);
+    assert!(rt; ring.held() == 0);
     Ok(())
 }
 
 #[test]
 fn words_place_by_place(rt: HostRuntime) -> Result<(), Fail> {
     let (a, b) = (Word::of(0b1100, 4), Word::of(0b1010, 4));
-    assert_eq!(rt; a.and(b).number(), 0b1000);
-    assert_eq!(rt; a.or(b).number(), 0b1110);
-    assert_eq!(rt; a.xor(b).number(), 0b0110);
-    assert_eq!(rt; a.inverted().number(), 0b0011);
-    assert_eq!(rt; Word::of(0b00101, 5).leading_zeros(), 2);
-    assert_eq!(rt; Word::copies(false, 64).leading_zeros(), 64);
-    assert_eq!(rt; Word::copies(true, 9).number(), 0x1FF);
-    assert_eq!(rt; a.placed(2).number(), 0b1100 << 58);
-    assert_eq!(rt; a.shift_in(Word::of(0b011, 3)).number(), 0b0011);
-    assert_eq!(rt; a.shift_in(Word::of(0b100110, 6)).number(), 0b0110);
+    assert!(rt; a.and(b).number() == 0b1000);
+    assert!(rt; a.or(b).number() == 0b1110);
+    assert!(rt; a.xor(b).number() == 0b0110);
+    assert!(rt; a.inverted().number() == 0b0011);
+    assert!(rt; Word::of(0b00101, 5).leading_zeros() == 2);
+    assert!(rt; Word::copies(false, 64).leading_zeros() == 64);
+    assert!(rt; Word::copies(true, 9).number() == 0x1FF);
+    assert!(rt; a.placed(2).number() == 0b1100 << 58);
+    assert!(rt; a.shift_in(Word::of(0b011, 3)).number() == 0b0011);
+    assert!(rt; a.shift_in(Word::of(0b100110, 6)).number() == 0b0110);
     let next = Word::of(0xF000_0000_0000_0001, 64);
-    assert_eq!(rt; a.slide(next, 1).number(), 0x9E00_0000_0000_0000);
-    assert_eq!(rt; a.slide(next, 4).number(), 0xF000_0000_0000_0001);
+    assert!(rt; a.slide(next, 1).number() == 0x9E00_0000_0000_0000);
+    assert!(rt; a.slide(next, 4).number() == 0xF000_0000_0000_0001);
     Ok(())
 }
 
@@ -89,43 +89,40 @@ fn words_place_by_place(rt: HostRuntime) -> Result<(), Fail> {
 fn an_array_is_written_and_read_across_words(rt: HostRuntime) -> Result<(), Fail> {
     let mut array = BitArray::open(rt.alloc(), 100)?;
     array.write(60, Word::of(0b1011_0110, 8));
-    assert_eq!(rt; array.read(58, 12).number(), 0b0010_1101_1000);
-    assert_eq!(rt;
-        (array.get(60), array.get(61), array.get(66)),
-        (true, false, true)
-    );
-    assert_eq!(rt; array.zeros(0, 100), 60);
-    assert_eq!(rt; array.zeros(67, 33), 33);
+    assert!(rt; array.read(58, 12).number() == 0b0010_1101_1000);
+    assert!(rt; (array.get(60), array.get(61), array.get(66)) == (true, false, true));
+    assert!(rt; array.zeros(0, 100) == 60);
+    assert!(rt; array.zeros(67, 33) == 33);
     let mut other = BitArray::open(rt.alloc(), 100)?;
     other.fill(true);
     other.write_masked(59, &array, Word::of(0b01_1111_1100, 10));
-    assert_eq!(rt; other.read(57, 14).number(), 0b11_0101_1011_0011);
+    assert!(rt; other.read(57, 14).number() == 0b11_0101_1011_0011);
     let mut bits = Packed::open(rt.alloc(), 72)?;
     bits.append_bytes(&[0xF4, 0x10, 0x00, 0x00, 0x00, 0x00, 0x00, 0x0F, 0xA5]);
-    assert_eq!(rt; bits.read_padded(1, 64).number(), 0xE820_0000_0000_001F);
-    assert_eq!(rt; bits.read_padded(60, 12).first(12).number(), 0xFA5);
+    assert!(rt; bits.read_padded(1, 64).number() == 0xE820_0000_0000_001F);
+    assert!(rt; bits.read_padded(60, 12).first(12).number() == 0xFA5);
     Ok(())
 }
 
 #[test]
 fn lists_grow_by_bits_and_by_parts(rt: HostRuntime) -> Result<(), Fail> {
     let mut list = Packed::short(rt.alloc());
-    assert_eq!(rt; (list.len(), list.capacity()), (0, 63));
+    assert!(rt; (list.len(), list.capacity()) == (0, 63));
     list.push(true);
     list.push(false);
     assert!(rt; list.get(0));
     assert!(rt; !list.get(1));
     list.reserve(80)?;
-    assert_eq!(rt; (list.len(), list.capacity()), (2, 82));
+    assert!(rt; (list.len(), list.capacity()) == (2, 82));
     let bytes = Packed::of_bytes(rt.alloc(), &[0xA5; 12])?;
-    assert_eq!(rt; (bytes.len(), bytes.capacity()), (96, 96));
-    assert_eq!(rt; list.append_some(&bytes, 8), 80);
-    assert_eq!(rt; list.append_some(&bytes, 0), 0);
-    assert_eq!(rt; list.len(), 82);
-    assert_eq!(rt; list.read(0, 10).number(), 0b10_1010_0101);
-    assert_eq!(rt;
-        list.to_bytes(rt.alloc())?.as_slice(),
-        [0xA9, 0x69, 0x69, 0x69, 0x69, 0x69, 0x69, 0x69, 0x69, 0x69].as_slice()
+    assert!(rt; (bytes.len(), bytes.capacity()) == (96, 96));
+    assert!(rt; list.append_some(&bytes, 8) == 80);
+    assert!(rt; list.append_some(&bytes, 0) == 0);
+    assert!(rt; list.len() == 82);
+    assert!(rt; list.read(0, 10).number() == 0b10_1010_0101);
+    assert!(rt;
+        list.to_bytes(rt.alloc())?.as_slice()
+            == [0xA9, 0x69, 0x69, 0x69, 0x69, 0x69, 0x69, 0x69, 0x69, 0x69].as_slice()
     );
     Ok(())
 }
@@ -134,16 +131,16 @@ fn lists_grow_by_bits_and_by_parts(rt: HostRuntime) -> Result<(), Fail> {
 fn bits_are_turned_and_set(rt: HostRuntime) -> Result<(), Fail> {
     let mut list = Packed::of_bytes(rt.alloc(), &[0x0F, 0, 0, 0, 0, 0, 0, 0xFF, 0x3C])?;
     list.invert();
-    assert_eq!(rt; list.len(), 72);
-    assert_eq!(rt; list.read(0, 64).number(), 0xF0FF_FFFF_FFFF_FF00);
-    assert_eq!(rt; list.read(64, 8).number(), 0xC3);
+    assert!(rt; list.len() == 72);
+    assert!(rt; list.read(0, 64).number() == 0xF0FF_FFFF_FFFF_FF00);
+    assert!(rt; list.read(64, 8).number() == 0xC3);
     list.fill(true);
-    assert_eq!(rt; list.len(), 72);
-    assert_eq!(rt; list.ones(0, 72), 72);
+    assert!(rt; list.len() == 72);
+    assert!(rt; list.ones(0, 72) == 72);
     list.fill(false);
-    assert_eq!(rt; list.len(), 72);
-    assert_eq!(rt; list.ones(0, 72), 0);
-    assert_eq!(rt; Word::copies(true, 64).inverted().number(), 0);
-    assert_eq!(rt; Word::copies(false, 3).inverted().number(), 7);
+    assert!(rt; list.len() == 72);
+    assert!(rt; list.ones(0, 72) == 0);
+    assert!(rt; Word::copies(true, 64).inverted().number() == 0);
+    assert!(rt; Word::copies(false, 3).inverted().number() == 7);
     Ok(())
 }

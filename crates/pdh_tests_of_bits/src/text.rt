@@ -8,6 +8,6 @@ fn bytes_in_hexadecimal_behind_a_part(rt: HostRuntime) -> Result<(), Fail> {
     let mut text = Text::new();
     text.text("feac ");
     text.hex(&[0, 27, 255]);
-    assert_eq!(rt; text.bytes(), b"feac 001bff".as_slice());
+    assert!(rt; text.bytes() == b"feac 001bff".as_slice());
     Ok(())
 }

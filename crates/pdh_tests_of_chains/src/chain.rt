@@ -1,14 +1,17 @@
-//! Worked ends of `mux` and `demux`, gaps, and lines that are watched or not.
+//! Worked ends of `mux`, `mux_slips` and `demux`, gaps, and lines that are watched or not.
 
 ghost use Rattle.std.specs.Prelude.{◌≡◌, length, IfOk};
 ghost use Rattle.pdh_chain.specs.Chains.{leaves_of};
 
+use crate::chain_sending::{packed, patterns};
 use crate::ports::port_of_line;
-use pdh_chain::{Chain, DemuxStop, MuxStop, demux, leaves, mux};
+use crate::tx::{make_bits, node};
+use pdh_chain::{Chain, DemuxStop, E2_LEVEL, MuxStop, demux, leaves, mux, mux_slips};
 use pdh_clock::Schedule;
 use pdh_edge::MemPort;
 use pdh_packed::Packed;
 use pdh_shape::{Place, TOP};
+use pdh_slips::{KeptSlips, Slip, SlipLog};
 use pdh_watch::{Event, Quiet, Watch};
 use std::alloc::{AllocError, Global};
 use std::test::Fail;
@@ -117,6 +120,112 @@ fn ends_and_lengths(rt: HostRuntime) -> Result<(), Fail> {
         let got = run(rt.alloc(), chain, schedule, lengths)?;
         assert_eq!(rt; got, (end, bits), "{chain:?}");
     }
+    Ok(())
+}
+
+// The end of such a run where stores slip and go on, its line, and the log, which takes so many slips.
+fn run_slips(
+    alloc: Global,
+    chain: Chain,
+    schedule: &[u8],
+    lists: Vec<Packed>,
+    most: usize,
+) -> Result<(Result<(), MuxStop>, Vec<bool>, KeptSlips), Fail>
+    requires { length lists.items ≡ leaves_of chain }
+{
+    let clock = Schedule::read(alloc, chain.levels(), schedule)?;
+    let mut port = MemPort::open(alloc, lists, 1)?;
+    port.room(0, 40_000)?;
+    let mut log = KeptSlips::open(alloc, most)?;
+    let end = mux_slips(
+        alloc,
+        chain,
+        &clock,
+        clock.frames(&TOP),
+        &mut port,
+        &mut log,
+    );
+    Ok((end, port.output(0).to_bits(alloc)?, log))
+}
+
+// A slip of the first tributary in the first frame.
+fn slip(over: bool, slot: u32) -> Slip {
+    Slip {
+        over,
+        place: Place {
+            path: TOP,
+            trib: 1,
+            frame: 0,
+            slot,
+        },
+    }
+}
+
+#[test]
+fn stores_slip_and_go_on(rt: HostRuntime) -> Result<(), Fail> {
+    let alloc = rt.alloc();
+    let over: &[u8] = b"/ 1 300 206 206 206\n";
+    let lists = zeros(alloc, [348, 254, 254, 254])?;
+    let (end, line, log) = run_slips(alloc, Chain::E12, over, lists, 8)?;
+    assert_eq!(rt; (end, line.len()), (Ok(()), 848));
+    assert_eq!(rt; log.slips(), [slip(true, 426)].as_slice());
+    let under: &[u8] = b"/ 1 0 206 206 206\n";
+    let lists = zeros(alloc, [48, 254, 254, 254])?;
+    let (end, line, log) = run_slips(alloc, Chain::E12, under, lists, 8)?;
+    assert_eq!(rt; (end, line.len()), (Ok(()), 848));
+    let slips = [
+        slip(false, 204),
+        slip(false, 400),
+        slip(false, 596),
+        slip(false, 792),
+    ];
+    assert_eq!(rt; log.slips(), slips.as_slice());
+    Ok(())
+}
+
+// A log that takes no more ends the line, behind the whole frames before the slip.
+#[test]
+fn a_full_log_ends_the_line(rt: HostRuntime) -> Result<(), Fail> {
+    let rows: &[u8] = b"/ 1 206 206 206 206\n/ 1 0 206 206 206\n";
+    let lists = zeros(rt.alloc(), [254, 460, 460, 460])?;
+    let (end, line, log) = run_slips(rt.alloc(), Chain::E12, rows, lists, 2)?;
+    assert_eq!(rt; (end, line.len()), (Err(MuxStop::LogFailed), 848));
+    assert_eq!(rt; log.slips().len(), 2);
+    assert_eq!(rt; log.log_faults(), 1);
+    Ok(())
+}
+
+// The line that a multiplexer of four leaves makes of such lists bit by bit, and the log, which takes so many slips.
+fn made_bit_by_bit(
+    alloc: Global,
+    schedule: &[u8],
+    lists: Vec<Packed>,
+    most: usize,
+) -> Result<(Vec<bool>, KeptSlips), Fail>
+    requires { length lists.items ≡ 4 }
+{
+    let clock = Schedule::read(alloc, &[E2_LEVEL], schedule)?;
+    let mut feed = MemPort::open(alloc, lists, 0)?;
+    let mut node = node(alloc)?;
+    let mut log = KeptSlips::open(alloc, most)?;
+    let (line, _stop) = make_bits(alloc, &mut node, &clock, &mut feed, &mut log, 40_000)?;
+    Ok((line, log))
+}
+
+// A store slips in the first frame. Those behind it meet nothing, so `mux_slips` makes them at once.
+#[test]
+fn frames_behind_a_slip_are_as_made_bit_by_bit(rt: HostRuntime) -> Result<(), Fail> {
+    let alloc = rt.alloc();
+    let rows: &[u8] = b"/ 1 262 206 206 206\n/ 8 205 206 205 206\n";
+    let lists = packed(alloc, &patterns(alloc, Chain::E12, 2_000)?)?;
+    let (line, told) = made_bit_by_bit(alloc, rows, lists, 8)?;
+    assert_eq!(rt; line.len(), 9 * 848);
+    assert_eq!(rt; told.slips(), [slip(true, 728)].as_slice());
+    let lists = packed(alloc, &patterns(alloc, Chain::E12, 2_000)?)?;
+    let (end, same, log) = run_slips(alloc, Chain::E12, rows, lists, 8)?;
+    assert_eq!(rt; end, Ok(()));
+    assert!(rt; same == line);
+    assert_eq!(rt; log.slips(), told.slips());
     Ok(())
 }
 

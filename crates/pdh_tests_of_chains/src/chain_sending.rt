@@ -12,8 +12,8 @@ use pdh_shape::TOP;
 use std::alloc::{AllocError, Global};
 use std::test::Fail;
 
-// So many bits for each leaf, of each another pattern.
-fn patterns(alloc: Global, chain: Chain, bits: usize) -> Result<Vec<Vec<bool>>, AllocError>
+/// So many bits for each leaf, of each another pattern.
+pub fn patterns(alloc: Global, chain: Chain, bits: usize) -> Result<Vec<Vec<bool>>, AllocError>
     ensures { IfOk result (λ lists. length lists.items ≡ leaves_of chain) }
 {
     let mut lists = Vec::new(alloc);
@@ -28,8 +28,8 @@ fn patterns(alloc: Global, chain: Chain, bits: usize) -> Result<Vec<Vec<bool>>, 
     Ok(lists)
 }
 
-// The same lists in packed words.
-fn packed(alloc: Global, lists: &[Vec<bool>]) -> Result<Vec<Packed>, AllocError>
+/// The same lists in packed words.
+pub fn packed(alloc: Global, lists: &[Vec<bool>]) -> Result<Vec<Packed>, AllocError>
     ensures { IfOk result (λ packed. length packed.items ≡ length lists.now) }
 {
     let mut packed = Vec::new(alloc);

@@ -1,2 +1,3 @@
 mod FourTails
+mod FourSmooth
 mod WorkedRuns

@@ -1,1 +1,2 @@
 pub mod FourTails
+pub mod FourSmooth

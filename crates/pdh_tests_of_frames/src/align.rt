@@ -43,14 +43,14 @@ fn four_bad_signals_lose_the_alignment(rt: HostRuntime) -> Result<(), Fail> {
         rt.alloc(),
         &[0xF4, 0xF4, 0xF4, 4, 4, 4, 4, 0xF4, 0xF4, 0xF4, 0xF4, 0xF4],
     )?;
-    assert_eq!(rt; counts, [9320, 848, 2, 5, 1]);
+    assert!(rt; counts == [9320, 848, 2, 5, 1]);
     Ok(())
 }
 
 #[test]
 fn zeros_are_rejected(rt: HostRuntime) -> Result<(), Fail> {
     let counts = steps(rt.alloc(), &[0, 0, 0, 0, 0, 0, 0, 0, 0, 0])?;
-    assert_eq!(rt; counts, [2543, 5937, 0, 0, 0]);
+    assert!(rt; counts == [2543, 5937, 0, 0, 0]);
     Ok(())
 }
 
@@ -77,26 +77,26 @@ fn ready_frames_are_read(rt: HostRuntime) -> Result<(), Fail> {
                         aligner.frame(2, 21),
                         aligner.frame(2, 22),
                     ];
-                    assert_eq!(rt; first, [true, false, false]);
+                    assert!(rt; first == [true, false, false]);
                     let last = [
                         aligner.frame(0, 20),
                         aligner.frame(0, 21),
                         aligner.frame(0, 22),
                     ];
-                    assert_eq!(rt; last, [false, false, true]);
+                    assert!(rt; last == [false, false, true]);
                     let marks = aligner.marks();
-                    assert_eq!(rt; (marks.framing, marks.multi), (0, false));
+                    assert!(rt; (marks.framing, marks.multi) == (0, false));
                     read[0] = read[0].saturating_add(1);
                 }
                 Step::Frame => {
-                    assert_eq!(rt; [aligner.frame(0, 22), aligner.frame(0, 23)], [false, true]);
+                    assert!(rt; [aligner.frame(0, 22), aligner.frame(0, 23)] == [false, true]);
                     let marks = aligner.marks();
-                    assert_eq!(rt; (marks.framing, marks.multi), (8, false));
+                    assert!(rt; (marks.framing, marks.multi) == (8, false));
                     let mut bits = Packed::open(rt.alloc(), 848)?;
                     aligner.append_frame(0, &mut bits);
-                    assert_eq!(rt;
-                        [bits.get(3), bits.get(5), bits.get(22), bits.get(23)],
-                        [false, true, false, true]
+                    assert!(rt;
+                        [bits.get(3), bits.get(5), bits.get(22), bits.get(23)]
+                            == [false, true, false, true]
                     );
                     read[1] = read[1].saturating_add(1);
                 }
@@ -104,7 +104,7 @@ fn ready_frames_are_read(rt: HostRuntime) -> Result<(), Fail> {
             }
         }
     }
-    assert_eq!(rt; read, [1, 1]);
+    assert!(rt; read == [1, 1]);
     Ok(())
 }
 
@@ -115,7 +115,7 @@ fn phases_tell_of_a_search(rt: HostRuntime) -> Result<(), Fail> {
         aligner.push(numbered(0, slot));
     }
     let phases = aligner.phases().ok_or("no phases")?;
-    assert_eq!(rt; (phases.run_at(0), phases.run_at(1)), (1, 0));
+    assert!(rt; (phases.run_at(0), phases.run_at(1)) == (1, 0));
     Ok(())
 }
 
@@ -274,9 +274,9 @@ fn gained<S: Shape>(alloc: Global, parts: &[Part]) -> Result<(bool, [u32; 4]), A
 fn both_ways_gain_the_same(rt: HostRuntime) -> Result<(), Fail> {
     let alloc = rt.alloc();
     let right = [Part::Right; 6];
-    assert_eq!(rt; gained::<E2>(alloc, &right)?, (true, [0, 1, 3, 0]));
-    assert_eq!(rt; gained::<E3>(alloc, &right)?, (true, [0, 1, 3, 0]));
-    assert_eq!(rt; gained::<E4>(alloc, &right)?, (true, [0, 1, 3, 0]));
+    assert!(rt; gained::<E2>(alloc, &right)? == (true, [0, 1, 3, 0]));
+    assert!(rt; gained::<E3>(alloc, &right)? == (true, [0, 1, 3, 0]));
+    assert!(rt; gained::<E4>(alloc, &right)? == (true, [0, 1, 3, 0]));
     Ok(())
 }
 
@@ -284,9 +284,9 @@ fn both_ways_gain_the_same(rt: HostRuntime) -> Result<(), Fail> {
 fn both_ways_gain_the_same_of_others(rt: HostRuntime) -> Result<(), Fail> {
     let alloc = rt.alloc();
     let zeros = [Part::Zeros; 6];
-    assert_eq!(rt; gained::<E2>(alloc, &zeros)?, (true, [2545, 0, 0, 0]));
+    assert!(rt; gained::<E2>(alloc, &zeros)? == (true, [2545, 0, 0, 0]));
     let noise = [Part::Noise; 6];
-    assert_eq!(rt; gained::<E2>(alloc, &noise)?, (true, [2545, 0, 0, 0]));
+    assert!(rt; gained::<E2>(alloc, &noise)? == (true, [2545, 0, 0, 0]));
     let damaged = [
         Part::Noise,
         Part::Short,
@@ -313,7 +313,7 @@ fn both_ways_gain_the_same_of_others(rt: HostRuntime) -> Result<(), Fail> {
         Part::Right,
         Part::Right,
     ];
-    assert_eq!(rt; gained::<E2>(alloc, &damaged)?, (true, [4238, 3, 10, 2]));
-    assert_eq!(rt; gained::<E4>(alloc, &damaged)?, (true, [14638, 3, 10, 2]));
+    assert!(rt; gained::<E2>(alloc, &damaged)? == (true, [4238, 3, 10, 2]));
+    assert!(rt; gained::<E4>(alloc, &damaged)? == (true, [14638, 3, 10, 2]));
     Ok(())
 }

@@ -1,10 +1,12 @@
 //! Worked lines of DS1 superframes.
 
 ghost use Rattle.std.specs.Prelude.{◌≡◌, ◌<◌, Bool, List, IsTrue, OnOk};
-ghost use Rattle.pdh_ds1.specs.View.{StandsFor};
+ghost use Rattle.pdh_ds1.specs.View.{PacksFor, StandsFor};
 
 use crate::framed::{are_zeros, port_for};
-use pdh_ds1::{Ds1Align, Ds1PackFault, Ds1UnpackFault, Frame1, crc6_after, pack, unpack};
+use pdh_ds1::{
+    Ds1Align, Ds1PackFault, Ds1Packer, Ds1UnpackFault, Frame1, crc6_after, pack, unpack,
+};
 use pdh_edge::{Drain, Failed};
 use pdh_packed::Packed;
 use std::alloc::Global;
@@ -48,6 +50,28 @@ fn counts_by_octets(alloc: Global, frame: Frame1, line: &[u8]) -> Result<Vec<[u6
     Ok(counts)
 }
 
+// Takes the next bits of a payload.
+fn pack_next<D: Drain>(packer: &mut Ds1Packer, bits: &Packed, drain: &mut D) -> Result<(), Failed>
+    requires stands { (payload : List Bool) × PacksFor packer.old payload }
+    requires list { IsTrue ((D.outputs drain.old).holds 0) }
+    ensures stands { OnOk result ((payload : List Bool) × PacksFor packer.new payload) }
+    ensures holds { (D.outputs drain.new).holds ≡ (D.outputs drain.old).holds }
+{
+    packer.take(bits, drain)
+}
+
+// The line of a payload of at most 4,096 octets that comes octet by octet.
+fn packed_by_octets(alloc: Global, frame: Frame1, payload: &[u8]) -> Result<Vec<u8>, Fail> {
+    let mut port = port_for(alloc, 65_536)?;
+    let mut packer = Ds1Packer::open(alloc, frame)?;
+    for place in 0..payload.len() {
+        let bits = Packed::of_bytes(alloc, &payload[place..place + 1])?;
+        pack_next(&mut packer, &bits, &mut port)?;
+    }
+    let line = port.output(0).to_bytes(alloc)?;
+    Ok(line)
+}
+
 // The line of so many times 24 frames of zeros.
 fn zeros(alloc: Global, frame: Frame1, count: usize) -> Result<Vec<u8>, Fail>
     requires { count < 1000 }
@@ -87,11 +111,11 @@ const F_BITS: [u8; 72] = [
 #[test]
 fn packs_zeros_and_takes_them_back(rt: HostRuntime) -> Result<(), Fail> {
     let line = zeros(rt.alloc(), Frame1::Extended, 3)?;
-    assert_eq!(rt; line.len(), 1737);
+    assert!(rt; line.len() == 1737);
     let bits = Packed::of_bytes(rt.alloc(), &line)?;
-    assert_eq!(rt; bits.len(), 13896);
+    assert!(rt; bits.len() == 13896);
     for frame in 0..72 {
-        assert_eq!(rt; bits.get(193 * frame), F_BITS[frame] == 1);
+        assert!(rt; bits.get(193 * frame) == (F_BITS[frame] == 1));
     }
     let back = unpack(rt.alloc(), Frame1::Extended, &line)?;
     assert!(rt; are_zeros(&back, 1728));
@@ -99,10 +123,23 @@ fn packs_zeros_and_takes_them_back(rt: HostRuntime) -> Result<(), Fail> {
 }
 
 #[test]
+fn packs_octet_by_octet_as_the_whole(rt: HostRuntime) -> Result<(), Fail> {
+    let mut payload = vec![in rt.alloc(); 0u8; 1728]?;
+    for (place, octet) in payload.iter_mut().enumerate() {
+        *octet = (place % 251) as u8;
+    }
+    for frame in [Frame1::Super, Frame1::Extended] {
+        let line = packed_by_octets(rt.alloc(), frame, &payload)?;
+        assert_eq!(rt; line, pack(rt.alloc(), frame, &payload)?);
+    }
+    Ok(())
+}
+
+#[test]
 fn three_extended_superframes_are_delivered(rt: HostRuntime) -> Result<(), Fail> {
     let line = zeros(rt.alloc(), Frame1::Extended, 3)?;
     let (counts, payload) = found(rt.alloc(), Frame1::Extended, &line)?;
-    assert_eq!(rt; counts, [3, 2, 0]);
+    assert!(rt; counts == [3, 2, 0]);
     assert!(rt; are_zeros(&payload, 1728));
     Ok(())
 }
@@ -111,7 +148,7 @@ fn three_extended_superframes_are_delivered(rt: HostRuntime) -> Result<(), Fail>
 fn two_superframes_do_not_suffice(rt: HostRuntime) -> Result<(), Fail> {
     let line = zeros(rt.alloc(), Frame1::Super, 1)?;
     let (counts, payload) = found(rt.alloc(), Frame1::Super, &line)?;
-    assert_eq!(rt; counts, [0, 0, 0]);
+    assert!(rt; counts == [0, 0, 0]);
     assert!(rt; are_zeros(&payload, 0));
     Ok(())
 }
@@ -120,7 +157,7 @@ fn two_superframes_do_not_suffice(rt: HostRuntime) -> Result<(), Fail> {
 fn superframes_are_cut_at_each_octet(rt: HostRuntime) -> Result<(), Fail> {
     let line = zeros(rt.alloc(), Frame1::Super, 2)?;
     let counts = counts_by_octets(rt.alloc(), Frame1::Super, &line)?;
-    assert_eq!(rt; counts.len(), 1158);
+    assert!(rt; counts.len() == 1158);
     for (place, count) in counts.iter().enumerate() {
         let superframes = if place < 868 {
             0
@@ -129,7 +166,7 @@ fn superframes_are_cut_at_each_octet(rt: HostRuntime) -> Result<(), Fail> {
         } else {
             4
         };
-        assert_eq!(rt; *count, [superframes, 0, 0]);
+        assert!(rt; *count == [superframes, 0, 0]);
     }
     Ok(())
 }
@@ -138,14 +175,14 @@ fn superframes_are_cut_at_each_octet(rt: HostRuntime) -> Result<(), Fail> {
 fn extended_superframes_are_cut_at_each_octet(rt: HostRuntime) -> Result<(), Fail> {
     let line = zeros(rt.alloc(), Frame1::Extended, 4)?;
     let counts = counts_by_octets(rt.alloc(), Frame1::Extended, &line)?;
-    assert_eq!(rt; counts.len(), 2316);
+    assert!(rt; counts.len() == 2316);
     for (place, count) in counts.iter().enumerate() {
         if place < 1736 {
-            assert_eq!(rt; *count, [0, 0, 0]);
+            assert!(rt; *count == [0, 0, 0]);
         } else if place < 2315 {
-            assert_eq!(rt; *count, [3, 2, 0]);
+            assert!(rt; *count == [3, 2, 0]);
         } else {
-            assert_eq!(rt; *count, [4, 3, 0]);
+            assert!(rt; *count == [4, 3, 0]);
         }
     }
     Ok(())
@@ -155,7 +192,7 @@ fn extended_superframes_are_cut_at_each_octet(rt: HostRuntime) -> Result<(), Fai
 fn one_wrong_framing_bit_loses_no_superframe(rt: HostRuntime) -> Result<(), Fail> {
     for frame in 36..60 {
         let counts = counts_with_turned(rt.alloc(), Frame1::Super, 4, &[frame])?;
-        assert_eq!(rt; counts, [8, 0, 0]);
+        assert!(rt; counts == [8, 0, 0]);
     }
     Ok(())
 }
@@ -164,7 +201,7 @@ fn one_wrong_framing_bit_loses_no_superframe(rt: HostRuntime) -> Result<(), Fail
 fn one_wrong_framing_bit_loses_no_extended_superframe(rt: HostRuntime) -> Result<(), Fail> {
     for number in 18..30 {
         let counts = counts_with_turned(rt.alloc(), Frame1::Extended, 8, &[4 * number + 3])?;
-        assert_eq!(rt; counts, [8, 7, 0]);
+        assert!(rt; counts == [8, 7, 0]);
     }
     Ok(())
 }
@@ -178,7 +215,7 @@ fn two_wrong_framing_bits_of_superframes(rt: HostRuntime) -> Result<(), Fail> {
         let distance = 1 + pair % 12;
         let superframes = if distance <= 3 { 7 } else { 8 };
         let counts = counts_with_turned(rt.alloc(), Frame1::Super, 4, &[first, first + distance])?;
-        assert_eq!(rt; counts, [superframes, 0, 0]);
+        assert!(rt; counts == [superframes, 0, 0]);
     }
     Ok(())
 }
@@ -196,9 +233,9 @@ fn two_wrong_framing_bits_of_extended_superframes(rt: HostRuntime) -> Result<(),
             &[first, first + 4 * distance],
         )?;
         if distance <= 3 {
-            assert_eq!(rt; counts, [7, 5, 0]);
+            assert!(rt; counts == [7, 5, 0]);
         } else {
-            assert_eq!(rt; counts, [8, 7, 0]);
+            assert!(rt; counts == [8, 7, 0]);
         }
     }
     Ok(())
@@ -210,9 +247,9 @@ fn finds_a_payload_bit_that_was_turned(rt: HostRuntime) -> Result<(), Fail> {
     if let Some(octet) = line.get_mut(578) {
         *octet ^= 1;
     }
-    assert_eq!(rt;
-        unpack(rt.alloc(), Frame1::Extended, &line).err(),
-        Some(Ds1UnpackFault::Wrong { frame: 41 })
+    assert!(rt;
+        unpack(rt.alloc(), Frame1::Extended, &line).err()
+            == Some(Ds1UnpackFault::Wrong { frame: 41 })
     );
     Ok(())
 }
@@ -220,13 +257,12 @@ fn finds_a_payload_bit_that_was_turned(rt: HostRuntime) -> Result<(), Fail> {
 #[test]
 fn refuses_what_is_not_whole(rt: HostRuntime) -> Result<(), Fail> {
     let octets = vec![in rt.alloc(); 0u8; 575]?;
-    assert_eq!(rt;
-        pack(rt.alloc(), Frame1::Super, &octets).err(),
-        Some(Ds1PackFault::NotWhole { len: 575 })
+    assert!(rt;
+        pack(rt.alloc(), Frame1::Super, &octets).err() == Some(Ds1PackFault::NotWhole { len: 575 })
     );
-    assert_eq!(rt;
-        unpack(rt.alloc(), Frame1::Super, &octets).err(),
-        Some(Ds1UnpackFault::NotWhole { len: 575 })
+    assert!(rt;
+        unpack(rt.alloc(), Frame1::Super, &octets).err()
+            == Some(Ds1UnpackFault::NotWhole { len: 575 })
     );
     Ok(())
 }
@@ -236,8 +272,8 @@ fn refuses_what_is_not_whole(rt: HostRuntime) -> Result<(), Fail> {
 #[test]
 fn words_by_another_program(rt: HostRuntime) -> Result<(), Fail> {
     let digits = [0x8C, 0x4C, 0xCC, 0x2C, 0xAC, 0x6C, 0xEC, 0x1C, 0x9C];
-    assert_eq!(rt; crc6_after(0, &digits), 24);
-    assert_eq!(rt; crc6_after(0, &[1]), 3);
-    assert_eq!(rt; crc6_after(0, &[0xFF; 579]), 19);
+    assert!(rt; crc6_after(0, &digits) == 24);
+    assert!(rt; crc6_after(0, &[1]) == 3);
+    assert!(rt; crc6_after(0, &[0xFF; 579]) == 19);
     Ok(())
 }

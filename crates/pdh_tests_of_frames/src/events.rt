@@ -132,7 +132,7 @@ fn the_alarm_of_e2(rt: HostRuntime) -> Result<(), Fail> {
         2543,
         &mut last,
     );
-    assert_eq!(rt; last.count, 0);
+    assert!(rt; last.count == 0);
     take(
         &mut teller,
         &mut parts,

@@ -5,6 +5,8 @@
 #[cfg(test)]
 mod align;
 #[cfg(test)]
+mod desync;
+#[cfg(test)]
 mod ds1;
 #[cfg(test)]
 mod events;

@@ -30,7 +30,7 @@ fn runs(alloc: Global, signals: &[u32]) -> Result<Vec<u8>, AllocError> {
 #[test]
 fn a_wrong_signal_ends_a_run(rt: HostRuntime) -> Result<(), Fail> {
     let runs = runs(rt.alloc(), &[0x3D0, 0x3D0, 0x3D0, 0x3D0, 0x3D1, 0x3D0])?;
-    assert_eq!(rt; runs.as_slice(), [1u8, 2, 3, 3, 0, 1].as_slice());
+    assert!(rt; runs.as_slice() == [1u8, 2, 3, 3, 0, 1].as_slice());
     Ok(())
 }
 
@@ -38,11 +38,11 @@ fn a_wrong_signal_ends_a_run(rt: HostRuntime) -> Result<(), Fail> {
 fn cleared_phases_have_seen_nothing(rt: HostRuntime) -> Result<(), Fail> {
     let mut phases = Phases::<E2>::open(rt.alloc())?;
     push_frame(&mut phases, 0x3D0);
-    assert_eq!(rt; (phases.run_at(0), phases.run_at(1)), (1, 0));
+    assert!(rt; (phases.run_at(0), phases.run_at(1)) == (1, 0));
     phases.clear();
-    assert_eq!(rt; phases.run_at(0), 0);
+    assert!(rt; phases.run_at(0) == 0);
     push_frame(&mut phases, 0x3D0);
-    assert_eq!(rt; phases.run_at(0), 1);
+    assert!(rt; phases.run_at(0) == 1);
     Ok(())
 }
 
@@ -66,7 +66,7 @@ fn two_lines(alloc: Global) -> Result<Packed, AllocError> {
 fn many_bits_at_a_time_come_to_the_same(rt: HostRuntime) -> Result<(), Fail> {
     let alloc = rt.alloc();
     let bits = two_lines(alloc)?;
-    assert_eq!(rt; bits.len(), 3400);
+    assert!(rt; bits.len() == 3400);
     let mut by_bit = Phases::<E2>::open(alloc)?;
     for place in 0..3400 {
         by_bit.push(bits.read(place, 1).get(0));
@@ -84,11 +84,11 @@ fn many_bits_at_a_time_come_to_the_same(rt: HostRuntime) -> Result<(), Fail> {
     by_pieces.push_all(&bits, 2016, 787);
     by_pieces.push_all(&bits, 2803, 597);
     for phase in 0..848 {
-        assert_eq!(rt; by_bit.run_at(phase), by_pieces.run_at(phase));
+        assert!(rt; by_bit.run_at(phase) == by_pieces.run_at(phase));
     }
-    assert_eq!(rt; (by_pieces.run_at(5), by_pieces.run_at(843)), (3, 3));
-    assert_eq!(rt; by_pieces.below_three(0, 848), 5);
-    assert_eq!(rt; by_pieces.below_three(6, 842), 837);
-    assert_eq!(rt; by_pieces.below_three(844, 4), 4);
+    assert!(rt; (by_pieces.run_at(5), by_pieces.run_at(843)) == (3, 3));
+    assert!(rt; by_pieces.below_three(0, 848) == 5);
+    assert!(rt; by_pieces.below_three(6, 842) == 837);
+    assert!(rt; by_pieces.below_three(844, 4) == 4);
     Ok(())
 }

@@ -33,27 +33,27 @@ fn the_four_runs_of_the_second_order(rt: HostRuntime) -> Result<(), Fail> {
             payload: 208,
         },
     ];
-    assert_eq!(rt; runs.as_slice(), expected.as_slice());
+    assert!(rt; runs.as_slice() == expected.as_slice());
     Ok(())
 }
 
 #[test]
 fn the_runs_of_the_fourth_order(rt: HostRuntime) -> Result<(), Fail> {
     let runs = runs::<E4>(rt.alloc())?;
-    assert_eq!(rt; runs.len(), 6);
-    assert_eq!(rt;
-        runs[0],
-        Run {
-            overhead: 16,
-            payload: 472
-        }
+    assert!(rt; runs.len() == 6);
+    assert!(rt;
+        runs[0]
+            == Run {
+                overhead: 16,
+                payload: 472
+            }
     );
-    assert_eq!(rt;
-        runs[5],
-        Run {
-            overhead: 4,
-            payload: 484
-        }
+    assert!(rt;
+        runs[5]
+            == Run {
+                overhead: 4,
+                payload: 484
+            }
     );
     Ok(())
 }
@@ -185,9 +185,9 @@ fn has_odd_payload(frame: &[bool]) -> bool
 
 // Checks that a list has these bits.
 fn check_bits(rt: &impl Abort, list: &Packed, bits: &[bool]) {
-    assert_eq!(rt; list.len(), bits.len());
+    assert!(rt; list.len() == bits.len());
     for place in 0..bits.len() {
-        assert_eq!(rt; list.get(place), bits[place], "place {place}");
+        assert!(rt; list.get(place) == bits[place], "place {place}");
     }
 }
 
@@ -196,11 +196,10 @@ fn check_parts(rt: &impl Abort, parts: &mut Parts<E2>, trib: u8, count: usize)
     requires { trib < 4 }
 {
     parts.read(trib);
-    assert_eq!(rt; parts.bits().len(), count);
+    assert!(rt; parts.bits().len() == count);
     for place in 0..count {
-        assert_eq!(rt;
-            parts.bits().get(place),
-            bit_of(trib, place),
+        assert!(rt;
+            parts.bits().get(place) == bit_of(trib, place),
             "place {place}"
         );
     }
@@ -216,18 +215,18 @@ fn a_frame_put_together_in_odd_pieces_and_taken_apart(rt: HostRuntime) -> Result
     for len in [1, 11, 5, 64, 130, 3, 200, 77, 357] {
         odd ^= append_piece(&rt, alloc, &layout, len, &mut places, &mut frame)?;
     }
-    assert_eq!(rt; places, [206, 205, 205, 206]);
+    assert!(rt; places == [206, 205, 205, 206]);
     let expected = expected_frame(alloc)?;
-    assert_eq!(rt; expected.len(), 848);
-    assert_eq!(rt; odd, has_odd_payload(&expected));
+    assert!(rt; expected.len() == 848);
+    assert!(rt; odd == has_odd_payload(&expected));
     check_bits(&rt, &frame, &expected);
     let mut parts = Parts::open(alloc, layout)?;
-    assert_eq!(rt; frame.len(), 848);
+    assert!(rt; frame.len() == 848);
     parts.load(&frame);
     check_parts(&rt, &mut parts, 0, 206);
     check_parts(&rt, &mut parts, 1, 205);
     check_parts(&rt, &mut parts, 2, 205);
     check_parts(&rt, &mut parts, 3, 206);
-    assert_eq!(rt; parts.ones().ones(0, parts.ones().len()), 205);
+    assert!(rt; parts.ones().ones(0, parts.ones().len()) == 205);
     Ok(())
 }

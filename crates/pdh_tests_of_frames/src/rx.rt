@@ -67,7 +67,7 @@ fn add_frame(bits: &mut Vec<bool>, first: u8) -> Result<(), AllocError> {
 }
 
 // A line of so many zeros and then frames, by the first byte of each.
-fn line(alloc: Global, zeros: usize, frames: &[u8]) -> Result<Vec<bool>, AllocError> {
+pub(crate) fn line(alloc: Global, zeros: usize, frames: &[u8]) -> Result<Vec<bool>, AllocError> {
     let mut bits = Vec::new(alloc);
     add_bits(&mut bits, zeros, false)?;
     for first in frames {
@@ -170,8 +170,8 @@ fn lines_and_leaves(rt: HostRuntime) -> Result<(), Fail> {
     for (zeros, frames, counts, delivered) in cases {
         let line = line(alloc, zeros, frames)?;
         let bits = zeros_ones_zeros(alloc, counts)?;
-        assert_eq!(rt; run(alloc, &line, &bits)?, (true, delivered));
-        assert_eq!(rt; run_at_once(alloc, &line, &bits)?, (true, delivered));
+        assert!(rt; run(alloc, &line, &bits)? == (true, delivered));
+        assert!(rt; run_at_once(alloc, &line, &bits)? == (true, delivered));
     }
     Ok(())
 }
@@ -220,11 +220,11 @@ fn ones_of_a_gap_go_in_rounds(rt: HostRuntime) -> Result<(), Fail> {
     let alloc = rt.alloc();
     let line = line(alloc, 8480, &[])?;
     let last_full = run_in_room(alloc, &line, [2000, 2000, 2000, 300])?;
-    assert_eq!(rt; last_full, ([301, 301, 301, 300], true));
+    assert!(rt; last_full == ([301, 301, 301, 300], true));
     let second_full = run_in_room(alloc, &line, [2000, 300, 2000, 2000])?;
-    assert_eq!(rt; second_full, ([301, 300, 300, 300], true));
+    assert!(rt; second_full == ([301, 300, 300, 300], true));
     let at_once = run_in_room_at_once(alloc, &line, [2000, 2000, 2000, 300])?;
-    assert_eq!(rt; at_once, ([301, 301, 301, 300], true));
+    assert!(rt; at_once == ([301, 301, 301, 300], true));
     Ok(())
 }
 
@@ -274,7 +274,7 @@ fn events_and_their_bits(rt: HostRuntime) -> Result<(), Fail> {
         Some((Kind::ALIGNED, 8479)),
         None,
     ];
-    assert_eq!(rt; events_of(alloc, &lost)?, aligned_twice);
+    assert!(rt; events_of(alloc, &lost)? == aligned_twice);
     let ones = zeros_ones_zeros(alloc, [10, 900, 10])?;
     let ais_once = [
         Some((Kind::AIS_ON, 857)),
@@ -282,6 +282,6 @@ fn events_and_their_bits(rt: HostRuntime) -> Result<(), Fail> {
         None,
         None,
     ];
-    assert_eq!(rt; events_of(alloc, &ones)?, ais_once);
+    assert!(rt; events_of(alloc, &ones)? == ais_once);
     Ok(())
 }

@@ -8,18 +8,18 @@ use std::test::Fail;
 #[test]
 fn bits_leave_in_the_order_of_their_arrival(rt: HostRuntime) -> Result<(), Fail> {
     let mut store = Store::open(rt.alloc())?;
-    assert_eq!(rt; store.leave(), Err(Underflow));
+    assert!(rt; store.leave() == Err(Underflow));
     for place in 0..STORE_SIZE as u32 {
-        assert_eq!(rt; store.fill(), place);
-        assert_eq!(rt; store.carries_more(), place >= THRESHOLD, "at {place}");
-        assert_eq!(rt; store.arrive(place % 3 == 0), Ok(()), "at {place}");
+        assert!(rt; store.fill() == place);
+        assert!(rt; store.carries_more() == (place >= THRESHOLD), "at {place}");
+        assert!(rt; store.arrive(place % 3 == 0) == Ok(()), "at {place}");
     }
-    assert_eq!(rt; store.arrive(true), Err(Overflow));
-    assert_eq!(rt; store.fill() as usize, STORE_SIZE);
+    assert!(rt; store.arrive(true) == Err(Overflow));
+    assert!(rt; store.fill() as usize == STORE_SIZE);
     for place in 0..STORE_SIZE as u32 {
-        assert_eq!(rt; store.leave(), Ok(place % 3 == 0), "at {place}");
+        assert!(rt; store.leave() == Ok(place % 3 == 0), "at {place}");
     }
-    assert_eq!(rt; store.leave(), Err(Underflow));
+    assert!(rt; store.leave() == Err(Underflow));
     Ok(())
 }
 
@@ -29,17 +29,17 @@ fn half_is_added_and_dropped(rt: HostRuntime) -> Result<(), Fail> {
     let mut store = Store::open(rt.alloc())?;
     store.add_half();
     for place in 0..STORE_SIZE / 2 {
-        assert_eq!(rt; store.leave(), Ok(true), "at {place}");
+        assert!(rt; store.leave() == Ok(true), "at {place}");
     }
     for place in 0..STORE_SIZE {
-        assert_eq!(rt; store.arrive(place % 5 == 0), Ok(()), "at {place}");
+        assert!(rt; store.arrive(place % 5 == 0) == Ok(()), "at {place}");
     }
-    assert_eq!(rt; store.fill() as usize, STORE_SIZE);
+    assert!(rt; store.fill() as usize == STORE_SIZE);
     store.drop_half();
     for place in STORE_SIZE / 2..STORE_SIZE {
-        assert_eq!(rt; store.leave(), Ok(place % 5 == 0), "at {place}");
+        assert!(rt; store.leave() == Ok(place % 5 == 0), "at {place}");
     }
-    assert_eq!(rt; store.leave(), Err(Underflow));
+    assert!(rt; store.leave() == Err(Underflow));
     Ok(())
 }
 

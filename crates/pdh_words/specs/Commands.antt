@@ -1,5 +1,5 @@
 -- The command that the words of a command line are.
-use Rattle.std.specs.Prelude.{ℕ, ◌<◌, ◌≤◌, ⊤, nat_le, ◌&&◌, List, [], ◌∷◌, codes, Option, Some, None, find, if◌then◌else◌}
+use Rattle.std.specs.Prelude.{◌≡◌, ℕ, ◌<◌, ◌≤◌, ⊤, nat_le, ◌==◌, ◌&&◌, List, [], ◌∷◌, length, codes, Option, Some, None, find, if◌then◌else◌}
 use Rattle.std.specs.Str.{bytes_eq}
 use Rattle.pdh_row_text.specs.Text.{◌>>=◌, number_of}
 use Rattle.pdh_clock.specs.declared.bias.Bias.{Bias}
@@ -9,9 +9,9 @@ use Rattle.pdh_ds1.specs.declared.form.Frame1.TheVariants.{Super, Extended}
 use Rattle.pdh_ds1.specs.Forms.{name_of as name_of_form}
 use Rattle.pdh_chain.specs.declared.chain.Chain.{Chain}
 use Rattle.pdh_chain.specs.declared.chain.Chain.TheVariants.{C13}
-use Rattle.pdh_chain.specs.Chains.{chains, name_of}
+use Rattle.pdh_chain.specs.Chains.{chains, levels_of, name_of}
 use Rattle.pdh_words.specs.declared.commands.Command.{Command}
-use Rattle.pdh_words.specs.declared.commands.Command.TheVariants.{Demux, Mux, ClockCheck, ClockMake, Inspect, InspectE1, Show, E1Pack, E1Unpack, Ds1Pack, Ds1Unpack, Disturb, Drill}
+use Rattle.pdh_words.specs.declared.commands.Command.TheVariants.{Demux, Mux, MuxSlip, ClockCheck, ClockMake, Inspect, InspectE1, Show, E1Pack, E1Unpack, Ds1Pack, Ds1Unpack, Disturb, Drill, Smooth}
 use Rattle.pdh_words.specs.declared.commands.Bits.{Bits}
 use Rattle.pdh_words.specs.declared.commands.Bits.TheVariants.{Line, Bent}
 
@@ -45,11 +45,17 @@ reading_of word chain bits =
     (if bytes_eq word (codes "demux") then Some (Demux chain bits)
     else (if bytes_eq word (codes "inspect") then Some (Inspect chain bits) else None))
 
--- `mux`, `disturb`, `demux` or `inspect` of a chain
+-- `smooth` of a chain of one multiplexer
+abbrev pub smoothing_of : Chain → Option Command
+smoothing_of chain = (if length (levels_of chain) == 1 then Some (Smooth chain) else None)
+
+-- `mux`, `muxslip`, `disturb`, `smooth`, `demux` or `inspect` of a chain
 abbrev pub conversion_of : List ℕ → Chain → Option Command
 conversion_of word chain =
     (if bytes_eq word (codes "mux") then Some (Mux chain None)
-    else (if bytes_eq word (codes "disturb") then Some (Disturb chain) else reading_of word chain Line))
+    else (if bytes_eq word (codes "muxslip") then Some (MuxSlip chain)
+    else (if bytes_eq word (codes "disturb") then Some (Disturb chain)
+    else (if bytes_eq word (codes "smooth") then smoothing_of chain else reading_of word chain Line))))
 
 -- `show` of a frame of a chain's line
 abbrev pub showing_of : List ℕ → List ℕ → Option Command
@@ -130,8 +136,9 @@ of_five first second third fourth fifth =
     if bytes_eq first (codes "clock") && bytes_eq second (codes "make") then making_of third fourth fifth else None
 
 -- the command of these words, if they are a row of the table: `mux CHAIN`, `demux CHAIN`, `demux CHAIN bent`,
--- `clock check CHAIN`, `mux c13 feac CODE`, `clock make CHAIN FRAMES BIAS`, `inspect CHAIN`, `inspect CHAIN bent`, `inspect e1`,
--- `show CHAIN NUMBER`, `e1pack`, `e1unpack`, `disturb CHAIN`, `drill CHAIN SEED FRAMES`, `ds1pack FORM`, and `ds1unpack FORM`
+-- `clock check CHAIN`, `mux c13 feac CODE`, `muxslip CHAIN`, `clock make CHAIN FRAMES BIAS`, `inspect CHAIN`, `inspect CHAIN bent`, `inspect e1`,
+-- `show CHAIN NUMBER`, `e1pack`, `e1unpack`, `disturb CHAIN`, `drill CHAIN SEED FRAMES`, `ds1pack FORM`, `ds1unpack FORM`, and
+-- `smooth CHAIN` with a chain of one multiplexer
 abbrev pub command_of : List (List ℕ) → Option Command
 command_of (a ∷ []) = framing_of a
 command_of (a ∷ b ∷ []) = of_two a b
@@ -140,14 +147,15 @@ command_of (a ∷ b ∷ c ∷ d ∷ []) = of_four a b c d
 command_of (a ∷ b ∷ c ∷ d ∷ e ∷ []) = of_five a b c d e
 command_of _ = None
 
--- a code that is sent has six bits, and a frame that is shown, and what test patterns begin with, is at most the largest number
--- that a word writes
-abbrev pub HasSmallNumbers : Command → Type 0
-HasSmallNumbers (Mux chain (Some code)) = code < 64
-HasSmallNumbers (Show chain frame) = frame ≤ 999999999
-HasSmallNumbers (Drill chain seed frames) = seed ≤ 999999999
-HasSmallNumbers _ = ⊤
+-- a code that is sent has six bits; a frame that is shown, and what test patterns begin with, is at most the largest number that
+-- a word writes; and a chain whose line is smoothed is one multiplexer
+abbrev pub KeepsLimits : Command → Type 0
+KeepsLimits (Mux chain (Some code)) = code < 64
+KeepsLimits (Show chain frame) = frame ≤ 999999999
+KeepsLimits (Drill chain seed frames) = seed ≤ 999999999
+KeepsLimits (Smooth chain) = length (levels_of chain) ≡ 1
+KeepsLimits _ = ⊤
 
 -- what is told of words that are no row of the table
 abbrev pub usage_text : List ℕ
-usage_text = codes "usage: pdh mux demux clock inspect show e1pack e1unpack disturb drill ds1pack ds1unpack"
+usage_text = codes "usage: pdh mux demux clock inspect show e1pack e1unpack disturb drill muxslip ds1pack ds1unpack smooth"

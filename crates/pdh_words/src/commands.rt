@@ -2,7 +2,7 @@
 
 ghost use Rattle.std.specs.Prelude.{◌≡◌, ◌≤◌, length, map, IfSome};
 ghost use Rattle.std.specs.String.{string_bytes};
-ghost use Rattle.pdh_words.specs.Commands.{chain_of, bias_of, framing_of, reading_of, conversion_of, showing_of, checking_of, sending_of, making_of, drilling_of, form_of, ds1_packing_of, ds1_unpacking_of, of_two as by_two, of_three as by_three, of_four as by_four, of_five as by_five, command_of, usage_text, HasSmallNumbers};
+ghost use Rattle.pdh_words.specs.Commands.{chain_of, bias_of, framing_of, reading_of, conversion_of, showing_of, checking_of, sending_of, making_of, drilling_of, form_of, smoothing_of, ds1_packing_of, ds1_unpacking_of, of_two as by_two, of_three as by_three, of_four as by_four, of_five as by_five, command_of, usage_text, KeepsLimits};
 
 use pdh_chain::{Chain, all_chains};
 use pdh_clock::Bias;
@@ -34,6 +34,11 @@ pub enum Command {
         chain: Chain,
         /// The code below 64 that it sends over the far end alarm and control channel.
         feac: Option<u8>,
+    },
+    /// `muxslip CHAIN`: makes a line from its leaves, whose stores slip and go on.
+    MuxSlip {
+        /// The chain of the line.
+        chain: Chain,
     },
     /// `clock check CHAIN`: tells whether a schedule is within the tolerance.
     ClockCheck {
@@ -79,6 +84,11 @@ pub enum Command {
         /// The form of the line.
         frame: Frame1,
     },
+    /// `smooth CHAIN`: takes a line of one multiplexer apart, and gives its tributaries out evenly.
+    Smooth {
+        /// The chain of the line.
+        chain: Chain,
+    },
     /// `disturb CHAIN`: changes bits of a line by a script.
     Disturb {
         /// The chain of the line.
@@ -98,9 +108,9 @@ pub enum Command {
 /// What is told of words that are no row of the table.
 pub fn usage() -> &'static str
     ensures text { result.now ≡ usage_text }
-    ensures short { length result.now ≤ 100 }
+    ensures short { length result.now ≤ 200 }
 {
-    "usage: pdh mux demux clock inspect show e1pack e1unpack disturb drill ds1pack ds1unpack"
+    "usage: pdh mux demux clock inspect show e1pack e1unpack disturb drill muxslip ds1pack ds1unpack smooth"
 }
 
 // The chain that a word names.
@@ -150,7 +160,8 @@ fn framing(word: &str) -> Option<Command>
 
 // The command of one word and a chain that reads a line from this file.
 fn reading(word: &str, chain: Chain, bits: Bits) -> Option<Command>
-    ensures { result ≡ reading_of word.now chain bits }
+    ensures is { result ≡ reading_of word.now chain bits }
+    ensures limits { IfSome result KeepsLimits }
 {
     match word {
         "demux" => Some(Command::Demux { chain, bits }),
@@ -159,13 +170,27 @@ fn reading(word: &str, chain: Chain, bits: Bits) -> Option<Command>
     }
 }
 
+// The smoothing of a line, where its chain has one multiplexer.
+fn smoothing(chain: Chain) -> Option<Command>
+    ensures is { result ≡ smoothing_of chain }
+    ensures limits { IfSome result KeepsLimits }
+{
+    if chain.levels().len() != 1 {
+        return None;
+    }
+    Some(Command::Smooth { chain })
+}
+
 // The command of one word and a chain.
 fn conversion(word: &str, chain: Chain) -> Option<Command>
-    ensures { result ≡ conversion_of word.now chain }
+    ensures is { result ≡ conversion_of word.now chain }
+    ensures limits { IfSome result KeepsLimits }
 {
     match word {
         "mux" => Some(Command::Mux { chain, feac: None }),
+        "muxslip" => Some(Command::MuxSlip { chain }),
         "disturb" => Some(Command::Disturb { chain }),
+        "smooth" => smoothing(chain),
         _ => reading(word, chain, Bits::Line),
     }
 }
@@ -173,7 +198,7 @@ fn conversion(word: &str, chain: Chain) -> Option<Command>
 // The showing of a frame of a line, by its chain and its number.
 fn showing(chain_word: &str, frame: &str) -> Option<Command>
     ensures is { result ≡ showing_of chain_word.now frame.now }
-    ensures numbers { IfSome result HasSmallNumbers }
+    ensures limits { IfSome result KeepsLimits }
 {
     let chain = chain(chain_word)?;
     let frame = u64::from(number(frame.as_bytes())?);
@@ -191,7 +216,7 @@ fn checking(chain_word: &str) -> Option<Command>
 // The making of a line with C-bit parity that sends a code.
 fn sending(code_word: &str) -> Option<Command>
     ensures is { result ≡ sending_of code_word.now }
-    ensures numbers { IfSome result HasSmallNumbers }
+    ensures limits { IfSome result KeepsLimits }
 {
     let code = number(code_word.as_bytes())?;
     if code > 63 {
@@ -206,7 +231,7 @@ fn sending(code_word: &str) -> Option<Command>
 // The making of a schedule, by its chain, its number of frames and its offsets.
 fn making(chain_word: &str, frames: &str, bias_word: &str) -> Option<Command>
     ensures is { result ≡ making_of chain_word.now frames.now bias_word.now }
-    ensures numbers { IfSome result HasSmallNumbers }
+    ensures limits { IfSome result KeepsLimits }
 {
     let chain = chain(chain_word)?;
     let frames = u64::from(number(frames.as_bytes())?);
@@ -221,7 +246,7 @@ fn making(chain_word: &str, frames: &str, bias_word: &str) -> Option<Command>
 // The drill of a chain, by what its test patterns begin with and its number of frames.
 fn drilling(chain_word: &str, seed: &str, frames: &str) -> Option<Command>
     ensures is { result ≡ drilling_of chain_word.now seed.now frames.now }
-    ensures numbers { IfSome result HasSmallNumbers }
+    ensures limits { IfSome result KeepsLimits }
 {
     let chain = chain(chain_word)?;
     let seed = u64::from(number(seed.as_bytes())?);
@@ -252,7 +277,7 @@ fn ds1_unpacking(form_word: &str) -> Option<Command>
 // The command of two words.
 fn of_two(first: &str, second: &str) -> Option<Command>
     ensures is { result ≡ by_two first.now second.now }
-    ensures numbers { IfSome result HasSmallNumbers }
+    ensures limits { IfSome result KeepsLimits }
 {
     if first == "inspect" && second == "e1" {
         return Some(Command::InspectE1);
@@ -269,7 +294,7 @@ fn of_two(first: &str, second: &str) -> Option<Command>
 // The command of three words.
 fn of_three(first: &str, second: &str, third: &str) -> Option<Command>
     ensures is { result ≡ by_three first.now second.now third.now }
-    ensures numbers { IfSome result HasSmallNumbers }
+    ensures limits { IfSome result KeepsLimits }
 {
     if first == "show" {
         return showing(second, third);
@@ -286,7 +311,7 @@ fn of_three(first: &str, second: &str, third: &str) -> Option<Command>
 // The command of four words.
 fn of_four(first: &str, second: &str, third: &str, fourth: &str) -> Option<Command>
     ensures is { result ≡ by_four first.now second.now third.now fourth.now }
-    ensures numbers { IfSome result HasSmallNumbers }
+    ensures limits { IfSome result KeepsLimits }
 {
     if first == "mux" && second == "c13" && third == "feac" {
         return sending(fourth);
@@ -300,7 +325,7 @@ fn of_four(first: &str, second: &str, third: &str, fourth: &str) -> Option<Comma
 // The command of five words.
 fn of_five(first: &str, second: &str, third: &str, fourth: &str, fifth: &str) -> Option<Command>
     ensures is { result ≡ by_five first.now second.now third.now fourth.now fifth.now }
-    ensures numbers { IfSome result HasSmallNumbers }
+    ensures limits { IfSome result KeepsLimits }
 {
     if first == "clock" && second == "make" {
         return making(third, fourth, fifth);
@@ -309,13 +334,14 @@ fn of_five(first: &str, second: &str, third: &str, fourth: &str, fifth: &str) ->
 }
 
 /// The command of the words, without the program's own name, if they are a row of the table: `mux CHAIN`, `demux CHAIN`,
-/// `demux CHAIN bent`, `mux c13 feac CODE` with a number of at most 63, `clock check CHAIN`, `clock make CHAIN FRAMES BIAS`
-/// with a number and `nominal`, `fast`, `slow` or `mixed`, `inspect CHAIN`, `inspect CHAIN bent`, `inspect e1`,
-/// `show CHAIN NUMBER`, `e1pack`, `e1unpack`, `disturb CHAIN`, `drill CHAIN SEED FRAMES` with two numbers, or `ds1pack` or
-/// `ds1unpack` with `sf` or `esf`. CHAIN is the name of a chain, and a number is `0`, or a digit 1 to 9 and at most eight digits.
+/// `demux CHAIN bent`, `mux c13 feac CODE` with a number of at most 63, `muxslip CHAIN`, `clock check CHAIN`,
+/// `clock make CHAIN FRAMES BIAS` with a number and `nominal`, `fast`, `slow` or `mixed`, `inspect CHAIN`,
+/// `inspect CHAIN bent`, `inspect e1`, `show CHAIN NUMBER`, `e1pack`, `e1unpack`, `disturb CHAIN`, `drill CHAIN SEED FRAMES`
+/// with two numbers, `ds1pack` or `ds1unpack` with `sf` or `esf`, or `smooth CHAIN` with a chain of one multiplexer. CHAIN is
+/// the name of a chain, and a number is `0`, or a digit 1 to 9 and at most eight digits.
 pub fn command_for(words: &[String]) -> Option<Command>
     ensures is { result ≡ command_of (map string_bytes words.now) }
-    ensures numbers { IfSome result HasSmallNumbers }
+    ensures limits { IfSome result KeepsLimits }
 {
     match words {
         [word] => framing(word.as_str()),

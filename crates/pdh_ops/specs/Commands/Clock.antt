@@ -83,6 +83,7 @@ checking chain = record {
   reads_in_run = none_in_run;
   is_due = check_due chain;
   shows = None;
+  tells = None;
 }
 
 -- ---- `clock make`
@@ -112,4 +113,5 @@ making chain frames bias = record {
   reads_in_run = none_in_run;
   is_due = due_at_outputs (λ files. clock_made chain frames bias);
   shows = None;
+  tells = None;
 }

@@ -45,4 +45,5 @@ demuxing chain bits = record {
   reads_in_run = all_in_run;
   is_due = due_at_outputs (demux_comes chain bits);
   shows = None;
+  tells = None;
 }

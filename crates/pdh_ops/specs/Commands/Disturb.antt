@@ -80,4 +80,5 @@ disturbing chain = record {
   reads_in_run = disturb_in_run;
   is_due = disturb_due chain;
   shows = None;
+  tells = None;
 }

@@ -33,4 +33,5 @@ drilling chain seed frames = record {
   reads_in_run = none_in_run;
   is_due = due_at_outputs (λ files. drilled chain seed frames);
   shows = None;
+  tells = None;
 }

@@ -52,6 +52,7 @@ inspecting chain bits = record {
   reads_in_run = all_in_run;
   is_due = due_at_outputs (inspect_comes chain bits);
   shows = Some (record { file = line_file bits; events_of = line_bits_events chain });
+  tells = None;
 }
 
 abbrev pub inspect_e1_comes : Files → Answer
@@ -67,6 +68,7 @@ inspecting_e1 = record {
   reads_in_run = all_in_run;
   is_due = due_at_outputs inspect_e1_comes;
   shows = Some (record { file = E1Line; events_of = e1_events });
+  tells = None;
 }
 
 -- ---- `show`
@@ -104,4 +106,5 @@ showing chain n = record {
   reads_in_run = all_in_run;
   is_due = due_at_outputs (show_comes chain n);
   shows = None;
+  tells = None;
 }

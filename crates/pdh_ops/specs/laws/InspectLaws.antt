@@ -15,4 +15,5 @@ inspect_reads chain bits = record {
   in_run = refl;
   no_outputs = refl;
   shows = λ view e. ap (λ (view : View). view.file) (same_Some _ view e);
+  tells = refl;
 }

@@ -1,25 +1,24 @@
 //! `demux`: a line's file to a file for each leaf.
 
-ghost use Rattle.std.specs.Prelude.{◌≡◌, ◌≢◌, ◌⊎◌, ◌∷◌, [], ℕ, map, IfOk};
+ghost use Rattle.std.specs.Prelude.{◌≡◌, ◌∷◌, [], map, IfOk};
 ghost use Rattle.pdh_edge.specs.Files.{ShelfState};
 ghost use Rattle.pdh_blocks.specs.State.{over};
 ghost use Rattle.pdh_blocks.specs.Kept.{Keeps};
-ghost use Rattle.pdh_chain.specs.Chains.{leaves_of};
-ghost use Rattle.pdh_chain.specs.declared.stop.DemuxStop.TheVariants.{Memory, Ended as LineEnded, ReadFailed, WriteFailed};
 ghost use Rattle.pdh_answers.specs.Names.{line_file};
+ghost use Rattle.pdh_answers.specs.SlipLines.{log_state};
 ghost use Rattle.pdh_ops.specs.Commands.Demux.{demux_says, demuxing};
 ghost use Rattle.pdh_runner.specs.Performing.{Performs, IsWatched};
 ghost use Rattle.pdh_runner.specs.Running.{ComesOut, IsCountedBy};
-ghost use Rattle.pdh_runner.specs.declared.running.Outcome.TheVariants.{Memory as WantsMemory, Failed};
 ghost use Rattle.pdh_runner.specs.Lines.{IsLine};
 ghost use Rattle.pdh_ops.specs.Steps.{AreLeafOutputs, CanReceive, IsDemuxPort};
 
+use super::apart::outcome_of;
 use crate::leaf::leaf_count;
 use crate::texts::chain_counted;
-use pdh_answers::{Done, File, Stop};
+use pdh_answers::{Done, File, SinkLog, Stop};
 use pdh_blocks::ShelfPort;
-use pdh_chain::{Chain, DemuxStop};
-use pdh_edge::Shelf;
+use pdh_chain::Chain;
+use pdh_edge::{Shelf, Sink};
 use pdh_runner::{Ended, Input, Outcome, PortFiles, Work, Worked, line_of, run_over};
 use pdh_watch::{Monitor, Quiet};
 use pdh_words::Bits;
@@ -33,8 +32,8 @@ struct DemuxPlan {
     line: Input,
 }
 
-// The files of the port: the line, and what each leaf receives.
-fn port_files(alloc: Global, chain: Chain, line: Input) -> Result<PortFiles, AllocError>
+/// The files of the port: the line, and what each leaf receives.
+pub fn port_files(alloc: Global, chain: Chain, line: Input) -> Result<PortFiles, AllocError>
     ensures inputs { IfOk result (λ files. files.inputs.items ≡ line ∷ []) }
     ensures outputs { IfOk result (λ files. AreLeafOutputs chain files.outputs.items) }
 {
@@ -52,18 +51,6 @@ fn says(chain: Chain, frames: u64) -> Done
     ensures { result ≡ demux_says chain frames }
 {
     Done::Line(chain_counted("demux ", chain, ": frames ", frames))
-}
-
-// How the work comes out where a line that has its bits isn't received to its end.
-fn outcome_of(stop: DemuxStop) -> Outcome
-    requires { stop ≢ LineEnded }
-    ensures memory { stop ≡ Memory → result ≡ WantsMemory }
-    ensures failed { (stop ≡ ReadFailed) ⊎ (stop ≡ WriteFailed) → result ≡ Failed }
-{
-    match stop {
-        DemuxStop::Memory => Outcome::Memory,
-        _ => Outcome::Failed,
-    }
 }
 
 impl DemuxPlan {
@@ -102,11 +89,12 @@ impl Work for DemuxPlan {
         port_files(alloc, self.chain, self.line)
     }
 
-    fn work<S: Shelf>(
+    fn work<S: Shelf, K: Sink>(
         &self,
         alloc: Global,
         mut port: ShelfPort<S>,
         _monitors: &mut Vec<Box<dyn Monitor>>,
+        _log: &mut SinkLog<K>,
     ) -> Worked<S> {
         let outcome = self.receive(alloc, &mut port);
         Worked { port, outcome }
@@ -115,18 +103,27 @@ impl Work for DemuxPlan {
 
 /// Reads the line, writes each leaf's bits, and answers the number of frames that were delivered,
 /// or that none was.
-pub fn demux<S: Shelf>(
+pub fn demux<S: Shelf, K: Sink>(
     alloc: Global,
     chain: Chain,
     bits: Bits,
     mut shelf: S,
     monitors: &mut Vec<Box<dyn Monitor>>,
+    log: &mut SinkLog<K>,
 ) -> Ended<S>
+    requires fresh { log.old.told ≡ 0 }
     ensures performs { Performs (demuxing chain bits) (S.state shelf) (S.state result.shelf) result.answer }
     ensures watches { IsWatched (demuxing chain bits) (S.state shelf) (S.state result.shelf) result.answer (map ⟦<Box<dyn Monitor> as Monitor>⟧.state monitors.old.items) (map ⟦<Box<dyn Monitor> as Monitor>⟧.state monitors.new.items) }
+    ensures hears { log_state (K.state log.new.out) log.new.told ≡ log_state (K.state log.old.out) log.old.told }
 {
     match line_of(chain, File::of_line(bits), &mut shelf) {
-        Ok(line) => run_over(alloc, &DemuxPlan { chain, bits, line }, shelf, monitors),
+        Ok(line) => run_over(
+            alloc,
+            &DemuxPlan { chain, bits, line },
+            shelf,
+            monitors,
+            log,
+        ),
         Err(stop) => Ended::new(shelf, Err(stop)),
     }
 }

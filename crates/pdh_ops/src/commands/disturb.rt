@@ -12,12 +12,13 @@ ghost use Rattle.pdh_runner.specs.Running.{ComesOut, IsCountedBy};
 ghost use Rattle.pdh_runner.specs.declared.running.Outcome.TheVariants.{Failed};
 ghost use Rattle.pdh_runner.specs.Refusing.{Refuses};
 ghost use Rattle.pdh_runner.specs.Performing.{IsCounted, Performs, IsWatched};
+ghost use Rattle.pdh_answers.specs.SlipLines.{log_state};
 
 use crate::texts::chain_counted;
-use pdh_answers::{Done, File, Stop};
+use pdh_answers::{Done, File, SinkLog, Stop};
 use pdh_blocks::ShelfPort;
 use pdh_chain::{Chain, frame_bytes};
-use pdh_edge::Shelf;
+use pdh_edge::{Shelf, Sink};
 use pdh_packed::Packed;
 use pdh_runner::files::{read, size};
 use pdh_runner::{Ended, Input, Outcome, PortFiles, Work, Worked, run_over};
@@ -153,11 +154,12 @@ impl Work for DisturbPlan {
         PortFiles::line_to_line(alloc, line, File::Bent)
     }
 
-    fn work<S: Shelf>(
+    fn work<S: Shelf, K: Sink>(
         &self,
         alloc: Global,
         mut port: ShelfPort<S>,
         _monitors: &mut Vec<Box<dyn Monitor>>,
+        _log: &mut SinkLog<K>,
     ) -> Worked<S> {
         let outcome = self.apply(alloc, &mut port);
         Worked { port, outcome }
@@ -166,17 +168,20 @@ impl Work for DisturbPlan {
 
 /// Reads the line and the script, writes the disturbed line, and answers how many bits it has, of which the file holds the
 /// whole bytes.
-pub fn disturb<S: Shelf>(
+pub fn disturb<S: Shelf, K: Sink>(
     alloc: Global,
     chain: Chain,
     mut shelf: S,
     monitors: &mut Vec<Box<dyn Monitor>>,
+    log: &mut SinkLog<K>,
 ) -> Ended<S>
+    requires fresh { log.old.told ≡ 0 }
     ensures performs { Performs (disturbing chain) (S.state shelf) (S.state result.shelf) result.answer }
     ensures watches { IsWatched (disturbing chain) (S.state shelf) (S.state result.shelf) result.answer (map ⟦<Box<dyn Monitor> as Monitor>⟧.state monitors.old.items) (map ⟦<Box<dyn Monitor> as Monitor>⟧.state monitors.new.items) }
+    ensures hears { log_state (K.state log.new.out) log.new.told ≡ log_state (K.state log.old.out) log.old.told }
 {
     match read_plan(alloc, chain, &mut shelf) {
-        Ok(plan) => run_over(alloc, &DisturbPlan { chain, plan }, shelf, monitors),
+        Ok(plan) => run_over(alloc, &DisturbPlan { chain, plan }, shelf, monitors, log),
         Err(stop) => Ended::new(shelf, Err(stop)),
     }
 }

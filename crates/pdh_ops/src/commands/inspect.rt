@@ -3,6 +3,7 @@
 ghost use Rattle.std.specs.Prelude.{◌≡◌, map};
 ghost use Rattle.pdh_answers.specs.Names.{line_file};
 ghost use Rattle.pdh_answers.specs.declared.file.File.TheVariants.{E1Line};
+ghost use Rattle.pdh_answers.specs.SlipLines.{log_state};
 ghost use Rattle.pdh_ops.specs.Commands.Inspect.{inspect_says, inspect_e1_says, inspecting, inspecting_e1, inspected, e1_inspected};
 ghost use Rattle.pdh_runner.specs.Performing.{Performs, IsWatched};
 ghost use Rattle.pdh_ops.specs.laws.InspectLaws.{inspect_reads};
@@ -11,10 +12,10 @@ ghost use Rattle.pdh_streams.specs.Steps.{IsFramedLine};
 ghost use Rattle.pdh_runner.specs.LineSteps.{CanRead, IsLinePort};
 
 use crate::line_work::{LineWork, run_line};
-use pdh_answers::{Done, File, Stop};
+use pdh_answers::{Done, File, SinkLog, Stop};
 use pdh_blocks::ShelfPort;
 use pdh_chain::Chain;
-use pdh_edge::Shelf;
+use pdh_edge::{Shelf, Sink};
 use pdh_inspect::{LineStop, inspect_framed, inspect_line};
 use pdh_runner::{Ended, Input, Outcome, PortFiles, Work, Worked, run_over};
 use pdh_streams::{E1, framed_line};
@@ -108,17 +109,20 @@ impl LineWork for Inspection {
 }
 
 /// Reads the line, shows its events to the monitors, and answers the numbers of its delivered frames and of its events.
-pub fn inspect<S: Shelf>(
+pub fn inspect<S: Shelf, K: Sink>(
     alloc: Global,
     chain: Chain,
     bits: Bits,
     shelf: S,
     monitors: &mut Vec<Box<dyn Monitor>>,
+    log: &mut SinkLog<K>,
 ) -> Ended<S>
+    requires fresh { log.old.told ≡ 0 }
     ensures performs { Performs (inspecting chain bits) (S.state shelf) (S.state result.shelf) result.answer }
     ensures watches { IsWatched (inspecting chain bits) (S.state shelf) (S.state result.shelf) result.answer (map ⟦<Box<dyn Monitor> as Monitor>⟧.state monitors.old.items) (map ⟦<Box<dyn Monitor> as Monitor>⟧.state monitors.new.items) }
+    ensures hears { log_state (K.state log.new.out) log.new.told ≡ log_state (K.state log.old.out) log.old.told }
 {
-    run_line(alloc, Inspection { chain, bits }, shelf, monitors)
+    run_line(alloc, Inspection { chain, bits }, shelf, monitors, log)
 }
 
 impl Work for FramedPlan {
@@ -134,11 +138,12 @@ impl Work for FramedPlan {
         PortFiles::line(alloc, self.line)
     }
 
-    fn work<S: Shelf>(
+    fn work<S: Shelf, K: Sink>(
         &self,
         alloc: Global,
         port: ShelfPort<S>,
         monitors: &mut Vec<Box<dyn Monitor>>,
+        _log: &mut SinkLog<K>,
     ) -> Worked<S> {
         let seen = inspect_framed(alloc, self.line.bits, port, monitors);
         let outcome = match seen.result {
@@ -158,16 +163,19 @@ impl Work for FramedPlan {
 
 /// Reads the framed line, shows its events to the monitors, and answers the numbers of its delivered multiframes and of its
 /// events.
-pub fn inspect_e1<S: Shelf>(
+pub fn inspect_e1<S: Shelf, K: Sink>(
     alloc: Global,
     mut shelf: S,
     monitors: &mut Vec<Box<dyn Monitor>>,
+    log: &mut SinkLog<K>,
 ) -> Ended<S>
+    requires fresh { log.old.told ≡ 0 }
     ensures performs { Performs inspecting_e1 (S.state shelf) (S.state result.shelf) result.answer }
     ensures watches { IsWatched inspecting_e1 (S.state shelf) (S.state result.shelf) result.answer (map ⟦<Box<dyn Monitor> as Monitor>⟧.state monitors.old.items) (map ⟦<Box<dyn Monitor> as Monitor>⟧.state monitors.new.items) }
+    ensures hears { log_state (K.state log.new.out) log.new.told ≡ log_state (K.state log.old.out) log.old.told }
 {
     match framed_line(&E1, &mut shelf) {
-        Ok(line) => run_over(alloc, &FramedPlan { line }, shelf, monitors),
+        Ok(line) => run_over(alloc, &FramedPlan { line }, shelf, monitors, log),
         Err(stop) => Ended::new(shelf, Err(stop)),
     }
 }

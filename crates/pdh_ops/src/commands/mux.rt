@@ -15,17 +15,19 @@ ghost use Rattle.pdh_runner.specs.Performing.{Performs, IsCounted, IsWatched};
 ghost use Rattle.pdh_runner.specs.Refusing.{Refuses};
 ghost use Rattle.pdh_answers.specs.declared.answer.Stop.TheVariants.{Overflow, Underflow};
 ghost use Rattle.pdh_answers.specs.declared.file.File.TheVariants.{Line};
+ghost use Rattle.pdh_answers.specs.SlipLines.{log_state};
 ghost use Rattle.pdh_ops.specs.MuxSteps.{AreSizes, AllHeld, AreEnough, IsEnoughStop, IsScheduled, IsPlanned, AreLeafInputs, CanMake, IsMuxPort};
-ghost use Rattle.pdh_ops.specs.Commands.Mux.{mux_says, muxing};
+ghost use Rattle.pdh_ops.specs.Commands.Mux.{Job, mux_says, muxing, making_line};
+ghost use Rattle.pdh_ops.specs.Commands.Mux.Job.{Plainly};
 
 use crate::leaf::leaf_count;
 use crate::schedule::read_schedule;
 use crate::texts::chain_counted;
-use pdh_answers::{Done, File, Stop};
+use pdh_answers::{Done, File, SinkLog, Stop};
 use pdh_blocks::ShelfPort;
 use pdh_chain::{Chain, MuxStop};
 use pdh_clock::Schedule;
-use pdh_edge::Shelf;
+use pdh_edge::{Shelf, Sink};
 use pdh_runner::files::size;
 use pdh_runner::{Ended, Input, Outcome, PortFiles, Work, Worked, run_over};
 use pdh_shape::{MOST_FRAMES, Place, TOP};
@@ -39,11 +41,13 @@ struct InputSizes {
     leaves: [u64; 64],
 }
 
-// What a line is made by: the schedule, and how many frames it has.
+/// What a line is made by.
 #[derive(Drop)]
-struct Plan {
-    clock: Schedule,
-    frames: u64,
+pub struct Plan {
+    /// The schedule.
+    pub clock: Schedule,
+    /// How many frames it has.
+    pub frames: u64,
 }
 
 // What is made: the chain's line by this plan, and the code that it sends.
@@ -59,7 +63,7 @@ fn read_sizes<S: Shelf>(chain: Chain, shelf: &mut S) -> Result<InputSizes, Stop>
     ensures looks { Looks (S.state shelf.old) (S.state shelf.new) }
     ensures ok { IfOk result (λ sizes. AreSizes chain sizes (S.state shelf.new)) }
     ensures held { OnOk result (AllHeld chain (S.state shelf.new)) }
-    ensures err { IfErr result (λ stop. (feac : Option ℕ) → Refuses (muxing chain feac) (S.state shelf.old) (S.state shelf.new) stop) }
+    ensures err { IfErr result (λ stop. (job : Job) → Refuses (making_line chain job) (S.state shelf.old) (S.state shelf.new) stop) }
     ensures counted { IsCounted (S.state shelf.old) (S.state shelf.new) result }
 {
     let schedule = size(shelf, File::Schedule)?;
@@ -95,11 +99,11 @@ fn frames(chain: Chain, clock: &Schedule, sizes: &InputSizes) -> Result<u64, Sto
     Ok(frames)
 }
 
-// What the line is made by, where no step refuses the inputs.
-fn read_plan<S: Shelf>(alloc: Global, chain: Chain, shelf: &mut S) -> Result<Plan, Stop>
+/// What the line is made by, where no step refuses the inputs.
+pub fn read_plan<S: Shelf>(alloc: Global, chain: Chain, shelf: &mut S) -> Result<Plan, Stop>
     ensures looks { Looks (S.state shelf.old) (S.state shelf.new) }
     ensures ok { IfOk result (λ plan. IsPlanned chain plan (S.state shelf.new)) }
-    ensures err { IfErr result (λ stop. (feac : Option ℕ) → Refuses (muxing chain feac) (S.state shelf.old) (S.state shelf.new) stop) }
+    ensures err { IfErr result (λ stop. (job : Job) → Refuses (making_line chain job) (S.state shelf.old) (S.state shelf.new) stop) }
     ensures counted { IsCounted (S.state shelf.old) (S.state shelf.new) result }
 {
     let sizes = read_sizes(chain, shelf)?;
@@ -108,8 +112,8 @@ fn read_plan<S: Shelf>(alloc: Global, chain: Chain, shelf: &mut S) -> Result<Pla
     Ok(Plan { clock, frames })
 }
 
-// The files of the port: of each leaf the bits that enter, and the line.
-fn port_files(alloc: Global, chain: Chain, plan: &Plan) -> Result<PortFiles, AllocError>
+/// The files of the port: of each leaf the bits that enter, and the line.
+pub fn port_files(alloc: Global, chain: Chain, plan: &Plan) -> Result<PortFiles, AllocError>
     requires { IsScheduled chain plan.now }
     ensures inputs { IfOk result (λ files. AreLeafInputs chain plan.now.clock.rows files.inputs.items) }
     ensures outputs { IfOk result (λ files. files.outputs.items ≡ Line ∷ []) }
@@ -166,7 +170,7 @@ impl MuxPlan {
         requires { CanMake self.now.chain self.now.feac self.now.plan (over (S.state port.old.shelf) port.old.blocks) }
         ensures kept { Keeps (over (S.state port.old.shelf) port.old.blocks) (over (S.state port.new.shelf) port.new.blocks) }
         ensures counted { IsCountedBy (over (S.state port.new.shelf) port.new.blocks) result }
-        ensures comes { (begun : ShelfState) → IsMuxPort self.now.chain self.now.feac self.now.plan.clock.rows begun (over (S.state port.old.shelf) port.old.blocks)
+        ensures comes { (begun : ShelfState) → IsMuxPort self.now.chain (Plainly self.now.feac) self.now.plan.clock.rows begun (over (S.state port.old.shelf) port.old.blocks)
             → ComesOut (muxing self.now.chain self.now.feac) begun (over (S.state port.old.shelf) port.old.blocks) (over (S.state port.new.shelf) port.new.blocks) result }
     {
         let frames = self.plan.frames;
@@ -185,17 +189,18 @@ impl Work for MuxPlan {
 
     ghost opened = { λ p port. CanMake p.chain p.feac p.plan port };
 
-    ghost gives = { λ p begun port. IsMuxPort p.chain p.feac p.plan.clock.rows begun port };
+    ghost gives = { λ p begun port. IsMuxPort p.chain (Plainly p.feac) p.plan.clock.rows begun port };
 
     fn files(&self, alloc: Global) -> Result<PortFiles, AllocError> {
         port_files(alloc, self.chain, &self.plan)
     }
 
-    fn work<S: Shelf>(
+    fn work<S: Shelf, K: Sink>(
         &self,
         alloc: Global,
         mut port: ShelfPort<S>,
         _monitors: &mut Vec<Box<dyn Monitor>>,
+        _log: &mut SinkLog<K>,
     ) -> Worked<S> {
         let outcome = self.send(alloc, &mut port);
         Worked { port, outcome }
@@ -205,19 +210,22 @@ impl Work for MuxPlan {
 /// Reads the schedule and the leaves, makes the line, writes its whole frames up to the first event,
 /// and answers the number of frames. The line sends a code over the far end alarm and control channel
 /// of its top, where one is asked for.
-pub fn mux<S: Shelf>(
+pub fn mux<S: Shelf, K: Sink>(
     alloc: Global,
     chain: Chain,
     feac: Option<u8>,
     mut shelf: S,
     monitors: &mut Vec<Box<dyn Monitor>>,
+    log: &mut SinkLog<K>,
 ) -> Ended<S>
+    requires fresh { log.old.told ≡ 0 }
     requires code { IfSome feac (λ code. code < 64) }
     ensures performs { Performs (muxing chain feac) (S.state shelf) (S.state result.shelf) result.answer }
     ensures watches { IsWatched (muxing chain feac) (S.state shelf) (S.state result.shelf) result.answer (map ⟦<Box<dyn Monitor> as Monitor>⟧.state monitors.old.items) (map ⟦<Box<dyn Monitor> as Monitor>⟧.state monitors.new.items) }
+    ensures hears { log_state (K.state log.new.out) log.new.told ≡ log_state (K.state log.old.out) log.old.told }
 {
     match read_plan(alloc, chain, &mut shelf) {
-        Ok(plan) => run_over(alloc, &MuxPlan { chain, feac, plan }, shelf, monitors),
+        Ok(plan) => run_over(alloc, &MuxPlan { chain, feac, plan }, shelf, monitors, log),
         Err(stop) => Ended::new(shelf, Err(stop)),
     }
 }

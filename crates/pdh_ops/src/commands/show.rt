@@ -9,11 +9,12 @@ ghost use Rattle.pdh_ops.specs.ShowSteps.{HasFrame, CanShow, IsShowPort};
 ghost use Rattle.pdh_runner.specs.Running.{ComesOut, IsCountedBy};
 ghost use Rattle.pdh_runner.specs.Refusing.{Refuses};
 ghost use Rattle.pdh_runner.specs.Performing.{IsCounted, Performs, IsWatched};
+ghost use Rattle.pdh_answers.specs.SlipLines.{log_state};
 
-use pdh_answers::{Done, File, FrameText, Stop};
+use pdh_answers::{Done, File, FrameText, SinkLog, Stop};
 use pdh_blocks::ShelfPort;
 use pdh_chain::{Chain, frame_bytes};
-use pdh_edge::Shelf;
+use pdh_edge::{Shelf, Sink};
 use pdh_runner::files::size;
 use pdh_runner::{Ended, Input, Outcome, PortFiles, Work, Worked, run_over};
 use pdh_shape::MOST_FRAMES;
@@ -84,11 +85,12 @@ impl Work for ShowPlan {
         PortFiles::line(alloc, line)
     }
 
-    fn work<S: Shelf>(
+    fn work<S: Shelf, K: Sink>(
         &self,
         alloc: Global,
         mut port: ShelfPort<S>,
         _monitors: &mut Vec<Box<dyn Monitor>>,
+        _log: &mut SinkLog<K>,
     ) -> Worked<S> {
         let outcome = self.text(alloc, &mut port);
         Worked { port, outcome }
@@ -96,19 +98,22 @@ impl Work for ShowPlan {
 }
 
 /// Reads the line up to the end of one of its frames, and answers the text of that frame, whatever the alignment.
-pub fn show<S: Shelf>(
+pub fn show<S: Shelf, K: Sink>(
     alloc: Global,
     chain: Chain,
     frame: u64,
     mut shelf: S,
     monitors: &mut Vec<Box<dyn Monitor>>,
+    log: &mut SinkLog<K>,
 ) -> Ended<S>
+    requires fresh { log.old.told ≡ 0 }
     requires known { frame ≤ 999999999 }
     ensures performs { Performs (showing chain frame) (S.state shelf) (S.state result.shelf) result.answer }
     ensures watches { IsWatched (showing chain frame) (S.state shelf) (S.state result.shelf) result.answer (map ⟦<Box<dyn Monitor> as Monitor>⟧.state monitors.old.items) (map ⟦<Box<dyn Monitor> as Monitor>⟧.state monitors.new.items) }
+    ensures hears { log_state (K.state log.new.out) log.new.told ≡ log_state (K.state log.old.out) log.old.told }
 {
     match judge(chain, frame, &mut shelf) {
-        Ok(()) => run_over(alloc, &ShowPlan { chain, frame }, shelf, monitors),
+        Ok(()) => run_over(alloc, &ShowPlan { chain, frame }, shelf, monitors, log),
         Err(stop) => Ended::new(shelf, Err(stop)),
     }
 }

@@ -2,4 +2,4 @@ use Rattle.pdh_chain.proofs.ShortLists.{mux_short}
 use Rattle.pdh_chain.proofs.laws.mux_puts_no_more_than_its_frames.Goals as goal
 
 pub returns : goal.returns
-returns c shapes counts says scheduled frames inputs inputs_now outputs outputs_now put k = mux_short shapes counts says scheduled frames inputs inputs_now outputs outputs_now put k
+returns c mode shapes counts says scheduled frames inputs inputs_now outputs outputs_now put k = mux_short mode shapes counts says scheduled frames inputs inputs_now outputs outputs_now put k

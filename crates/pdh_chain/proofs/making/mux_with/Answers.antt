@@ -1,15 +1,20 @@
 use Rattle.std.proofs.Common.{arith, ◌≡◌, ℕ, sym, ◌∙◌, ap, subst, inl, inr}
 use Rattle.std.specs.Prelude.{IsTrue}
+use Rattle.std.proofs.lemmas.Result.{err_from_is_err_and}
 use Rattle.pdh_edge.specs.Ports.{Inputs, Outputs}
 use Rattle.pdh_edge.specs.Counts.{one_more}
 use Rattle.pdh_edge.proofs.Runs.{rose_of}
 use Rattle.pdh_nesting.specs.Chains.{top_len}
 use Rattle.pdh_clock.specs.Contents.{frame_count, counts}
-use Rattle.pdh_tx.specs.Meaning.{plan_of}
+use Rattle.pdh_tx.specs.Meaning.{plan_in, mode_of}
 use Rattle.pdh_chain.specs.Saying.{says_of}
 use Rattle.pdh_chain.proofs.Tolerated.{at_top}
 use Rattle.pdh_chain.proofs.Muxed.{leaves_held, nodes_held, frames_held, sent, stopped, failed, take_failed, nothing_put, stop_since}
-use Rattle.pdh_chain.proofs.MuxLeft.{left_by_sender, reads_by_sender, writes_by_sender}
+use Rattle.pdh_tx.specs.declared.tx.TxStop.TheVariants.{Failed}
+use Rattle.pdh_tx.proofs.Telling.{tells_same, front_first}
+use Rattle.pdh_chain.proofs.Telling.{retold}
+use Rattle.pdh_chain.proofs.SlipsTold.{frames_slips}
+use Rattle.pdh_chain.proofs.MuxLeft.{never_memory, same_err, left_by_sender, reads_by_sender, writes_by_sender}
 use Rattle.pdh_chain.proofs.making.mux_with.Goals as goal
 
 -- ---- the port's start failed
@@ -24,7 +29,7 @@ pub returns-in-Err-clause-writes : goal.returns-in-Err-clause-writes
 returns-in-Err-clause-writes g c = c.in-Err.ensures.cause
 
 pub returns-in-Err-clause-err : goal.returns-in-Err-clause-err
-returns-in-Err-clause-err g c = (rose_of _ _ c.in-Err.ensures.cause, nothing_put g.T.ChainTx.shapes _ (says_of c.args.feac) _ _ _ _ _ _ g.met.T.ChainTx.are_frames c.start.ensures.inputs c.start.ensures.outputs)
+returns-in-Err-clause-err g c = (rose_of _ _ c.in-Err.ensures.cause, nothing_put (mode_of g.G.SlipLog.takes) g.T.ChainTx.shapes _ (says_of c.args.feac) _ _ _ _ _ _ g.met.T.ChainTx.are_frames c.start.ensures.inputs c.start.ensures.outputs)
 
 -- ---- the frames were sent, or not
 
@@ -43,7 +48,7 @@ send_frames-requires-clause-sender g c =
     let long : top_len g.T.ChainTx.shapes ≡ c.LEN-len.result = g.met.T.ChainTop.len_is ∙ sym c.LEN-len.ensures in
     record {
       running = c.in_ok-top.ensures.fresh.runs;
-      stands = c.in_ok-top.ensures.fresh.placed (plan_of c.args.clock.now);
+      stands = c.in_ok-top.ensures.fresh.placed (plan_in c.args.clock.now g.G.SlipLog.takes);
       frames = frames_held g.T.ChainTx.shapes _ _ g.met.T.ChainTx.are_frames c.in_ok-top.ensures.meaning long;
     }
 
@@ -58,10 +63,7 @@ returns-in-Ok-clause-ok g c =
     let shapes = g.T.ChainTx.shapes in
     let whole = g.met.T.ChainTop.len_is ∙ sym c.LEN-len.ensures in
     rw (sym c.in_default.ensures.inputs, sym c.in_default.ensures.outputs)
-    (sent shapes (counts c.args.clock.now.rows) (says_of c.args.feac) (frame_count c.args.clock.now.rows) g.met.T.ChainTx.are_frames (at_top shapes c.requires.chain.few.depth) _ c.LEN-len.result c.in_ok-top.ensures.meaning whole _ _ _ c.args.frames _ _ _ _ c.in_ok-top.ensures.fresh.held c.in-Ok.ensures.sent.does)
-
-pub stop_of-requires : goal.stop_of-requires
-stop_of-requires g c = (let sent = rw c.in-Err-Sender.field-0-is at c.in-Err-Sender.ensures.sent in sent.does.at.no_log)
+    (sent (mode_of g.G.SlipLog.takes) shapes (counts c.args.clock.now.rows) (says_of c.args.feac) (frame_count c.args.clock.now.rows) g.met.T.ChainTx.are_frames (at_top shapes c.requires.chain.few.depth) _ c.LEN-len.result c.in_ok-top.ensures.meaning whole _ _ _ c.args.frames _ _ _ _ c.in_ok-top.ensures.fresh.held c.in-Ok.ensures.sent.does)
 
 pub returns-in-Err-Sender-clause-ready : goal.returns-in-Err-Sender-clause-ready
 returns-in-Err-Sender-clause-ready g c =
@@ -71,7 +73,7 @@ returns-in-Err-Sender-clause-ready g c =
 pub returns-in-Err-Sender-clause-reads : goal.returns-in-Err-Sender-clause-reads
 returns-in-Err-Sender-clause-reads g c =
     let sent = rw c.in-Err-Sender.field-0-is at c.in-Err-Sender.ensures.sent in
-    rw c.stop_of.ensures (reads_by_sender c.in-Err-Sender.stop _ _ _ sent.does.at.no_log (ap (λ (k : ℕ × ℕ). k.0) sent.counts) c.start.ensures.reads)
+    rw c.stop_of.ensures (reads_by_sender c.in-Err-Sender.stop _ _ _ (ap (λ (k : ℕ × ℕ). k.0) sent.counts) c.start.ensures.reads)
 
 pub returns-in-Err-Sender-clause-writes : goal.returns-in-Err-Sender-clause-writes
 returns-in-Err-Sender-clause-writes g c =
@@ -85,8 +87,8 @@ returns-in-Err-Sender-clause-err g c =
     let since = g.met.P.Port.kept_counts c.args.port.now c.start.new.self c.start.ensures.kept in
     let sent = rw c.in-Err-Sender.field-0-is at c.in-Err-Sender.ensures.sent in
     rw (c.stop_of.ensures, sym c.in_default.ensures.inputs, sym c.in_default.ensures.outputs)
-    (stop_since shapes (counts c.args.clock.now.rows) (says_of c.args.feac) (frame_count c.args.clock.now.rows) c.args.frames _ _ _ _ _ _ _ _ _ _ _ since.0 since.1
-    (stopped shapes (counts c.args.clock.now.rows) (says_of c.args.feac) (frame_count c.args.clock.now.rows) g.met.T.ChainTx.are_frames (at_top shapes c.requires.chain.few.depth) _ c.LEN-len.result c.in_ok-top.ensures.meaning whole _ c.args.frames c.in-Err-Sender.stop _ _ _ _ _ _ _ _ c.requires.scheduled
+    (stop_since (mode_of g.G.SlipLog.takes) shapes (counts c.args.clock.now.rows) (says_of c.args.feac) (frame_count c.args.clock.now.rows) c.args.frames _ _ _ _ _ _ _ _ _ _ _ since.0 since.1
+    (stopped (mode_of g.G.SlipLog.takes) shapes (counts c.args.clock.now.rows) (says_of c.args.feac) (frame_count c.args.clock.now.rows) g.met.T.ChainTx.are_frames (at_top shapes c.requires.chain.few.depth) _ c.LEN-len.result c.in_ok-top.ensures.meaning whole _ c.args.frames c.in-Err-Sender.stop _ _ _ _ _ _ _ _ c.requires.scheduled
     c.in_ok-top.ensures.fresh.held sent.does))
 
 -- ---- a call for bits failed
@@ -110,7 +112,7 @@ returns-in-Err-TakeFailed-clause-err g c =
     let whole = g.met.T.ChainTop.len_is ∙ sym c.LEN-len.ensures in
     let since = g.met.P.Port.kept_counts c.args.port.now c.start.new.self c.start.ensures.kept in
     let sent = rw c.in-Err-TakeFailed.field-0-is at c.in-Err-TakeFailed.ensures.sent in
-    let stop = take_failed shapes (counts c.args.clock.now.rows) (says_of c.args.feac) (frame_count c.args.clock.now.rows) g.met.T.ChainTx.are_frames (at_top shapes c.requires.chain.few.depth) _ c.LEN-len.result c.in_ok-top.ensures.meaning whole _ c.args.frames _ _ _ _ _ _ c.in_ok-top.ensures.fresh.held sent.does in
+    let stop = take_failed (mode_of g.G.SlipLog.takes) shapes (counts c.args.clock.now.rows) (says_of c.args.feac) (frame_count c.args.clock.now.rows) g.met.T.ChainTx.are_frames (at_top shapes c.requires.chain.few.depth) _ c.LEN-len.result c.in_ok-top.ensures.meaning whole _ c.args.frames _ _ _ _ _ _ c.in_ok-top.ensures.fresh.held sent.does in
     rw (sym c.in_default.ensures.inputs, sym c.in_default.ensures.outputs) (omega (arith, stop.0, since.0), stop.1)
 
 -- ---- a bit couldn't be put
@@ -134,5 +136,61 @@ returns-clause-err g c =
     let whole = g.met.T.ChainTop.len_is ∙ sym c.LEN-len.ensures in
     let since = g.met.P.Port.kept_counts c.args.port.now c.start.new.self c.start.ensures.kept in
     let sent = rw c.in-Err-WriteFailed.field-0-is at c.in-Err-WriteFailed.ensures.sent in
-    let stop = failed shapes (counts c.args.clock.now.rows) (says_of c.args.feac) (frame_count c.args.clock.now.rows) g.met.T.ChainTx.are_frames (at_top shapes c.requires.chain.few.depth) _ c.LEN-len.result c.in_ok-top.ensures.meaning whole _ c.args.frames _ _ _ _ _ _ c.in_ok-top.ensures.fresh.held sent.does in
+    let stop = failed (mode_of g.G.SlipLog.takes) shapes (counts c.args.clock.now.rows) (says_of c.args.feac) (frame_count c.args.clock.now.rows) g.met.T.ChainTx.are_frames (at_top shapes c.requires.chain.few.depth) _ c.LEN-len.result c.in_ok-top.ensures.meaning whole _ c.args.frames _ _ _ _ _ _ c.in_ok-top.ensures.fresh.held sent.does in
     rw (sym c.in_default.ensures.inputs, sym c.in_default.ensures.outputs) (omega (arith, stop.0, since.1), stop.1)
+
+-- ---- what the log was told
+
+pub returns-in-Err-clause-told : goal.returns-in-Err-clause-told
+returns-in-Err-clause-told g c takes = record { all = tt; front = front_first g.G.SlipLog (record { nothing = g.met.G.SlipLog.logged_nothing; joins = g.met.G.SlipLog.logged_join; breaks = g.met.G.SlipLog.broken_join }) c.args.log.now _ Failed (λ is. cc) }
+
+pub returns-in-Ok-clause-told : goal.returns-in-Ok-clause-told
+returns-in-Ok-clause-told g c takes =
+    let shapes = g.T.ChainTx.shapes in
+    let whole = g.met.T.ChainTop.len_is ∙ sym c.LEN-len.ensures in
+    let same = frames_slips shapes c.args.clock.now g.G.SlipLog.takes _ c.args.frames c.LEN-len.result g.met.T.ChainTx.are_frames (at_top shapes c.requires.chain.few.depth) c.in_ok-top.ensures.meaning takes whole in
+    tells_same _ _ same c.in-Ok.ensures.told
+
+pub returns-in-Err-Sender-clause-told : goal.returns-in-Err-Sender-clause-told
+returns-in-Err-Sender-clause-told g c takes =
+    let shapes = g.T.ChainTx.shapes in
+    let whole = g.met.T.ChainTop.len_is ∙ sym c.LEN-len.ensures in
+    let same = frames_slips shapes c.args.clock.now g.G.SlipLog.takes _ c.args.frames c.LEN-len.result g.met.T.ChainTx.are_frames (at_top shapes c.requires.chain.few.depth) c.in_ok-top.ensures.meaning takes whole in
+    let told = rw c.in-Err-Sender.field-0-is at c.in-Err-Sender.ensures.told in
+    let front = tells_same _ _ same told in
+    rw c.stop_of.ensures (record { all = tt; front = retold g.G.SlipLog _ _ _ c.in-Err-Sender.stop front.front })
+
+pub returns-in-Err-TakeFailed-clause-told : goal.returns-in-Err-TakeFailed-clause-told
+returns-in-Err-TakeFailed-clause-told g c takes =
+    let shapes = g.T.ChainTx.shapes in
+    let whole = g.met.T.ChainTop.len_is ∙ sym c.LEN-len.ensures in
+    let same = frames_slips shapes c.args.clock.now g.G.SlipLog.takes _ c.args.frames c.LEN-len.result g.met.T.ChainTx.are_frames (at_top shapes c.requires.chain.few.depth) c.in_ok-top.ensures.meaning takes whole in
+    let told = rw c.in-Err-TakeFailed.field-0-is at c.in-Err-TakeFailed.ensures.told in
+    tells_same _ _ same told
+
+pub returns-clause-told : goal.returns-clause-told
+returns-clause-told g c takes =
+    let shapes = g.T.ChainTx.shapes in
+    let whole = g.met.T.ChainTop.len_is ∙ sym c.LEN-len.ensures in
+    let same = frames_slips shapes c.args.clock.now g.G.SlipLog.takes _ c.args.frames c.LEN-len.result g.met.T.ChainTx.are_frames (at_top shapes c.requires.chain.few.depth) c.in_ok-top.ensures.meaning takes whole in
+    let told = rw c.in-Err-WriteFailed.field-0-is at c.in-Err-WriteFailed.ensures.told in
+    tells_same _ _ same told
+
+pub returns-in_err-tables-clause-told : goal.returns-in_err-tables-clause-told
+returns-in_err-tables-clause-told g c takes =
+    let p = err_from_is_err_and c.from_residual.result c.from_residual.ensures.1 in
+    rw (p.1, p.2) (record { all = tt; front = front_first g.G.SlipLog (record { nothing = g.met.G.SlipLog.logged_nothing; joins = g.met.G.SlipLog.logged_join; breaks = g.met.G.SlipLog.broken_join }) c.args.log.now _ Failed (λ is. cc) })
+
+pub returns-in_err-top-clause-told : goal.returns-in_err-top-clause-told
+returns-in_err-top-clause-told g c takes =
+    let p = err_from_is_err_and c.from_residual-in_err-top.result c.from_residual-in_err-top.ensures.1 in
+    rw (p.1, p.2) (record { all = tt; front = front_first g.G.SlipLog (record { nothing = g.met.G.SlipLog.logged_nothing; joins = g.met.G.SlipLog.logged_join; breaks = g.met.G.SlipLog.broken_join }) c.args.log.now _ Failed (λ is. cc) })
+
+pub returns-in_err-frame-clause-told : goal.returns-in_err-frame-clause-told
+returns-in_err-frame-clause-told g c takes =
+    let p = err_from_is_err_and c.from_residual-in_err-frame.result c.from_residual-in_err-frame.ensures.1 in
+    rw (p.1, p.2) (record { all = tt; front = front_first g.G.SlipLog (record { nothing = g.met.G.SlipLog.logged_nothing; joins = g.met.G.SlipLog.logged_join; breaks = g.met.G.SlipLog.broken_join }) c.args.log.now _ Failed (λ is. cc) })
+
+-- no stop of a sender is want of memory
+pub returns-in-Err-Sender-clause-untold : goal.returns-in-Err-Sender-clause-untold
+returns-in-Err-Sender-clause-untold g c is = absurd (never_memory c.in-Err-Sender.stop (sym c.stop_of.ensures ∙ same_err is))

@@ -1,10 +1,13 @@
 use Rattle.std.proofs.Common.{◌≡◌, ◌+◌, ℕ, List, Bool, refl, ap, subst, arith}
 use Rattle.pdh_bits.specs.BitOut.{BoundedBits}
 use Rattle.pdh_packed.specs.Gaining.{gained}
-use Rattle.pdh_tx.specs.Meaning.{plan_of}
+use Rattle.pdh_tx.specs.Meaning.{plan_in}
 use Rattle.pdh_tx.specs.Making.{MakesAll}
+use Rattle.pdh_tx.specs.declared.tx.TxStop.TheVariants.{Failed}
+use Rattle.pdh_tx.proofs.Telling.{tells_ok, front_none}
 use Rattle.pdh_chain.proofs.Lists.{gained_whole}
 use Rattle.pdh_chain.proofs.Frames.{free_first, free_clear, makes_next}
+use Rattle.pdh_chain.proofs.Telling.{none_told}
 use Rattle.pdh_chain.proofs.sending.make_frame.Goals as goal
 
 pub make_bits-requires-clause-stands : goal.make_bits-requires-clause-stands
@@ -13,7 +16,7 @@ make_bits-requires-clause-stands g c = (c.requires.free.0, c.requires.free.1)
 pub make_clear-requires-clause-clear : goal.make_clear-requires-clause-clear
 make_clear-requires-clause-clear g c =
     let m = g.T.Tx.meaning c.args.sender.now in
-    let plan = plan_of c.args.clock.now in
+    let plan = plan_in c.args.clock.now g.G.SlipLog.takes in
     let x : ℕ = c.requires.free.0 in
     (x, c.requires.free.1, free_clear m plan x (x + c.args.len) (g.F.Feed.inputs c.args.feed.now) (free_first m plan x (x + c.args.len) (x + c.args.clear) (g.F.Feed.inputs c.args.feed.now) (omega (arith, c.if-clear-len.false)) c.requires.free.2))
 
@@ -22,15 +25,21 @@ make_clear-requires-clause-clear g c =
 pub returns-in-Ok-clause-made : goal.returns-in-Ok-clause-made
 returns-in-Ok-clause-made g c x says here free told = c.in-Ok.ensures.made x says here told
 
+pub returns-in-Ok-clause-told : goal.returns-in-Ok-clause-told
+returns-in-Ok-clause-told g c x here free = c.in-Ok.ensures.told x here
+
 pub returns-in-Err-clause-stops : goal.returns-in-Err-clause-stops
 returns-in-Err-clause-stops g c = c.in-Err.ensures.stops
+
+pub returns-in-Err-clause-told : goal.returns-in-Err-clause-told
+returns-in-Err-clause-told g c x here free = c.in-Err.ensures.told x here
 
 -- ---- it was made at once
 
 pub returns-in-Ok-make_clear-clause-made : goal.returns-in-Ok-make_clear-clause-made
 returns-in-Ok-make_clear-clause-made g c x says here free told =
     let m = g.T.Tx.meaning c.args.sender.now in
-    let plan = plan_of c.args.clock.now in
+    let plan = plan_in c.args.clock.now g.G.SlipLog.takes in
     let len : ℕ = c.args.len in
     let bits : List Bool = c.make_clear.new.into.bits in
     let whole : gained c.clear.new.self c.make_clear.new.into ≡ bits = gained_whole c.clear.new.self c.make_clear.new.into (ap (λ (b : BoundedBits). b.bits) c.clear.ensures) in
@@ -38,5 +47,25 @@ returns-in-Ok-make_clear-clause-made g c x says here free told =
     (subst (λ (l : List Bool). MakesAll m (g.T.Tx.says c.args.sender.now) (g.T.Tx.stands_at c.make_clear.new.self plan) (g.T.Tx.stands_for c.args.sender.now) (g.T.Tx.stands_for c.make_clear.new.self) plan x (x + len) l (g.F.Feed.inputs c.args.feed.now) (g.F.Feed.inputs c.make_clear.new.feed)) whole
     (c.in-Ok-make_clear.ensures.made x here))
 
+pub returns-in-Ok-make_clear-clause-told : goal.returns-in-Ok-make_clear-clause-told
+returns-in-Ok-make_clear-clause-told g c x here free =
+    let m = g.T.Tx.meaning c.args.sender.now in
+    let plan = plan_in c.args.clock.now g.G.SlipLog.takes in
+    let now = free_first m plan x (x + c.args.len) (x + c.args.clear) (g.F.Feed.inputs c.args.feed.now) (omega (arith, c.if-clear-len.false)) free in
+    tells_ok tt (none_told g.G.SlipLog m plan x c.args.len _ _ now.no_slip c.make_clear.ensures.told)
+
+-- ---- a call for its bits failed
+
 pub returns-in-Err-make_clear-clause-stops : goal.returns-in-Err-make_clear-clause-stops
 returns-in-Err-make_clear-clause-stops g c = (c.in-Err-make_clear.ensures.halts, c.in-Err-make_clear.ensures.fed.cause)
+
+pub returns-in-Err-make_clear-clause-told : goal.returns-in-Err-make_clear-clause-told
+returns-in-Err-make_clear-clause-told g c x here free =
+    let m = g.T.Tx.meaning c.args.sender.now in
+    let plan = plan_in c.args.clock.now g.G.SlipLog.takes in
+    let now = free_first m plan x (x + c.args.len) (x + c.args.clear) (g.F.Feed.inputs c.args.feed.now) (omega (arith, c.if-clear-len.false)) free in
+    record {
+      all = tt;
+      front = front_none g.G.SlipLog (record { nothing = g.met.G.SlipLog.logged_nothing; joins = g.met.G.SlipLog.logged_join; breaks = g.met.G.SlipLog.broken_join }) _ _ _ Failed (λ is. cc)
+          (none_told g.G.SlipLog m plan x c.args.len _ _ now.no_slip c.make_clear.ensures.told);
+    }

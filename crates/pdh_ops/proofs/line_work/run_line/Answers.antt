@@ -1,11 +1,13 @@
-use Rattle.std.proofs.Common.{◌∙◌, ap, subst}
+use Rattle.std.proofs.Common.{◌∙◌}
 use Rattle.pdh_runner.proofs.LineStops.{line_refuses}
 use Rattle.pdh_ops.proofs.LineWorks.{refused_unseen}
 use Rattle.pdh_runner.proofs.Refusing.{refuses_performs}
+use Rattle.pdh_answers.specs.SlipLines.{TellsLines, BreaksLines}
+use Rattle.pdh_runner.proofs.Heard.{heard_none}
 use Rattle.pdh_ops.proofs.line_work.run_line.Goals as goal
 
-pub run_over-requires : goal.run_over-requires
-run_over-requires g c = (c.in-Ok.ensures.file ∙ c.file.ensures, rw (← c.chain.ensures) c.in-Ok.ensures.ok)
+pub run_over-requires-clause-planned : goal.run_over-requires-clause-planned
+run_over-requires-clause-planned g c = (c.in-Ok.ensures.file ∙ c.file.ensures, rw (← c.chain.ensures) c.in-Ok.ensures.ok)
 
 pub returns-in-Ok-clause-performs : goal.returns-in-Ok-clause-performs
 returns-in-Ok-clause-performs g c = c.run_over.ensures.performs _ c.line_of.ensures.looks c.in-Ok.ensures.counted
@@ -28,3 +30,8 @@ returns-in-Err-clause-watches g c =
     let operation = g.L.LineWork.operation work in
     rw (c.new.ensures.back, c.new.ensures.answer)
     (refused_unseen operation.shows operation (g.L.LineWork.file work) (g.L.LineWork.chain work) _ _ _ _ (rw (c.file.ensures, c.chain.ensures) at c.in-Err.ensures.err))
+
+pub returns-in-Ok-clause-hears : goal.returns-in-Ok-clause-hears
+returns-in-Ok-clause-hears g c =
+    let operation = g.L.LineWork.operation c.args.work in
+    heard_none TellsLines BreaksLines operation.tells operation _ _ _ _ (g.met.L.LineWork.reads c.args.work).tells (c.run_over.ensures.hears _ c.line_of.ensures.looks c.in-Ok.ensures.counted)

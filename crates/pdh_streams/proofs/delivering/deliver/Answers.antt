@@ -9,7 +9,6 @@ use Rattle.pdh_edge.specs.MemLists.{mem_outputs, bits_held, room_of}
 use Rattle.pdh_edge.proofs.InRoom.{puts_in_room}
 use Rattle.pdh_framed.specs.Taking.{Takes, TakesPart}
 use Rattle.pdh_framed.proofs.TakeLaws.{takes_none, takes_join, takes_part}
-use Rattle.pdh_streams.specs.Codecs.{FrameCodec}
 use Rattle.pdh_streams.proofs.DeliveringLaws.{first_holds, put_is, payload_in_room}
 use Rattle.pdh_streams.proofs.delivering.deliver.Goals as goal
 
@@ -32,7 +31,7 @@ returns-clause-stands g c =
 pub returns-clause-put : goal.returns-clause-put
 returns-clause-put g c = λ bits told.
     let inv = c.loop-octets.invariant in
-    let payload = (g.M.Machine.codec c.args.machine.now).payload in
+    let payload = g.M.Machine.far c.args.machine.now in
     let all = whole inv.6 (chunks_rest c.loop-octets.octets-iterator) c.args.line.now c.in-None.ensures.steps.1.0 inv.7 in
     put_is payload (bits_of inv.6) bits (mem_outputs c.args.port.now.outputs.items) (mem_outputs c.loop-octets.port.outputs.items) c.requires.payload c.requires.outputs (inv.9.gains [] c.requires.stands) told ∙ ap (λ (octets : List ℕ). payload (bits_of octets)) all
 
@@ -47,7 +46,7 @@ loop-octets-init g c = (
   [],
   search rules,
   refl,
-  takes_none (g.M.Machine.codec c.args.machine.now).payload (g.M.Machine.stands c.args.machine.now) (mem_outputs c.args.port.now.outputs.items),
+  takes_none (g.M.Machine.far c.args.machine.now) (g.M.Machine.stands c.args.machine.now) (mem_outputs c.args.port.now.outputs.items),
   ap (λ (b : BoundedBits). b.capacity) c.in_ok-bits.ensures,
 )
 
@@ -72,11 +71,11 @@ returns-in-Err-clause-unfailed g c =
     let bits : List Bool = c.append_bytes.new.self.bits in
     let before : Outputs = mem_outputs c.args.port.now.outputs.items in
     let mid = c.loop-octets.port in
-    let new = c.receive.new.port in
+    let new = c.receive.new.drain in
     let all : List Bool = bits_of (done ++ octets) in
-    let payload = (g.M.Machine.codec c.args.machine.now).payload in
+    let payload = g.M.Machine.far c.args.machine.now in
     let more : all ≡ bits_of done ++ bits = bits_of-append done octets ∙ sym (ap (λ (l : List Bool). bits_of done ++ l) (appended c.append_bytes.new.self c.clear.new.self c.loop-octets.bits octets c.append_bytes.ensures c.clear.ensures)) in
-    let part = subst (λ (codec : FrameCodec). TakesPart codec.payload (g.M.Machine.stands c.loop-octets.machine) bits (mem_outputs mid.outputs.items) (mem_outputs new.outputs.items)) inv.8 c.in-Err.ensures.part in
+    let part = subst (λ (far : List Bool → List Bool). TakesPart far (g.M.Machine.stands c.loop-octets.machine) bits (mem_outputs mid.outputs.items) (mem_outputs new.outputs.items)) inv.8 c.in-Err.ensures.part in
     let joined = takes_part payload (bits_of done) bits all (g.M.Machine.stands c.args.machine.now) (g.M.Machine.stands c.loop-octets.machine) before (mem_outputs mid.outputs.items) (mem_outputs new.outputs.items) more inv.9 part in
     let long : length all ≡ 8 * length (done ++ octets) = length-bits_of (done ++ octets) in
     let line : length done + length (chunks_rest c.loop-octets.octets-iterator) ≡ length c.args.line.now = sym (length-append done (chunks_rest c.loop-octets.octets-iterator)) ∙ ap length inv.7 in
@@ -97,11 +96,11 @@ loop-octets-preserved g c =
     let bits : List Bool = c.append_bytes.new.self.bits in
     let before : Outputs = mem_outputs c.args.port.now.outputs.items in
     let mid : Outputs = mem_outputs c.loop-octets.port.outputs.items in
-    let now : Outputs = mem_outputs c.receive.new.port.outputs.items in
-    let payload = (g.M.Machine.codec c.args.machine.now).payload in
+    let now : Outputs = mem_outputs c.receive.new.drain.outputs.items in
+    let payload = g.M.Machine.far c.args.machine.now in
     let stands = g.M.Machine.stands in
     let more : bits_of (done ++ octets) ≡ bits_of done ++ bits = bits_of-append done octets ∙ sym (ap (λ (l : List Bool). bits_of done ++ l) (appended c.append_bytes.new.self c.clear.new.self c.loop-octets.bits octets c.append_bytes.ensures c.clear.ensures)) in
-    let taken = subst (λ (codec : FrameCodec). Takes codec.payload (stands c.loop-octets.machine) (stands c.receive.new.self) bits mid now) inv.8 c.in_default.ensures.taken in (
+    let taken = subst (λ (far : List Bool → List Bool). Takes far (stands c.loop-octets.machine) (stands c.receive.new.self) bits mid now) inv.8 c.in_default.ensures.taken in (
       search rules,
       tt,
       steps.0 ∙ inv.2,

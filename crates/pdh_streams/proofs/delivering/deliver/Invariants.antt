@@ -15,6 +15,6 @@ invariant-loop-octets g l =
     × (room_of l.port 0 ≡ room_of l.fn.port 0)
     × (l.port.faults ≡ 0)
     × (done : List ℕ) × (done ++ chunks_rest l.octets-iterator ≡ l.line)
-    × (g.M.Machine.codec l.machine ≡ g.M.Machine.codec l.fn.machine)
-    × Takes (g.M.Machine.codec l.fn.machine).payload (g.M.Machine.stands l.fn.machine) (g.M.Machine.stands l.machine) (bits_of done) (mem_outputs l.fn.port.outputs.items) (mem_outputs l.port.outputs.items)
+    × (g.M.Machine.far l.machine ≡ g.M.Machine.far l.fn.machine)
+    × Takes (g.M.Machine.far l.fn.machine) (g.M.Machine.stands l.fn.machine) (g.M.Machine.stands l.machine) (bits_of done) (mem_outputs l.fn.port.outputs.items) (mem_outputs l.port.outputs.items)
     × (l.bits.capacity ≡ 32768)

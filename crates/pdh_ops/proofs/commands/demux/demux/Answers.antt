@@ -6,8 +6,8 @@ use Rattle.pdh_runner.proofs.Refusing.{refuses_performs}
 use Rattle.pdh_ops.proofs.DemuxFiles.{begins_with_line}
 use Rattle.pdh_ops.proofs.commands.demux.demux.Goals as goal
 
-pub run_over-requires : goal.run_over-requires
-run_over-requires g c = (c.in-Ok.ensures.file ∙ c.of_line.ensures, c.in-Ok.ensures.ok)
+pub run_over-requires-clause-planned : goal.run_over-requires-clause-planned
+run_over-requires-clause-planned g c = (c.in-Ok.ensures.file ∙ c.of_line.ensures, c.in-Ok.ensures.ok)
 
 pub returns-in-Ok-clause-performs : goal.returns-in-Ok-clause-performs
 returns-in-Ok-clause-performs g c = c.run_over.ensures.performs _ c.line_of.ensures.looks c.in-Ok.ensures.counted
@@ -21,3 +21,6 @@ returns-in-Err-clause-performs g c =
 
 pub returns-in-Ok-clause-watches : goal.returns-in-Ok-clause-watches
 returns-in-Ok-clause-watches g c = c.run_over.ensures.watches _ c.line_of.ensures.looks c.in-Ok.ensures.counted
+
+pub returns-in-Ok-clause-hears : goal.returns-in-Ok-clause-hears
+returns-in-Ok-clause-hears g c = c.run_over.ensures.hears _ c.line_of.ensures.looks c.in-Ok.ensures.counted

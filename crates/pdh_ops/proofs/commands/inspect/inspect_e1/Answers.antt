@@ -4,8 +4,8 @@ use Rattle.pdh_ops.specs.Commands.Inspect.{inspecting_e1}
 use Rattle.pdh_ops.proofs.InspectFiles.{inspecting_refused, inspecting_unseen}
 use Rattle.pdh_ops.proofs.commands.inspect.inspect_e1.Goals as goal
 
-pub run_over-requires : goal.run_over-requires
-run_over-requires g c = c.in-Ok.ensures.ok
+pub run_over-requires-clause-planned : goal.run_over-requires-clause-planned
+run_over-requires-clause-planned g c = c.in-Ok.ensures.ok
 
 pub returns-in-Ok-clause-performs : goal.returns-in-Ok-clause-performs
 returns-in-Ok-clause-performs g c = c.run_over.ensures.performs _ c.framed_line.ensures.looks c.in-Ok.ensures.counted
@@ -18,3 +18,6 @@ returns-in-Err-clause-performs g c = rw (c.new.ensures.back, c.new.ensures.answe
 
 pub returns-in-Err-clause-watches : goal.returns-in-Err-clause-watches
 returns-in-Err-clause-watches g c = inspecting_unseen _ _ _ _ _ _ (ap g.S.Shelf.state c.new.ensures.back) c.new.ensures.answer c.in-Err.ensures.err
+
+pub returns-in-Ok-clause-hears : goal.returns-in-Ok-clause-hears
+returns-in-Ok-clause-hears g c = c.run_over.ensures.hears _ c.framed_line.ensures.looks c.in-Ok.ensures.counted

@@ -9,7 +9,8 @@ use Rattle.pdh_runner.proofs.Touching.{has_length_still, looks_then, looks_none,
 use Rattle.pdh_runner.proofs.Refusing.{refuses_since}
 use Rattle.pdh_ops.proofs.MuxComes.{schedule_size_refuses, leaf_size_refuses, all_are_held}
 use Rattle.pdh_ops.proofs.commands.mux.read_sizes.Goals as goal
-use Rattle.pdh_ops.specs.Commands.Mux.{muxing}
+use Rattle.pdh_ops.specs.Commands.Mux.{making_line}
+use Rattle.pdh_ops.specs.Commands.Mux.Job.{Plainly}
 
 pub loop-leaf-init : goal.loop-leaf-init
 loop-leaf-init g c = record { looks = looks_none _; same = refl; schedule = c.in_ok-schedule.ensures.ok; all = refl; leaf = λ k h. absurd (omega arith) }
@@ -17,7 +18,7 @@ loop-leaf-init g c = record { looks = looks_none _; same = refl; schedule = c.in
 pub returns-in_err-schedule-clause-err : goal.returns-in_err-schedule-clause-err
 returns-in_err-schedule-clause-err g c =
     let p = err_from_is_err_and c.from_residual.result c.from_residual.ensures.1 in
-    rw (p.1, p.2) (λ feac. schedule_size_refuses c.args.chain feac _ _ _ c.in_err-schedule.ensures.err)
+    rw (p.1, p.2) (λ job. schedule_size_refuses c.args.chain job _ _ _ c.in_err-schedule.ensures.err)
 
 pub returns-in_err-leaves-clause-counted : goal.returns-in_err-leaves-clause-counted
 returns-in_err-leaves-clause-counted g c =
@@ -35,8 +36,8 @@ returns-in_err-leaves-clause-err g c =
     let p = err_from_is_err_and c.from_residual-in_err-leaves.result c.from_residual-in_err-leaves.ensures.1 in
     let inv = c.loop-leaf.invariant in
     let here : c.loop-leaf.leaf < leaves_of c.args.chain = omega (arith, c.leaf_count-leaf-end.ensures.value) in
-    rw (p.1, p.2) (λ feac. refuses_since (muxing c.args.chain feac) _ (g.S.Shelf.state c.loop-leaf.shelf) _ _ (looks_then _ _ _ c.size.ensures.looks inv.looks) (inv.same ∙ c.in_ok-schedule.ensures.counted)
-    (leaf_size_refuses c.args.chain feac _ _ c.in_ok-schedule.schedule c.loop-leaf.leaf (slice_index c.loop-leaf.leaves) _ here inv.schedule inv.leaf c.in_err-leaves.ensures.err))
+    rw (p.1, p.2) (λ job. refuses_since (making_line c.args.chain job) _ (g.S.Shelf.state c.loop-leaf.shelf) _ _ (looks_then _ _ _ c.size.ensures.looks inv.looks) (inv.same ∙ c.in_ok-schedule.ensures.counted)
+    (leaf_size_refuses c.args.chain job _ _ c.in_ok-schedule.schedule c.loop-leaf.leaf (slice_index c.loop-leaf.leaves) _ here inv.schedule inv.leaf c.in_err-leaves.ensures.err))
 
 pub loop-leaf-preserved : goal.loop-leaf-preserved
 loop-leaf-preserved g c =
@@ -66,5 +67,5 @@ returns-clause-ok g c = record { schedule = c.loop-leaf.invariant.schedule; leaf
 
 pub returns-clause-held : goal.returns-clause-held
 returns-clause-held g c =
-    all_are_held c.args.chain None (record { schedule = c.in_ok-schedule.schedule; leaves = c.loop-leaf.leaves }) (g.S.Shelf.state c.loop-leaf.shelf)
+    all_are_held c.args.chain (Plainly None) (record { schedule = c.in_ok-schedule.schedule; leaves = c.loop-leaf.leaves }) (g.S.Shelf.state c.loop-leaf.shelf)
     (record { schedule = c.loop-leaf.invariant.schedule; leaf = λ k h. c.loop-leaf.invariant.leaf k (omega (arith, c.leaf_count-leaf-end.ensures.value)) })

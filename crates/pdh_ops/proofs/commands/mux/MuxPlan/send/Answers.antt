@@ -1,4 +1,5 @@
-use Rattle.std.proofs.Common.{Ok, Err, cond, refl, inl, inr, sym, subst, arith}
+use Rattle.std.proofs.Common.{◌≡◌, Ok, Err, cond, refl, inl, inr, sym, subst, arith}
+use Rattle.pdh_line.specs.Sending.Mode.{Plain, Slipping}
 use Rattle.pdh_blocks.specs.State.{over}
 use Rattle.pdh_chain.specs.Muxes.{place_of}
 use Rattle.pdh_answers.specs.declared.answer.Stop.{Stop}
@@ -11,6 +12,10 @@ use Rattle.pdh_ops.proofs.MuxFiles.{kind_reaches}
 use Rattle.pdh_ops.proofs.MuxSent.{has_frames, has_bits}
 use Rattle.pdh_ops.proofs.MuxRun.{muxed_all, muxed_comes, event_all, event_comes, event_stop, fewer_front, prefix_front}
 use Rattle.pdh_ops.proofs.commands.mux.MuxPlan.send.Goals as goal
+
+-- a line of plain mode tells no log
+plain_tells_none : Plain ≡ Slipping → ⊥
+plain_tells_none is = cc
 
 pub outcome_of-requires-clause-frames : goal.outcome_of-requires-clause-frames
 outcome_of-requires-clause-frames g c node is =
@@ -45,7 +50,7 @@ pub returns-in-Err-clause-counted : goal.returns-in-Err-clause-counted
 returns-in-Err-clause-counted g c =
     let plan = c.args.self.now.plan in
     let ran = c.in-Err.ensures in
-    elim (mux_kinds c.in-Err.stop
+    elim (mux_kinds c.in-Err.stop (λ log. let stops = rw log at c.in-Err.ensures.err in plain_tells_none stops.0)
     (λ node is. let stops = rw is at ran.err in has_frames c.args.self.now.chain plan.clock.rows plan.frames _ _ c.requires.sends stops.0)
     (λ leaf is. let stops = rw is at ran.err in has_bits c.args.self.now.chain plan.clock.rows plan.frames _ _ _ c.requires.sends stops.0)) [
       | inl event ↦ rw (c.outcome_of.ensures.event event.over event.place event.is) tt
@@ -65,11 +70,11 @@ returns-in-Err-clause-comes g c = λ begun is.
     let p = over (g.S.Shelf.state c.args.port.now.shelf) c.args.port.now.blocks in
     let q = over (g.S.Shelf.state c.mux.new.port.shelf) c.mux.new.port.blocks in
     let ran = c.in-Err.ensures in
-    elim (mux_kinds c.in-Err.stop
+    elim (mux_kinds c.in-Err.stop (λ log. let stops = rw log at c.in-Err.ensures.err in plain_tells_none stops.0)
     (λ node stop. let stops = rw stop at ran.err in has_frames plan.chain rows plan.plan.frames _ _ c.requires.sends stops.0)
     (λ leaf stop. let stops = rw stop at ran.err in has_bits plan.chain rows plan.plan.frames _ _ _ c.requires.sends stops.0)) [
       | inl event ↦ rw (c.outcome_of.ensures.event event.over event.place event.is) (
-          let stops = rw event.is at ran.err in
+          let stops = (rw event.is at ran.err).1 in
           let ends : Stop = cond event.over (Overflow event.place) (Underflow event.place) in
           subst (λ (stop : Stop). IsDone (muxing plan.chain plan.feac) begun p q (Err stop)) (sym (event_stop event.over event.place stops.event ends refl stops.kind stops.place_is))
           (record {

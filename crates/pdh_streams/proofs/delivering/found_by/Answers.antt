@@ -1,0 +1,5 @@
+use Rattle.std.proofs.Common.{refl}
+use Rattle.pdh_streams.proofs.delivering.found_by.Goals as goal
+
+pub returns : goal.returns
+returns c = λ line stands. rw (c.multiframes.ensures line stands, c.blocks-2.ensures line stands, c.errored.ensures line stands) refl

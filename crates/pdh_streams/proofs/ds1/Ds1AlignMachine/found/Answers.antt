@@ -1,5 +1,0 @@
-use Rattle.std.proofs.Common.{refl}
-use Rattle.pdh_streams.proofs.ds1.Ds1AlignMachine.found.Goals as goal
-
-pub returns : goal.returns
-returns c = λ line stands. rw (c.superframes.ensures line stands, c.blocks-2.ensures line stands, c.errored.ensures line stands) refl

@@ -1,5 +1,0 @@
-use Rattle.std.proofs.Common.{refl}
-use Rattle.pdh_streams.proofs.e1.E1AlignMachine.found.Goals as goal
-
-pub returns : goal.returns
-returns c = λ line stands. rw (c.multiframes.ensures line stands, c.blocks-2.ensures line stands, c.errored.ensures line stands) refl

@@ -1,0 +1,18 @@
+use Rattle.std.proofs.Common.{rules, ap, ◌∙◌}
+use Rattle.pdh_edge.specs.Ports.{Outputs}
+use Rattle.pdh_edge.proofs.Holding.{inputs_hold}
+use Rattle.pdh_chain.specs.Chains.{leaves_of}
+use Rattle.pdh_tests_of_chains.proofs.chain.run_slips.Goals as goal
+
+pub room-requires : goal.room-requires
+room-requires c = record { held = ap (λ (o : Outputs). o.holds 0) c.in_ok-port.ensures.outputs }
+
+pub mux_slips-end-requires-clause-port : goal.mux_slips-end-requires-clause-port
+mux_slips-end-requires-clause-port c = record {
+  is_fresh = search rules;
+  has_leaves = λ k low. inputs_hold c.args.lists.items (leaves_of c.args.chain) k (c.room.ensures.inputs ∙ c.in_ok-port.ensures.inputs) c.requires low;
+  has_line = ap (λ (o : Outputs). o.holds 0) c.room.ensures.outputs ∙ ap (λ (o : Outputs). o.holds 0) c.in_ok-port.ensures.outputs;
+}
+
+pub output-requires : goal.output-requires
+output-requires c = ap (λ h. h 0) c.mux_slips-end.ensures.kept.2 ∙ ap (λ (o : Outputs). o.holds 0) c.room.ensures.outputs ∙ ap (λ (o : Outputs). o.holds 0) c.in_ok-port.ensures.outputs

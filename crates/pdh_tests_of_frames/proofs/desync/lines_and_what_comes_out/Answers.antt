@@ -1,0 +1,13 @@
+use Rattle.std.proofs.Common.{ap, ◌∙◌, arith}
+use Rattle.pdh_rx.specs.Meaning.{Meaning}
+use Rattle.pdh_tests_of_frames.proofs.FourSmooth.{lists_for_one}
+use Rattle.pdh_tests_of_frames.proofs.desync.lines_and_what_comes_out.Goals as goal
+
+pub take_watched-requires-clause-lists : goal.take_watched-requires-clause-lists
+take_watched-requires-clause-lists c = lists_for_one _ _ (ap (λ (m : Meaning). m.leaves) c.in_ok-node.ensures.meaning) c.in_ok-port.ensures
+
+pub output-requires : goal.output-requires
+output-requires c = ap (λ h. h 0) c.take_watched.ensures.drained.2 ∙ c.in_ok-port.ensures 0 (omega arith)
+
+pub output-requires-2 : goal.output-requires-2
+output-requires-2 c = ap (λ h. h 4) c.take_watched.ensures.drained.2 ∙ c.in_ok-port.ensures 4 (omega arith)
