@@ -1,3 +1,2 @@
 mod FourTails
-mod FourSmooth
 mod WorkedRuns

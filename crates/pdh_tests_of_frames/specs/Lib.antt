@@ -1,2 +1,1 @@
 pub mod FourTails
-pub mod FourSmooth

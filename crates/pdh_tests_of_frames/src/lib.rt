@@ -5,8 +5,6 @@
 #[cfg(test)]
 mod align;
 #[cfg(test)]
-mod desync;
-#[cfg(test)]
 mod ds1;
 #[cfg(test)]
 mod events;

@@ -67,7 +67,7 @@ fn add_frame(bits: &mut Vec<bool>, first: u8) -> Result<(), AllocError> {
 }
 
 // A line of so many zeros and then frames, by the first byte of each.
-pub(crate) fn line(alloc: Global, zeros: usize, frames: &[u8]) -> Result<Vec<bool>, AllocError> {
+fn line(alloc: Global, zeros: usize, frames: &[u8]) -> Result<Vec<bool>, AllocError> {
     let mut bits = Vec::new(alloc);
     add_bits(&mut bits, zeros, false)?;
     for first in frames {

@@ -1,6 +1,6 @@
 use Rattle.std.proofs.Common.{◌≡◌}
 use Rattle.pdh_edge.specs.MemLists.{mem_outputs}
-use Rattle.pdh_tests_of_frames.proofs.desync.port.Given as goal
+use Rattle.pdh_tests_of_desync.proofs.desync.port.Given as goal
 
 -- no list has changed
 abbrev pub invariant-loop-leaf : goal.invariant-loop-leaf

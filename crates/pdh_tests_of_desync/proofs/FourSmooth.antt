@@ -8,18 +8,22 @@ use Rattle.pdh_rx.specs.Node.{any_leaf, IsDisjoint, ArePlaced}
 use Rattle.pdh_eframes.specs.Plans.{e2}
 use Rattle.pdh_desync.specs.Smooth.{is_from, smooth_meaning}
 use Rattle.pdh_desync.proofs.FarGiving.{is_from-below}
-use Rattle.pdh_tests_of_frames.specs.FourSmooth.{smooth_at, four_smooth}
+use Rattle.pdh_tests_of_desync.specs.FourSmooth.{smooth_at, four_smooth}
 
 none_behind : {C : Type 0} (j : ℕ) (x : C) → slice_get [] j ≡ Some x → ⊥
 none_behind j x e = cc
 
 -- what holds of each of four holds of each that a list of them has
-pub each_of_four : {C : Type 0} (P : ℕ → C → Type 0) (a b c d : C) → P 0 a → P 1 b → P 2 c → P 3 d → (j : ℕ) (x : C) → slice_get (a ∷ b ∷ c ∷ d ∷ []) j ≡ Some x → P j x
+each_of_four : {C : Type 0} (P : ℕ → C → Type 0) (a b c d : C) → P 0 a → P 1 b → P 2 c → P 3 d → (j : ℕ) (x : C) → slice_get (a ∷ b ∷ c ∷ d ∷ []) j ≡ Some x → P j x
 each_of_four P a b c d p q r s zero x e = subst (P 0) (same_Some a x e) p
 each_of_four P a b c d p q r s (suc zero) x e = subst (P 1) (same_Some b x e) q
 each_of_four P a b c d p q r s (suc (suc zero)) x e = subst (P 2) (same_Some c x e) r
 each_of_four P a b c d p q r s (suc (suc (suc zero))) x e = subst (P 3) (same_Some d x e) s
 each_of_four P a b c d p q r s (suc (suc (suc (suc j)))) x e = absurd (none_behind j x e)
+
+-- what a list of four has is one of them
+pub which_node : {C : Type 0} (a b c d x : C) (j : ℕ) → slice_get (a ∷ b ∷ c ∷ d ∷ []) j ≡ Some x → (x ≡ a) ⊎ ((x ≡ b) ⊎ ((x ≡ c) ⊎ (x ≡ d)))
+which_node a b c d x j is = each_of_four (λ j y. (y ≡ a) ⊎ ((y ≡ b) ⊎ ((y ≡ c) ⊎ (y ≡ d)))) a b c d (inl refl) (inr (inl refl)) (inr (inr (inl refl))) (inr (inr (inr refl))) j x is
 
 -- each is the one of its number
 which : (j : ℕ) (m : Meaning) → slice_get four_smooth j ≡ Some m → (j < 4) × (smooth_at j ≡ m)

@@ -1,12 +1,11 @@
 //! Desynchronisers: what comes out of them, and their marks, alone and below a demultiplexer.
 
-ghost use Rattle.std.specs.Prelude.{◌≡◌, [], map, IfOk};
+ghost use Rattle.std.specs.Prelude.{◌≡◌, ◌<◌, [], map, IfOk};
 ghost use Rattle.pdh_eframes.specs.Plans.{e2, e3};
 ghost use Rattle.pdh_rx.specs.Node.{EachStands, node_meaning};
 ghost use Rattle.pdh_desync.specs.Smooth.{smooth_meaning};
-ghost use Rattle.pdh_tests_of_frames.specs.FourSmooth.{four_smooth, HoldsEach};
+ghost use Rattle.pdh_tests_of_desync.specs.FourSmooth.{four_smooth, HoldsEach};
 
-use crate::rx::line;
 use pdh_desync::SmoothNode;
 use pdh_edge::{Drain, MemPort};
 use pdh_eframes::{E2, E3};
@@ -193,6 +192,30 @@ fn alone(alloc: Global) -> Result<SmoothNode<E2>, AllocError>
     SmoothNode::open(alloc, TOP, 0, 4)
 }
 
+// Adds so many zeros.
+fn add_zeros(line: &mut Vec<bool>, count: usize) -> Result<(), AllocError> {
+    for _added in 0..count {
+        line.push(false)?;
+    }
+    Ok(())
+}
+
+// A line of so many zeros, and then frames of the second order that begin with these bytes: 0xF4 as a right one does, any other
+// as a wrong one, and all else as in a frame of zeros, with an additional bit of each tributary.
+fn line(alloc: Global, zeros: usize, frames: &[u8]) -> Result<Vec<bool>, AllocError> {
+    let mut line = Vec::new(alloc);
+    add_zeros(&mut line, zeros)?;
+    for first in frames {
+        for byte in [*first, 0x10] {
+            for place in 0..8u32 {
+                line.push((byte >> (7 - place)) & 1 == 1)?;
+            }
+        }
+        add_zeros(&mut line, 832)?;
+    }
+    Ok(line)
+}
+
 // A frame whose first byte is 0xF4 is right; 4 is a wrong one. Of a line of so many zeros and then frames come out so many bits
 // of each tributary, in pieces of which 1 marks those in which 206 are read; then so many are held.
 #[test]
@@ -217,9 +240,12 @@ fn lines_and_what_comes_out(rt: HostRuntime) -> Result<(), Fail> {
         let mut port = port(alloc)?;
         let line = Packed::of_bits(alloc, &line(alloc, zeros, frames)?)?;
         take_watched(&mut node, &line, &mut port, &mut Quiet)?;
-        assert_eq!(rt; port.output(0).len(), bits, "{zeros}");
+        assert!(rt; port.output(0).len() == bits, "{zeros}");
         assert!(rt; are_marks(port.output(4), marks.as_bytes()), "{zeros}");
-        assert_eq!(rt; (node.fill(0), node.frames()), (fill, delivered), "{zeros}");
+        assert!(rt;
+            (node.fill(0), node.frames()) == (fill, delivered),
+            "{zeros}"
+        );
     }
     Ok(())
 }

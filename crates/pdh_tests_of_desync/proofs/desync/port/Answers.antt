@@ -1,7 +1,7 @@
 use Rattle.std.proofs.Common.{arith, ap, ◌∙◌}
 use Rattle.std.proofs.lemmas.Bool.{lt-ltb}
 use Rattle.pdh_edge.specs.Ports.{Outputs}
-use Rattle.pdh_tests_of_frames.proofs.desync.port.Goals as goal
+use Rattle.pdh_tests_of_desync.proofs.desync.port.Goals as goal
 
 pub room-requires : goal.room-requires
 room-requires c = record {
