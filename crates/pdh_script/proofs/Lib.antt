@@ -4,3 +4,9 @@ pub mod Rows
 pub mod Parts
 pub mod Disturbing
 pub mod Lengths
+pub mod Brought
+pub mod RowsLeft
+pub mod FirstRow
+pub mod BitsPut
+pub mod BitsAppended
+pub mod BroughtLengths

@@ -1,5 +1,6 @@
 //! Scripts that disturb a recorded line.
-//! It knows a line as bits alone: no frame, no chain and no file.
+//! It knows a line as bits alone: no frame, no chain and no file. `Script::apply` disturbs a line of a port in one go, and a
+//! `Bender` a line as its bits come.
 //!
 //! A script's text is lines, each ended by a line feed, which the last may lack. An empty line, and one whose first byte
 //! is `#`, are passed over. Every other line is a row, three words with one space between:
@@ -19,14 +20,19 @@
 //! passed over count. A text has at most 1,048,576 bytes, so its rows add at most 524,288.
 #![tactic(auto)]
 
+mod bender;
 mod fault;
+mod laws;
 mod passing;
 mod reading;
 mod row;
+mod rows_left;
 mod script;
 mod step;
 mod stop;
 
+pub use bender::Bender;
 pub use fault::ScriptFault;
+pub use laws::{bends_as_applied, bits_bring_no_more_than_rows_add};
 pub use script::{MOST_SCRIPT_BYTES, Script};
 pub use stop::ApplyStop;

@@ -3,6 +3,7 @@
 use crate::fault::ScriptFault;
 use crate::passing::disturb;
 use crate::reading::{StoredRows, read_rows};
+use crate::rows_left::RowsLeft;
 use crate::stop::ApplyStop;
 use pdh_edge::Port;
 use pdh_packed::Packed;
@@ -50,6 +51,13 @@ impl Script {
         }
         let rows = read_rows(alloc, text, bits)?;
         Ok(Script { rows })
+    }
+
+    /// Its rows, none of which is passed.
+    pub(crate) fn rows_left(&self) -> RowsLeft<'_>
+        ensures { result ≡ self.now }
+    {
+        RowsLeft::new(&self.rows.steps, &self.rows.added)
     }
 
     /// How many bytes its rows add.
