@@ -1,4 +1,4 @@
-//! Tests of the crates of schedules, sent lines and chains, by what these crates make public.
+//! Tests of the crates of sent lines and chains, by what these crates make public.
 //! It knows no command, and no crate stands on it.
 #![tactic(auto)]
 
@@ -6,8 +6,6 @@
 mod chain;
 #[cfg(test)]
 mod chain_sending;
-#[cfg(test)]
-mod clock;
 #[cfg(test)]
 mod inspect;
 #[cfg(test)]

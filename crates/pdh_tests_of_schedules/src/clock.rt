@@ -43,7 +43,7 @@ fn reads_frames(rt: HostRuntime) {
     ];
     for (text, frames) in rows {
         let answer = frames_of(rt.alloc(), text.as_bytes());
-        assert_eq!(rt; answer, Ok(frames), "at {text}");
+        assert!(rt; answer == Ok(frames), "at {text}");
     }
 }
 
@@ -92,7 +92,7 @@ fn names_the_first_fault(rt: HostRuntime) {
     ];
     for (text, fault) in rows {
         let answer = frames_of(rt.alloc(), text.as_bytes());
-        assert_eq!(rt; answer, Err(fault), "at {text}");
+        assert!(rt; answer == Err(fault), "at {text}");
     }
 }
 
@@ -100,7 +100,7 @@ fn names_the_first_fault(rt: HostRuntime) {
 fn refuses_a_long_text(rt: HostRuntime) -> Result<(), Fail> {
     let text = vec![in rt.alloc(); b'\n'; MOST_BYTES + 1]?;
     let fault = ScheduleFault::TooLong { len: 33_554_433 };
-    assert_eq!(rt; frames_of(rt.alloc(), &text), Err(fault));
+    assert!(rt; frames_of(rt.alloc(), &text) == Err(fault));
     Ok(())
 }
 
@@ -108,7 +108,7 @@ fn refuses_a_long_text(rt: HostRuntime) -> Result<(), Fail> {
 fn finds_counts_and_totals(rt: HostRuntime) -> Result<(), Fail> {
     let text = b"/ 2 206 205 204 203\n/ 1 0 1 2 3\n/ 3 848 0 7 206\n/ 999999999 848 1 1 1\n";
     let schedule = Schedule::read(rt.alloc(), &[E2_LEVEL], text)?;
-    assert_eq!(rt; schedule.frames(&TOP), 1_000_000_005);
+    assert!(rt; schedule.frames(&TOP) == 1_000_000_005);
     let rows: [(u64, u32, u32, u64); 9] = [
         // A frame, the first and the last tributary's count in it, and the first one's bits before it.
         (0, 206, 203, 0),
@@ -123,16 +123,13 @@ fn finds_counts_and_totals(rt: HostRuntime) -> Result<(), Fail> {
     ];
     for (frame, first, last, total) in rows {
         assert!(rt; frame < schedule.frames(&TOP));
-        assert_eq!(rt; schedule.count(&TOP, frame, 0), first, "at {frame}");
-        assert_eq!(rt; schedule.count(&TOP, frame, 3), last, "at {frame}");
-        assert_eq!(rt; schedule.total(&TOP, frame, 0), total, "at {frame}");
+        assert!(rt; schedule.count(&TOP, frame, 0) == first, "at {frame}");
+        assert!(rt; schedule.count(&TOP, frame, 3) == last, "at {frame}");
+        assert!(rt; schedule.total(&TOP, frame, 0) == total, "at {frame}");
     }
-    assert_eq!(rt;
-        schedule.total(&TOP, schedule.frames(&TOP), 0),
-        848_000_002_108
-    );
+    assert!(rt; schedule.total(&TOP, schedule.frames(&TOP), 0) == 848_000_002_108);
     assert!(rt; schedule.short(5).is_none());
-    assert_eq!(rt; schedule.begun(&TOP, 5), 5);
+    assert!(rt; schedule.begun(&TOP, 5) == 5);
     Ok(())
 }
 
@@ -155,9 +152,8 @@ fn keeps_stores_inside(rt: HostRuntime) -> Result<(), Fail> {
     for (trib, fill, end, inside) in rows {
         assert!(rt; trib < 4);
         assert!(rt; end <= schedule.frames(&TOP));
-        assert_eq!(rt;
-            schedule.stays_inside(&TOP, trib, fill, 0, end),
-            inside,
+        assert!(rt;
+            schedule.stays_inside(&TOP, trib, fill, 0, end) == inside,
             "tributary {trib} from {fill}"
         );
     }
@@ -168,7 +164,7 @@ fn keeps_stores_inside(rt: HostRuntime) -> Result<(), Fail> {
 fn finds_counts_at_the_largest_offsets(rt: HostRuntime) -> Result<(), Fail> {
     let text = b"version 2\nrate / 131072 -1000 1000 0 -1000 999\n/ 1 0 0 0 0\n";
     let schedule = Schedule::read(rt.alloc(), &[E2_LEVEL], text)?;
-    assert_eq!(rt; schedule.frames(&TOP), 131_073);
+    assert!(rt; schedule.frames(&TOP) == 131_073);
     // So many frames, and the bits of each tributary in them.
     let rows: [(u64, [u64; 4]); 5] = [
         (1, [205, 205, 205, 205]),
@@ -181,11 +177,11 @@ fn finds_counts_at_the_largest_offsets(rt: HostRuntime) -> Result<(), Fail> {
         assert!(rt; frames <= schedule.frames(&TOP));
         for trib in 0..4 {
             let total = schedule.total(&TOP, frames, trib);
-            assert_eq!(rt; total, totals[usize::from(trib)], "at {frames}, {trib}");
+            assert!(rt; total == totals[usize::from(trib)], "at {frames}, {trib}");
         }
     }
-    assert_eq!(rt; schedule.count(&TOP, 131_071, 0), 206);
-    assert_eq!(rt; schedule.count(&TOP, 131_071, 1), 205);
+    assert!(rt; schedule.count(&TOP, 131_071, 0) == 206);
+    assert!(rt; schedule.count(&TOP, 131_071, 1) == 205);
     Ok(())
 }
 
@@ -225,7 +221,7 @@ fn writes_longest_rows(rt: HostRuntime) -> Result<(), Fail> {
     ];
     for (text, expected) in rows {
         let answer = written(rt.alloc(), text.as_bytes())?;
-        assert_eq!(rt; answer.as_slice(), expected.as_bytes(), "at {text}");
+        assert!(rt; answer.as_slice() == expected.as_bytes(), "at {text}");
     }
     Ok(())
 }
@@ -233,13 +229,12 @@ fn writes_longest_rows(rt: HostRuntime) -> Result<(), Fail> {
 #[test]
 fn makes_nominal_counts(rt: HostRuntime) -> Result<(), Fail> {
     let schedule = Schedule::from_ppm(rt.alloc(), &[E2_LEVEL], 3, Bias::Nominal)?;
-    assert_eq!(rt; schedule.frames(&TOP), 3);
+    assert!(rt; schedule.frames(&TOP) == 3);
     for (frame, count) in [(0, 205), (1, 206), (2, 205)] {
         assert!(rt; frame < schedule.frames(&TOP));
         for trib in 0..4 {
-            assert_eq!(rt;
-                schedule.count(&TOP, frame, trib),
-                count,
+            assert!(rt;
+                schedule.count(&TOP, frame, trib) == count,
                 "at {frame}, {trib}"
             );
         }
@@ -266,18 +261,16 @@ fn makes_biased_counts(rt: HostRuntime) -> Result<(), Fail> {
     ];
     for (bias, frame, counts, totals) in rows {
         let schedule = Schedule::from_ppm(rt.alloc(), &[E2_LEVEL], 10_000, bias)?;
-        assert_eq!(rt; schedule.frames(&TOP), 10_000);
+        assert!(rt; schedule.frames(&TOP) == 10_000);
         assert!(rt; frame < schedule.frames(&TOP));
         for trib in 0..2 {
             let at = usize::from(trib);
-            assert_eq!(rt;
-                schedule.count(&TOP, frame, trib),
-                counts[at],
+            assert!(rt;
+                schedule.count(&TOP, frame, trib) == counts[at],
                 "at {frame}, {trib}"
             );
-            assert_eq!(rt;
-                schedule.total(&TOP, frame + 1, trib),
-                totals[at],
+            assert!(rt;
+                schedule.total(&TOP, frame + 1, trib) == totals[at],
                 "at {frame}, {trib}"
             );
         }
@@ -303,7 +296,7 @@ fn assert_row(rt: &impl Abort, alloc: Global, row: (&str, u8, Result<(), Outside
     let (text, trib, expected) = row;
     assert!(rt; trib < 4);
     let answer = within(alloc, text.as_bytes(), trib);
-    assert_eq!(rt; answer, Ok(expected), "at {text}, {trib}");
+    assert!(rt; answer == Ok(expected), "at {text}, {trib}");
 }
 
 // A run of k frames may bring from 205 k - 18 to 206 k + 18 bits.
@@ -473,8 +466,8 @@ fn reads_two_levels(rt: HostRuntime) -> Result<(), Fail> {
     ];
     for (text, top_frames, written, short) in rows {
         let answer = read_two_levels(rt.alloc(), text.as_bytes(), top_frames)?;
-        assert_eq!(rt; answer.0.as_slice(), written.as_bytes(), "at {text}");
-        assert_eq!(rt; answer.1, short, "at {text}");
+        assert!(rt; answer.0.as_slice() == written.as_bytes(), "at {text}");
+        assert!(rt; answer.1 == short, "at {text}");
     }
     Ok(())
 }
@@ -495,7 +488,7 @@ fn names_unknown_nodes(rt: HostRuntime) {
     ];
     for (text, fault) in rows {
         let answer = read_two_levels(rt.alloc(), text.as_bytes(), 0).err();
-        assert_eq!(rt; answer, Some(fault), "at {text}");
+        assert!(rt; answer == Some(fault), "at {text}");
     }
 }
 
@@ -503,10 +496,10 @@ fn names_unknown_nodes(rt: HostRuntime) {
 fn begins_frames_below(rt: HostRuntime) -> Result<(), Fail> {
     let text = b"/ 3 377 377 377 377\n/1 2 1 2 3 4\n/2 2 1 2 3 4\n/3 2 1 2 3 4\n/4 2 1 2 3 4\n";
     let schedule = Schedule::read(rt.alloc(), &[E3_LEVEL, E2_LEVEL], text)?;
-    assert_eq!(rt; schedule.frames(&FIRST), 2);
+    assert!(rt; schedule.frames(&FIRST) == 2);
     assert!(rt; 3 <= schedule.frames(&TOP));
     assert!(rt; schedule.short(3).is_none());
-    assert_eq!(rt; schedule.begun(&FIRST, 3), 2);
+    assert!(rt; schedule.begun(&FIRST, 3) == 2);
     Ok(())
 }
 
@@ -514,21 +507,21 @@ fn begins_frames_below(rt: HostRuntime) -> Result<(), Fail> {
 fn makes_three_levels(rt: HostRuntime) -> Result<(), Fail> {
     let levels = [E4_LEVEL, E3_LEVEL, E2_LEVEL];
     let schedule = Schedule::from_ppm(rt.alloc(), &levels, 200, Bias::Mixed)?;
-    assert_eq!(rt; schedule.frames(&TOP), 200);
+    assert!(rt; schedule.frames(&TOP) == 200);
     assert!(rt; 200 <= schedule.frames(&TOP));
     assert!(rt; schedule.short(200).is_none());
     let bits = u128::from(LEAD) + u128::from(schedule.total(&TOP, 200, 0));
-    assert_eq!(rt; u128::from(schedule.frames(&FIRST)), bits.div_ceil(1_536));
+    assert!(rt; u128::from(schedule.frames(&FIRST)) == bits.div_ceil(1_536));
     let text = schedule.text(rt.alloc())?;
     let again = Schedule::read(rt.alloc(), &levels, &text)?;
-    assert_eq!(rt; again.text(rt.alloc())?.as_slice(), text.as_slice());
+    assert!(rt; again.text(rt.alloc())?.as_slice() == text.as_slice());
     let last = Path {
         depth: 2,
         first: 4,
         second: 4,
     };
     for node in [TOP, FIRST, last] {
-        assert_eq!(rt; again.frames(&node), schedule.frames(&node));
+        assert!(rt; again.frames(&node) == schedule.frames(&node));
     }
     Ok(())
 }
@@ -570,7 +563,7 @@ fn judges_rows_of_a_top_without_stores(rt: HostRuntime) {
     ];
     for (text, fault) in rows {
         let answer = read_locked(rt.alloc(), text.as_bytes()).err();
-        assert_eq!(rt; answer, Some(fault), "at {text}");
+        assert!(rt; answer == Some(fault), "at {text}");
     }
 }
 
@@ -614,9 +607,9 @@ fn reads_a_top_without_stores(rt: HostRuntime) -> Result<(), Fail> {
     ];
     for (text, frames, written, short) in rows {
         let answer = read_locked(rt.alloc(), text.as_bytes())?;
-        assert_eq!(rt; answer.0, frames, "at {text}");
-        assert_eq!(rt; answer.1.as_slice(), written.as_bytes(), "at {text}");
-        assert_eq!(rt; answer.2, short, "at {text}");
+        assert!(rt; answer.0 == frames, "at {text}");
+        assert!(rt; answer.1.as_slice() == written.as_bytes(), "at {text}");
+        assert!(rt; answer.2 == short, "at {text}");
     }
     Ok(())
 }
@@ -628,10 +621,10 @@ fn enters_bits_below_a_top_without_stores(rt: HostRuntime) -> Result<(), Fail> {
     let schedule = Schedule::read(rt.alloc(), &LOCKED, text)?;
     assert!(rt; 17 <= schedule.frames(&TOP));
     assert!(rt; schedule.short(17).is_none());
-    assert_eq!(rt; schedule.begun(&FIRST, 17), 10);
+    assert!(rt; schedule.begun(&FIRST, 17) == 10);
     for (leaf, bits) in [(0, 2_928), (3, 2_928), (26, 2_928), (27, 2_918)] {
         assert!(rt; leaf < 28);
-        assert_eq!(rt; schedule.entered(leaf, 17), bits, "at {leaf}");
+        assert!(rt; schedule.entered(leaf, 17) == bits, "at {leaf}");
     }
     Ok(())
 }
@@ -651,11 +644,11 @@ fn makes_a_top_without_stores(rt: HostRuntime) -> Result<(), Fail> {
     };
     for (bias, totals) in rows {
         let schedule = Schedule::from_ppm(rt.alloc(), &LOCKED, 1_000, bias)?;
-        assert_eq!(rt; schedule.frames(&TOP), 1_000);
+        assert!(rt; schedule.frames(&TOP) == 1_000);
         for node in [FIRST, last] {
-            assert_eq!(rt; schedule.frames(&node), 571);
-            assert_eq!(rt; schedule.total(&node, 571, 0), totals[0]);
-            assert_eq!(rt; schedule.total(&node, 571, 1), totals[1]);
+            assert!(rt; schedule.frames(&node) == 571);
+            assert!(rt; schedule.total(&node, 571, 0) == totals[0]);
+            assert!(rt; schedule.total(&node, 571, 1) == totals[1]);
         }
     }
     Ok(())
@@ -667,9 +660,9 @@ fn reads_back_a_made_top_without_stores(rt: HostRuntime) -> Result<(), Fail> {
     let text = schedule.text(rt.alloc())?;
     let expected =
         "/ 12\n/1 1 287 287 287 287\n/1 6 288 288 288 288\n/2 1 287 287 287 287\n/2 6 288 288 288 288\n/3 1 287 287 287 287\n/3 6 288 288 288 288\n/4 1 287 287 287 287\n/4 6 288 288 288 288\n/5 1 287 287 287 287\n/5 6 288 288 288 288\n/6 1 287 287 287 287\n/6 6 288 288 288 288\n/7 1 287 287 287 287\n/7 6 288 288 288 288\n";
-    assert_eq!(rt; text.as_slice(), expected.as_bytes());
+    assert!(rt; text.as_slice() == expected.as_bytes());
     let again = Schedule::read(rt.alloc(), &LOCKED, &text)?;
-    assert_eq!(rt; again.text(rt.alloc())?.as_slice(), text.as_slice());
-    assert_eq!(rt; again.frames(&TOP), 12);
+    assert!(rt; again.text(rt.alloc())?.as_slice() == text.as_slice());
+    assert!(rt; again.frames(&TOP) == 12);
     Ok(())
 }
