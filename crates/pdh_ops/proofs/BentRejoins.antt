@@ -16,7 +16,7 @@ use Rattle.pdh_script.proofs.Growing.{judged_fits}
 use Rattle.pdh_answers.specs.Names.{line_name, script_name}
 use Rattle.pdh_recovery.specs.Recovering.{RejoinsList}
 use Rattle.pdh_runner.specs.Operation.{Files, bytes_in}
-use Rattle.pdh_ops.specs.Commands.Disturb.{script_or_stop, script_rows, script_in, bent_bits, bent_bytes}
+use Rattle.pdh_recorded.specs.Disturb.{script_or_stop, script_rows, script_in, bent_bits, bent_bytes}
 use Rattle.pdh_ops.specs.Rejoined.{bits_made, made_from, end_from}
 
 -- the first bits of what rejoins a list rejoin it too

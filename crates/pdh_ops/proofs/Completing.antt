@@ -13,8 +13,8 @@ use Rattle.pdh_answers.specs.SlipLines.{LogState, log_state, slip_lines, TellsLi
 use Rattle.pdh_answers.specs.laws.SlipLineLaws.{sends_nothing}
 use Rattle.pdh_answers.proofs.Lines.{breaks_fails}
 use Rattle.pdh_runner.specs.Hearing.{HeardBy}
-use Rattle.pdh_ops.specs.Schedules.{rows_in}
-use Rattle.pdh_ops.specs.Commands.Mux.{slips_in, slips_where}
+use Rattle.pdh_making.specs.Schedules.{rows_in}
+use Rattle.pdh_making.specs.Mux.{slips_in, slips_where}
 use Rattle.pdh_runner.specs.Performing.{HasCause, IsCounted}
 use Rattle.pdh_ops.specs.Run.{Runs, ToldBy, IsToldBehind, IsToldWhole, Completes}
 use Rattle.pdh_words.specs.declared.commands.Command.{Command}

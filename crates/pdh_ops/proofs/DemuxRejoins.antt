@@ -17,13 +17,13 @@ use Rattle.pdh_answers.specs.Names.{name_of, line_file, line_name}
 use Rattle.pdh_words.specs.declared.commands.Bits.{Bits}
 use Rattle.pdh_words.specs.declared.commands.Command.{Command}
 use Rattle.pdh_words.specs.declared.commands.Command.TheVariants.{Mux, Disturb, Demux}
-use Rattle.pdh_ops.specs.Schedules.{rows_in}
+use Rattle.pdh_making.specs.Schedules.{rows_in}
 use Rattle.pdh_runner.specs.Operation.{bytes_in}
-use Rattle.pdh_ops.specs.Commands.Demux.{output_of, demuxing}
+use Rattle.pdh_recorded.specs.Demux.{output_of, demuxing}
 use Rattle.pdh_runner.specs.Performing.{Performs}
 use Rattle.pdh_ops.specs.Run.{Runs}
-use Rattle.pdh_ops.specs.Commands.Mux.{line_bytes, muxing}
-use Rattle.pdh_ops.specs.Commands.Disturb.{script_in, bent_bytes, disturbing}
+use Rattle.pdh_making.specs.Mux.{line_bytes, muxing}
+use Rattle.pdh_recorded.specs.Disturb.{script_in, bent_bytes, disturbing}
 use Rattle.pdh_ops.specs.Rejoined.{made_from, end_from, AreRejoined}
 use Rattle.pdh_ops.proofs.MuxGivesBack.{stop_status, mux_done}
 use Rattle.pdh_ops.proofs.MuxIsSent.{sent_line}

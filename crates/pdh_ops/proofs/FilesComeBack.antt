@@ -10,9 +10,9 @@ use Rattle.pdh_recovery.proofs.RecoverLaws.{rejoins_line}
 use Rattle.pdh_chain.specs.declared.chain.Chain.{Chain}
 use Rattle.pdh_chain.specs.Chains.{shapes_of}
 use Rattle.pdh_chain.specs.Saying.{says_of}
-use Rattle.pdh_ops.specs.Schedules.{rows_in}
+use Rattle.pdh_making.specs.Schedules.{rows_in}
 use Rattle.pdh_runner.specs.Operation.{Files}
-use Rattle.pdh_ops.specs.Commands.Mux.{leaf_bits, line_len}
+use Rattle.pdh_making.specs.Mux.{leaf_bits, line_len}
 use Rattle.pdh_ops.specs.Rejoined.{FileComesBack}
 
 pub file_comes_back : (chain : Chain) (feac : Option ℕ) (files : Files) (line bent output : List ℕ) (leaf e u : ℕ) (quiet : List ℕ) → FileComesBack chain feac files line bent output leaf e u quiet

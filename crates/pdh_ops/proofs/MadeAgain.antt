@@ -54,10 +54,10 @@ use Rattle.pdh_answers.specs.declared.file.File.{File}
 use Rattle.pdh_answers.specs.declared.file.File.TheVariants.{Schedule, Leaf}
 use Rattle.pdh_runner.specs.Lines.{frames_of as frames_in_line}
 use Rattle.pdh_runner.specs.Operation.{Files, all_held, bytes_in}
-use Rattle.pdh_ops.specs.Schedules.{frames_in, rows_of, rows_or_stop}
-use Rattle.pdh_ops.specs.Commands.Mux.{mux_inputs, short_node, stop_of_shortage, bits_held, bits_needed, short_leaf, event_of, stop_of_event, mux_says, muxed}
-use Rattle.pdh_ops.specs.Commands.Mux.Job.{Plainly}
-use Rattle.pdh_ops.specs.Commands.Smooth.{output_in, smooth_output}
+use Rattle.pdh_making.specs.Schedules.{frames_in, rows_of, rows_or_stop}
+use Rattle.pdh_making.specs.Mux.{mux_inputs, short_node, stop_of_shortage, bits_held, bits_needed, short_leaf, event_of, stop_of_event, mux_says, muxed}
+use Rattle.pdh_making.specs.Mux.Job.{Plainly}
+use Rattle.pdh_recorded.specs.Smooth.{output_in, smooth_output}
 use Rattle.pdh_ops.specs.MadeAgain.{AreSmoothed, MakesAgain, frames_made_again}
 
 -- ---- a chain of one multiplexer

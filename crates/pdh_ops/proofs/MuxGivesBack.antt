@@ -28,9 +28,9 @@ use Rattle.pdh_chain.specs.Chains.{shapes_of, levels_of, leaves_of, frame_bytes_
 use Rattle.pdh_chain.proofs.ChainLaws.{all_rated, are_frames, some_bits, whole_bytes}
 use Rattle.pdh_answers.specs.Names.{schedule_name, leaf_name}
 use Rattle.pdh_answers.specs.Answer.{Answer, and_then, status_of}
-use Rattle.pdh_ops.specs.Schedules.{rows_of, rows_or_stop, rows_in, frames_in}
-use Rattle.pdh_ops.specs.Commands.Mux.{mux_inputs, line_len, short_node, leaf_bits, bits_held, bits_needed, short_leaf, event_of, stop_of_event, stop_of_shortage, muxed, frames_made, mux_line, line_bytes, muxing, mux_says}
-use Rattle.pdh_ops.specs.Commands.Mux.Job.{Plainly}
+use Rattle.pdh_making.specs.Schedules.{rows_of, rows_or_stop, rows_in, frames_in}
+use Rattle.pdh_making.specs.Mux.{mux_inputs, line_len, short_node, leaf_bits, bits_held, bits_needed, short_leaf, event_of, stop_of_event, stop_of_shortage, muxed, frames_made, mux_line, line_bytes, muxing, mux_says}
+use Rattle.pdh_making.specs.Mux.Job.{Plainly}
 use Rattle.pdh_watch.specs.Monitors.{State}
 use Rattle.pdh_answers.specs.Lines.{IsTold}
 use Rattle.pdh_runner.specs.Performing.{Performs}
@@ -44,8 +44,8 @@ use Rattle.pdh_answers.specs.declared.answer.Stop.{Stop}
 use Rattle.pdh_answers.specs.declared.answer.Stop.TheVariants.{Memory, Usage, Read, Write, Missing, LongSchedule, BadRow, UnknownNode, CountOver, ShortNode, Short, Overflow, Underflow, ManyFrames, NoAlignment, NotWhole, LongScript, BadScriptRow, PastEnd, Unheard}
 use Rattle.pdh_answers.specs.declared.file.File.TheVariants.{Leaf}
 use Rattle.pdh_chain.proofs.Scheduled.{arrive_singly}
-use Rattle.pdh_ops.proofs.MuxComes.{each_long}
-use Rattle.pdh_ops.proofs.MuxMade.{all_made}
+use Rattle.pdh_making.proofs.MuxComes.{each_long}
+use Rattle.pdh_making.proofs.MuxMade.{all_made}
 use Rattle.pdh_shape.specs.OwnNumbers.{most_frames}
 use Rattle.pdh_runner.specs.Operation.{all_held, Files, bytes_in}
 

@@ -10,9 +10,9 @@ use Rattle.pdh_chain.specs.Chains.{shapes_of}
 use Rattle.pdh_chain.proofs.ChainLaws.{are_frames}
 use Rattle.pdh_chain.proofs.Scheduled.{arrive_singly}
 use Rattle.pdh_answers.specs.Names.{schedule_name}
-use Rattle.pdh_ops.specs.Schedules.{rows_in, frames_in}
+use Rattle.pdh_making.specs.Schedules.{rows_in, frames_in}
 use Rattle.pdh_runner.specs.Operation.{Files, bytes_in}
-use Rattle.pdh_ops.specs.Commands.Mux.{line_len, event_of, line_bytes}
+use Rattle.pdh_making.specs.Mux.{line_len, event_of, line_bytes}
 use Rattle.pdh_ops.specs.Rejoined.{IsSentLine}
 use Rattle.pdh_ops.proofs.MuxGivesBack.{DidMux, line_bits, long_there, rows_sound}
 

@@ -25,9 +25,9 @@ use Rattle.pdh_chain.specs.Chains.{shapes_of, levels_of, leaves_of, delay_of}
 use Rattle.pdh_chain.proofs.ChainLaws.{are_frames, read_evenly}
 use Rattle.pdh_answers.specs.Names.{name_of, schedule_name}
 use Rattle.pdh_answers.specs.Answer.{Answer, and_then, status_of, stop_of_fault}
-use Rattle.pdh_ops.specs.Schedules.{rows_of, rows_or_stop, rows_in, frames_in}
-use Rattle.pdh_ops.specs.Commands.Mux.{mux_inputs, line_len, short_node, stop_of_shortage, leaf_bits, bits_held, bits_needed, short_leaf, event_of, stop_of_event, muxed, line_bytes, muxing, mux_says}
-use Rattle.pdh_ops.specs.Commands.Mux.Job.{Plainly}
+use Rattle.pdh_making.specs.Schedules.{rows_of, rows_or_stop, rows_in, frames_in}
+use Rattle.pdh_making.specs.Mux.{mux_inputs, line_len, short_node, stop_of_shortage, leaf_bits, bits_held, bits_needed, short_leaf, event_of, stop_of_event, muxed, line_bytes, muxing, mux_says}
+use Rattle.pdh_making.specs.Mux.Job.{Plainly}
 use Rattle.pdh_runner.specs.Operation.{AreTold, Files, bytes_in}
 use Rattle.pdh_watch.specs.Monitors.{State}
 use Rattle.pdh_answers.specs.Lines.{IsTold}
@@ -41,7 +41,7 @@ use Rattle.pdh_answers.specs.declared.file.File.TheVariants.{Leaf}
 use Rattle.pdh_answers.specs.declared.answer.Stop.{Stop}
 use Rattle.pdh_answers.specs.declared.answer.Stop.TheVariants.{Memory, Usage, Read, Write, Missing, LongSchedule, BadRow, UnknownNode, CountOver, ShortNode, Short, Overflow, Underflow, ManyFrames, NoAlignment, NotWhole, LongScript, BadScriptRow, PastEnd, Unheard}
 use Rattle.pdh_chain.proofs.Scheduled.{scheduled-fewer}
-use Rattle.pdh_ops.proofs.Scheduled.{all_scheduled}
+use Rattle.pdh_making.proofs.Scheduled.{all_scheduled}
 use Rattle.pdh_ops.proofs.MuxGivesBack.{DidMux, mux_done, frames_there, line_front, stop_status}
 use Rattle.pdh_shape.specs.OwnNumbers.{most_frames}
 

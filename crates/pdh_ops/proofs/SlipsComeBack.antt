@@ -44,14 +44,14 @@ use Rattle.pdh_runner.specs.Operation.{all_held, Files, bytes_in}
 use Rattle.pdh_runner.specs.Performing.{Performs}
 use Rattle.pdh_words.specs.declared.commands.Command.{Command}
 use Rattle.pdh_words.specs.declared.commands.Command.TheVariants.{MuxSlip}
-use Rattle.pdh_ops.specs.Schedules.{rows_of, rows_in, frames_in}
-use Rattle.pdh_ops.specs.Commands.Mux.{mux_inputs, line_len, short_node, short_leaf, leaf_bits, bits_held, bits_needed, stop_of_shortage, muxed, line_bytes, event_of, slipping_bytes, slips_in, slips_where, muxing_slips, muxslip_says}
-use Rattle.pdh_ops.specs.Commands.Mux.Job.{WithSlips}
+use Rattle.pdh_making.specs.Schedules.{rows_of, rows_in, frames_in}
+use Rattle.pdh_making.specs.Mux.{mux_inputs, line_len, short_node, short_leaf, leaf_bits, bits_held, bits_needed, stop_of_shortage, muxed, line_bytes, event_of, slipping_bytes, slips_in, slips_where, muxing_slips, muxslip_says}
+use Rattle.pdh_making.specs.Mux.Job.{WithSlips}
 use Rattle.pdh_ops.specs.Run.{Runs, ToldBy}
 use Rattle.pdh_ops.specs.Slips.{slipped_leaf, StandsClear, AreSlipped, IsPlainLine, HasNoSlip}
 use Rattle.pdh_ops.specs.Tolerated.{AreWithin}
-use Rattle.pdh_ops.proofs.MuxComes.{each_long}
-use Rattle.pdh_ops.proofs.MuxMade.{all_made}
+use Rattle.pdh_making.proofs.MuxComes.{each_long}
+use Rattle.pdh_making.proofs.MuxMade.{all_made}
 use Rattle.pdh_ops.proofs.MuxGivesBack.{rows_sound, stop_status}
 use Rattle.pdh_ops.proofs.MuxTolerated.{all_within, within_none}
 

@@ -1,24 +1,17 @@
--- The commands, each as a record that stands in a file of its own, here or in `pdh_streams`.
-pub mod Demux
-pub mod Mux
-pub mod Clock
-pub mod Inspect
-pub mod Disturb
-pub mod Drill
-pub mod Smooth
+-- The commands, each as a record that stands in a file of its own, in `pdh_making`, `pdh_recorded` or `pdh_streams`.
 use Rattle.pdh_words.specs.declared.commands.Command.{Command}
 use Rattle.pdh_words.specs.declared.commands.Command.TheVariants.{Demux as DemuxWords, Mux as MuxWords, MuxSlip as MuxSlipWords, ClockCheck, ClockMake, Inspect as InspectWords, InspectE1, Show, E1Pack, E1Unpack, Ds1Pack, Ds1Unpack, Disturb as DisturbWords, Drill as DrillWords, Smooth as SmoothWords}
 use Rattle.pdh_runner.specs.Operation.{Operation}
 use Rattle.pdh_streams.specs.Codecs.{packing, unpacking}
 use Rattle.pdh_streams.specs.E1.{e1_codec}
 use Rattle.pdh_streams.specs.Ds1.{ds1_codec}
-use Rattle.pdh_ops.specs.Commands.Demux.{demuxing}
-use Rattle.pdh_ops.specs.Commands.Mux.{muxing, muxing_slips}
-use Rattle.pdh_ops.specs.Commands.Clock.{checking, making}
-use Rattle.pdh_ops.specs.Commands.Inspect.{inspecting, inspecting_e1, showing}
-use Rattle.pdh_ops.specs.Commands.Disturb.{disturbing}
-use Rattle.pdh_ops.specs.Commands.Drill.{drilling}
-use Rattle.pdh_ops.specs.Commands.Smooth.{smoothing}
+use Rattle.pdh_recorded.specs.Demux.{demuxing}
+use Rattle.pdh_making.specs.Mux.{muxing, muxing_slips}
+use Rattle.pdh_making.specs.Clock.{checking, making}
+use Rattle.pdh_recorded.specs.Inspect.{inspecting, inspecting_e1, showing}
+use Rattle.pdh_recorded.specs.Disturb.{disturbing}
+use Rattle.pdh_making.specs.Drill.{drilling}
+use Rattle.pdh_recorded.specs.Smooth.{smoothing}
 
 abbrev pub operation_of : Command → Operation
 operation_of (DemuxWords chain bits) = demuxing chain bits

@@ -8,7 +8,7 @@ use Rattle.pdh_nesting.specs.Chains.{top_len}
 use Rattle.pdh_nesting.specs.Receiving.{far}
 use Rattle.pdh_chain.specs.Chains.{shapes_of, leaves_of}
 use Rattle.pdh_answers.specs.Names.{line_name}
-use Rattle.pdh_ops.specs.Commands.Mux.{leaf_bits, muxing}
+use Rattle.pdh_making.specs.Mux.{leaf_bits, muxing}
 use Rattle.pdh_runner.specs.Operation.{AreTold, Files}
 use Rattle.pdh_words.specs.declared.commands.Command.{Command}
 use Rattle.pdh_words.specs.declared.commands.Command.TheVariants.{Mux}

@@ -1,10 +1,5 @@
-pub mod Schedules
 pub mod Commands
 pub mod Run
-pub mod Steps
-pub mod ScheduleSteps
-pub mod MuxSteps
-pub mod DisturbSteps
 pub mod GivesBack
 pub mod Rejoined
 pub mod Packs
@@ -12,6 +7,3 @@ pub mod Tolerated
 pub mod Slips
 pub mod MadeAgain
 pub mod InTime
-pub mod ShowSteps
-pub mod SmoothSteps
-pub mod laws

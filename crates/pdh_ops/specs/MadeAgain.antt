@@ -10,8 +10,8 @@ use Rattle.pdh_smoothing.specs.Again.{frames_again}
 use Rattle.pdh_answers.specs.Names.{leaf_name, schedule_name}
 use Rattle.pdh_runner.specs.Lines.{frames_of}
 use Rattle.pdh_runner.specs.Operation.{Files}
-use Rattle.pdh_ops.specs.Commands.Mux.{mux_says, muxing}
-use Rattle.pdh_ops.specs.Commands.Smooth.{smooth_output}
+use Rattle.pdh_making.specs.Mux.{mux_says, muxing}
+use Rattle.pdh_recorded.specs.Smooth.{smooth_output}
 
 -- these files hold, as the leaves and the schedule of `mux`, what `smooth` writes of a line
 pub record AreSmoothed (chain : Chain) (line : List ℕ) (files : Files) : Type 0 where

@@ -15,13 +15,13 @@ use Rattle.pdh_chain.specs.Saying.{says_of}
 use Rattle.pdh_script.specs.Scripts.{Change, Row, end_of}
 use Rattle.pdh_script.specs.Scripts.Change.{Flip, Ones, Zeros, Drop, Add}
 use Rattle.pdh_answers.specs.Names.{name_of, line_file, line_name, bent_name, output_name}
-use Rattle.pdh_ops.specs.Schedules.{rows_in}
-use Rattle.pdh_ops.specs.Commands.Mux.{leaf_bits, line_len, muxing}
-use Rattle.pdh_ops.specs.Commands.Disturb.{script_in, disturbing}
+use Rattle.pdh_making.specs.Schedules.{rows_in}
+use Rattle.pdh_making.specs.Mux.{leaf_bits, line_len, muxing}
+use Rattle.pdh_recorded.specs.Disturb.{script_in, disturbing}
 use Rattle.pdh_runner.specs.Operation.{AreTold, Files, bytes_in}
 use Rattle.pdh_words.specs.declared.commands.Command.{Command}
 use Rattle.pdh_words.specs.declared.commands.Command.TheVariants.{Mux, Disturb, Demux}
-use Rattle.pdh_ops.specs.Commands.Demux.{demuxing}
+use Rattle.pdh_recorded.specs.Demux.{demuxing}
 
 -- ---- the line that was sent
 

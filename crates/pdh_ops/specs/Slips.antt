@@ -11,8 +11,8 @@ use Rattle.pdh_clock.specs.Contents.{counts}
 use Rattle.pdh_chain.specs.Chains.{shapes_of, leaves_of}
 use Rattle.pdh_chain.specs.declared.chain.Chain.{Chain}
 use Rattle.pdh_answers.specs.Names.{line_name}
-use Rattle.pdh_ops.specs.Schedules.{rows_in, frames_in}
-use Rattle.pdh_ops.specs.Commands.Mux.{leaf_bits, line_len, line_bytes, slips_told, muxing_slips}
+use Rattle.pdh_making.specs.Schedules.{rows_in, frames_in}
+use Rattle.pdh_making.specs.Mux.{leaf_bits, line_len, line_bytes, slips_told, muxing_slips}
 use Rattle.pdh_ops.specs.Tolerated.{AreWithin}
 use Rattle.pdh_runner.specs.Operation.{AreTold, Files}
 use Rattle.pdh_words.specs.declared.commands.Command.{Command}

@@ -10,11 +10,11 @@ use Rattle.pdh_clock.specs.Contents.{counts, frame_count}
 use Rattle.pdh_chain.specs.Chains.{shapes_of, leaves_of, delay_of}
 use Rattle.pdh_chain.specs.declared.chain.Chain.{Chain}
 use Rattle.pdh_answers.specs.Names.{line_name}
-use Rattle.pdh_ops.specs.Schedules.{rows_in}
+use Rattle.pdh_making.specs.Schedules.{rows_in}
 use Rattle.pdh_runner.specs.Operation.{AreTold, Files}
 use Rattle.pdh_words.specs.declared.commands.Command.{Command}
 use Rattle.pdh_words.specs.declared.commands.Command.TheVariants.{Mux}
-use Rattle.pdh_ops.specs.Commands.Mux.{muxing}
+use Rattle.pdh_making.specs.Mux.{muxing}
 
 -- each tributary of each node is within the tolerance over all frames of its node
 abbrev pub AreWithin : Chain → Files → Type 0

@@ -1,15 +1,4 @@
-//! The commands: each in a file of its own, and the one place that tells them apart.
-
-mod apart;
-mod clock;
-mod demux;
-mod disturb;
-mod drill;
-mod inspect;
-mod mux;
-mod muxslip;
-mod show;
-mod smooth;
+//! The one place that tells the commands apart: each is a call of `pdh_making`, `pdh_recorded` or `pdh_streams`.
 
 ghost use Rattle.std.specs.Prelude.{◌≡◌, map};
 ghost use Rattle.std.specs.String.{string_bytes};
@@ -19,6 +8,8 @@ ghost use Rattle.pdh_ops.specs.Run.{Does, Watches, Hears};
 
 use pdh_answers::{SinkLog, Stop};
 use pdh_edge::{Shelf, Sink};
+use pdh_making::{clock, drill, mux, muxslip};
+use pdh_recorded::{demux, disturb, inspect, inspect_e1, show, smooth};
 use pdh_runner::Ended;
 use pdh_streams::{pack_ds1, pack_e1, unpack_ds1, unpack_e1};
 use pdh_watch::Monitor;
@@ -42,16 +33,14 @@ pub fn answer<S: Shelf, K: Sink>(
         return Ended::new(shelf, Err(Stop::Usage));
     };
     match command {
-        Command::Demux { chain, bits } => demux::demux(alloc, chain, bits, shelf, monitors, log),
-        Command::Mux { chain, feac } => mux::mux(alloc, chain, feac, shelf, monitors, log),
-        Command::MuxSlip { chain } => muxslip::muxslip(alloc, chain, shelf, monitors, log),
-        Command::Inspect { chain, bits } => inspect::inspect(
-            alloc, chain, bits, shelf, monitors, log,
-        ),
-        Command::InspectE1 => inspect::inspect_e1(alloc, shelf, monitors, log),
-        Command::Show { chain, frame } => show::show(alloc, chain, frame, shelf, monitors, log),
-        Command::Smooth { chain } => smooth::smooth(alloc, chain, shelf, monitors, log),
-        Command::Disturb { chain } => disturb::disturb(alloc, chain, shelf, monitors, log),
+        Command::Demux { chain, bits } => demux(alloc, chain, bits, shelf, monitors, log),
+        Command::Mux { chain, feac } => mux(alloc, chain, feac, shelf, monitors, log),
+        Command::MuxSlip { chain } => muxslip(alloc, chain, shelf, monitors, log),
+        Command::Inspect { chain, bits } => inspect(alloc, chain, bits, shelf, monitors, log),
+        Command::InspectE1 => inspect_e1(alloc, shelf, monitors, log),
+        Command::Show { chain, frame } => show(alloc, chain, frame, shelf, monitors, log),
+        Command::Smooth { chain } => smooth(alloc, chain, shelf, monitors, log),
+        Command::Disturb { chain } => disturb(alloc, chain, shelf, monitors, log),
         Command::ClockCheck { chain } => {
             let answer = clock::check(alloc, chain, &mut shelf);
             Ended::new(shelf, answer)
@@ -78,6 +67,6 @@ pub fn answer<S: Shelf, K: Sink>(
             chain,
             seed,
             frames,
-        } => Ended::new(shelf, drill::drill(alloc, chain, seed, frames)),
+        } => Ended::new(shelf, drill(alloc, chain, seed, frames)),
     }
 }

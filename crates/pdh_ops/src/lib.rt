@@ -5,12 +5,8 @@
 
 mod commands;
 pub mod laws;
-mod leaf;
-mod line_work;
 mod never_failing;
 mod program;
-mod schedule;
-mod texts;
 
 pub use never_failing::run_never_failing;
 pub use program::{Ran, run};

@@ -4,6 +4,7 @@ pub mod PortRun
 pub mod Finished
 pub mod Prepared
 pub mod Touching
+pub mod Lengths
 pub mod LineComes
 pub mod Causes
 pub mod Refusing

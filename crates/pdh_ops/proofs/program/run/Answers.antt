@@ -12,7 +12,7 @@ use Rattle.pdh_ops.proofs.MuxGivesBack.{gives_back}
 use Rattle.pdh_ops.proofs.MuxTolerated.{has_no_event, is_delayed}
 use Rattle.pdh_ops.proofs.DemuxRejoins.{are_rejoined}
 use Rattle.pdh_ops.proofs.StreamsPacked.{packs}
-use Rattle.pdh_ops.proofs.DrillComes.{are_in_time}
+use Rattle.pdh_ops.proofs.DrillInTime.{are_in_time}
 use Rattle.pdh_ops.proofs.program.run.Goals as goal
 
 pub returns-clause-runs : goal.returns-clause-runs

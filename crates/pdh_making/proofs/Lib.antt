@@ -1,0 +1,14 @@
+pub mod MuxRun
+pub mod ScheduleComes
+pub mod MuxComes
+pub mod Firsts
+pub mod Scheduled
+pub mod MuxMade
+pub mod MuxSent
+pub mod MuxFiles
+pub mod ClockComes
+pub mod DrillComes
+pub mod Stopping
+pub mod MuxSlipRun
+pub mod LinePut
+pub mod FewSlips

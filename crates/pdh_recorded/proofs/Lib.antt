@@ -1,0 +1,14 @@
+pub mod ShowRun
+pub mod ShowFiles
+pub mod DemuxRun
+pub mod DisturbRun
+pub mod LineComes
+pub mod DemuxFiles
+pub mod SmoothFiles
+pub mod SmoothRun
+pub mod InspectFiles
+pub mod DisturbComes
+pub mod DisturbFiles
+pub mod InspectWatched
+pub mod Stopping
+pub mod LineWorks
