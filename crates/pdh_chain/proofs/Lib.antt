@@ -19,5 +19,6 @@ pub mod SlipsTold
 pub mod ShortLists
 pub mod Tolerated
 pub mod Scheduled
+pub mod Clear
 pub mod FarGrows
 pub mod Recovered

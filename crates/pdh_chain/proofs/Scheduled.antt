@@ -62,7 +62,7 @@ all_scheduled shapes schedule n are none k d h =
     (subst (λ p. begun_at (numbers_in schedule.levels) (counts rows) [] (n * top_len_of (numbers_in schedule.levels)) p ≤ frame_count rows p) (sym same) (each_scheduled schedule n none k d inside))
 
 -- where each node has the frames that it begins, none lacks one
-none_lacks : (shapes : List FrameShape) (counts : Counts) (scheduled : List ℕ → ℕ) (path : List ℕ) (x : ℕ) (node : List ℕ) → AllScheduled shapes counts scheduled path x → LacksFrames shapes counts scheduled path x node → ⊥
+pub none_lacks : (shapes : List FrameShape) (counts : Counts) (scheduled : List ℕ → ℕ) (path : List ℕ) (x : ℕ) (node : List ℕ) → AllScheduled shapes counts scheduled path x → LacksFrames shapes counts scheduled path x node → ⊥
 unfolding LacksFrames
 none_lacks [] counts scheduled path x node all lacks = lacks
 none_lacks (s ∷ below) counts scheduled path x node all lacks = elim lacks [

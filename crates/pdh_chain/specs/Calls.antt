@@ -1,6 +1,6 @@
 -- What the calls of this crate want of a port and leave of it, in words that their contracts share. `feeds` and `drains` are what
 -- is told of the port's kind as a feed and as an output, `old` and `new` the port before and after the call.
-use Rattle.std.specs.Prelude.{◌≡◌, ℕ, ◌+◌, ◌*◌, ◌^◌, ◌<◌, ◌≤◌, Bool, false, List, length, Option, Result, OnOk, IsErrOf, IsTrue}
+use Rattle.std.specs.Prelude.{◌≡◌, ℕ, ◌+◌, ◌*◌, ◌^◌, ◌<◌, ◌≤◌, Bool, false, List, [], length, Option, Result, OnOk, IsErrOf, IsTrue}
 use Rattle.pdh_edge.specs.declared.port.Feed as feed
 use Rattle.pdh_edge.specs.declared.port.Drain as drain
 use Rattle.pdh_edge.specs.Counts.{one_more}
@@ -10,24 +10,29 @@ use Rattle.pdh_edge.specs.Progress.{Works, port_faults}
 use Rattle.pdh_shape.specs.declared.role.Service.{Service}
 use Rattle.pdh_shape.specs.Frame.{FrameShape}
 use Rattle.pdh_line.specs.Sending.{Mode}
+use Rattle.pdh_line.specs.Nodes.{Counts}
+use Rattle.pdh_line.specs.Paths.{top}
 use Rattle.pdh_nesting.specs.Chains.{width}
+use Rattle.pdh_nesting.specs.Sending.{given_below, AllScheduled}
 use Rattle.pdh_clock.specs.Contents.{Contents, frame_count, counts}
 use Rattle.pdh_watch.specs.declared.event.Event.{Event}
 use Rattle.pdh_tx.specs.declared.tx.Tx as tx
 use Rattle.pdh_tx.specs.declared.tx.TxStop.{TxStop}
-use Rattle.pdh_tx.specs.Meaning.{Plan, Meaning}
-use Rattle.pdh_tx.specs.Making.{IsUneventful}
+use Rattle.pdh_tx.specs.Meaning.{Plan, Meaning, plan_of}
+use Rattle.pdh_tx.specs.Making.{IsClear, IsUneventful}
 use Rattle.pdh_tx.specs.Calls.{IsFed, HaltsNext}
 use Rattle.pdh_rx.specs.Meaning.{Meaning as Receiving, HoldsAll}
-use Rattle.pdh_chain.specs.Trees.{AreLevelsOf}
+use Rattle.pdh_chain.specs.Chains.{shapes_of}
+use Rattle.pdh_chain.specs.Trees.{AreLevelsOf, sender_of}
 use Rattle.pdh_chain.specs.Saying.{says_of}
 use Rattle.pdh_chain.specs.Muxing.{HasFrames, SayInFrames, MakesBits, StopsMaking, Sends, IsSendStop}
 use Rattle.pdh_chain.specs.Demuxing.{Receives, IsReceiveStop}
 use Rattle.pdh_chain.specs.Faults.{counted_at_demux_stop, counted_at_send_stop}
-use Rattle.pdh_chain.specs.Muxes.{Muxes, IsMuxStop}
+use Rattle.pdh_chain.specs.Muxes.{IsTolerated, Muxes, IsMuxStop}
 use Rattle.pdh_chain.specs.Demuxes.{Demuxes, IsDemuxStop, IsDemuxLeft}
 use Rattle.pdh_chain.specs.declared.sending.SendStop.{SendStop}
 use Rattle.pdh_chain.specs.declared.sending.SendStop.TheVariants.{Sender, TakeFailed, WriteFailed}
+use Rattle.pdh_chain.specs.declared.chain.Chain.{Chain}
 use Rattle.pdh_chain.specs.declared.stop.MuxStop.{MuxStop}
 use Rattle.pdh_chain.specs.declared.stop.DemuxStop.{DemuxStop}
 use Rattle.pdh_chain.specs.declared.stop.DemuxStop.TheVariants.{ReadFailed}
@@ -51,6 +56,14 @@ pub record IsChainOf (shapes : List FrameShape) (fits : Type 0) (schedule : Cont
   pub few : AreFew shapes
   pub kinds : fits
   pub levels_are : AreLevelsOf shapes schedule.levels
+
+-- Senders with these frames, whose nodes are of the kind of their frames where this holds, and receivers with those frames are such
+-- as a chain has.
+pub record AreOfChain (chain : Chain) (sends receives : List FrameShape) (fits : Type 0) : Type 0 where
+  pub few : AreFew sends
+  pub kinds : fits
+  pub sends_are : sends ≡ shapes_of chain
+  pub receives_are : receives ≡ shapes_of chain
 
 -- so many frames of the chain's line of a mode were made by this schedule and put, with this code in them
 abbrev pub MuxesBy : {P : Type 0} → feed.Ghosts P → drain.Ghosts P → Mode → List FrameShape → Contents → Option ℕ → ℕ → P → P → Type 0
@@ -85,6 +98,20 @@ PutsAtMost call most =
     → (k : ℕ) → bits_held outputs_now k ≤ bits_held outputs k + most
 
 -- ---- senders
+
+-- each leaf's list has the bits that it gives for those of the line from one place to another
+abbrev pub HaveEnough : List FrameShape → Counts → ℕ → ℕ → Inputs → Type 0
+HaveEnough shapes counts from to inputs = (k : ℕ) → k < width shapes → given_below shapes counts [] to k ≤ given_below shapes counts [] from k + inputs.left k
+
+-- so many bits of a chain's line are within the tolerance, and the schedule has all frames that its nodes begin in them
+pub record IsScheduledWithin (shapes : List FrameShape) (schedule : Contents) (bits : ℕ) : Type 0 where
+  pub tolerated : IsTolerated shapes (counts schedule.rows) bits
+  pub scheduled : AllScheduled shapes (counts schedule.rows) (frame_count schedule.rows) [] bits
+
+-- nothing stands in the way of the bits of a chain's line from one place to another, and they bring no slip, so that its sender may
+-- make them at once
+abbrev pub GoesClear : List FrameShape → Contents → ℕ → ℕ → Inputs → Type 0
+GoesClear shapes schedule from to inputs = IsClear (sender_of shapes top 0) (plan_of schedule) from to inputs
 
 -- the sender runs, has made no bit by this plan, and its frames have so many bits
 pub record IsAtStart {T : Type 0} (sender : tx.Ghosts T) (t : T) (plan : Plan) (len : ℕ) : Type 0 where

@@ -17,37 +17,18 @@ use crate::chain::Chain;
 use crate::making::mux_with;
 use crate::receiving::demux_with;
 use crate::stop::{DemuxStop, MuxStop};
+use crate::types::{
+    C13Sender, E12Receiver, E12Sender, E13Receiver, E13Sender, E14Sender, E23Receiver, E23Sender,
+    E24Sender, E34Sender, M12Receiver, M12Sender, M13Sender, M23Sender,
+};
 use pdh_clock::Schedule;
 use pdh_ds::{Ds2, Ds3, Ds3C};
 use pdh_edge::Port;
 use pdh_eframes::{E2, E3, E4};
-use pdh_locked::Locked;
-use pdh_rx::{RxNode, Tail};
+use pdh_rx::Tail;
 use pdh_slips::{NoSlips, SlipLog};
-use pdh_tx::{Leaf, Node};
 use pdh_watch::Watch;
 use std::alloc::Global;
-
-// A multiplexer of leaves into 8448 kbit/s.
-type E2Sender = Node<E2, Leaf>;
-
-// A multiplexer of leaves into 34368 kbit/s.
-type E3Sender = Node<E3, Leaf>;
-
-// A multiplexer into 34368 kbit/s by way of 8448.
-type E13Sender = Node<E3, E2Sender>;
-
-// A multiplexer of leaves into 6312 kbit/s.
-type Ds2Sender = Node<Ds2, Leaf>;
-
-// A demultiplexer of 8448 kbit/s into leaves.
-type E2Receiver = RxNode<E2, Tail>;
-
-// A demultiplexer of 34368 kbit/s into leaves.
-type E3Receiver = RxNode<E3, Tail>;
-
-// A demultiplexer of 6312 kbit/s into leaves.
-type Ds2Receiver = RxNode<Ds2, Tail>;
 
 // The same as `mux`, or where the log takes slips as `mux_slips`, by the types of the chain's nodes.
 fn mux_by_types<P: Port, G: SlipLog>(
@@ -73,18 +54,16 @@ fn mux_by_types<P: Port, G: SlipLog>(
     ensures untold { result ≡ Err MuxMemory → log.new ≡ log.old }
 {
     match chain {
-        Chain::E12 => mux_with::<E2Sender, P, G>(alloc, clock, frames, feac, port, log),
-        Chain::E23 => mux_with::<E3Sender, P, G>(alloc, clock, frames, feac, port, log),
-        Chain::E34 => mux_with::<Node<E4, Leaf>, P, G>(alloc, clock, frames, feac, port, log),
+        Chain::E12 => mux_with::<E12Sender, P, G>(alloc, clock, frames, feac, port, log),
+        Chain::E23 => mux_with::<E23Sender, P, G>(alloc, clock, frames, feac, port, log),
+        Chain::E34 => mux_with::<E34Sender, P, G>(alloc, clock, frames, feac, port, log),
         Chain::E13 => mux_with::<E13Sender, P, G>(alloc, clock, frames, feac, port, log),
-        Chain::E24 => mux_with::<Node<E4, E3Sender>, P, G>(alloc, clock, frames, feac, port, log),
-        Chain::E14 => mux_with::<Node<E4, E13Sender>, P, G>(alloc, clock, frames, feac, port, log),
-        Chain::M12 => mux_with::<Ds2Sender, P, G>(alloc, clock, frames, feac, port, log),
-        Chain::M23 => mux_with::<Node<Ds3, Leaf>, P, G>(alloc, clock, frames, feac, port, log),
-        Chain::M13 => mux_with::<Node<Ds3, Ds2Sender>, P, G>(alloc, clock, frames, feac, port, log),
-        Chain::C13 => mux_with::<Locked<Ds3C, Ds2Sender>, P, G>(
-            alloc, clock, frames, feac, port, log,
-        ),
+        Chain::E24 => mux_with::<E24Sender, P, G>(alloc, clock, frames, feac, port, log),
+        Chain::E14 => mux_with::<E14Sender, P, G>(alloc, clock, frames, feac, port, log),
+        Chain::M12 => mux_with::<M12Sender, P, G>(alloc, clock, frames, feac, port, log),
+        Chain::M23 => mux_with::<M23Sender, P, G>(alloc, clock, frames, feac, port, log),
+        Chain::M13 => mux_with::<M13Sender, P, G>(alloc, clock, frames, feac, port, log),
+        Chain::C13 => mux_with::<C13Sender, P, G>(alloc, clock, frames, feac, port, log),
     }
 }
 
@@ -165,13 +144,13 @@ fn demux_by_types<P: Port, W: Watch>(
         Chain::E12 => demux_with::<E2, Tail, P, W>(alloc, bits, port, watch),
         Chain::E23 => demux_with::<E3, Tail, P, W>(alloc, bits, port, watch),
         Chain::E34 => demux_with::<E4, Tail, P, W>(alloc, bits, port, watch),
-        Chain::E13 => demux_with::<E3, E2Receiver, P, W>(alloc, bits, port, watch),
-        Chain::E24 => demux_with::<E4, E3Receiver, P, W>(alloc, bits, port, watch),
-        Chain::E14 => demux_with::<E4, RxNode<E3, E2Receiver>, P, W>(alloc, bits, port, watch),
+        Chain::E13 => demux_with::<E3, E12Receiver, P, W>(alloc, bits, port, watch),
+        Chain::E24 => demux_with::<E4, E23Receiver, P, W>(alloc, bits, port, watch),
+        Chain::E14 => demux_with::<E4, E13Receiver, P, W>(alloc, bits, port, watch),
         Chain::M12 => demux_with::<Ds2, Tail, P, W>(alloc, bits, port, watch),
         Chain::M23 => demux_with::<Ds3, Tail, P, W>(alloc, bits, port, watch),
-        Chain::M13 => demux_with::<Ds3, Ds2Receiver, P, W>(alloc, bits, port, watch),
-        Chain::C13 => demux_with::<Ds3C, Ds2Receiver, P, W>(alloc, bits, port, watch),
+        Chain::M13 => demux_with::<Ds3, M12Receiver, P, W>(alloc, bits, port, watch),
+        Chain::C13 => demux_with::<Ds3C, M12Receiver, P, W>(alloc, bits, port, watch),
     }
 }
 

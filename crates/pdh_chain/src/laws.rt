@@ -7,9 +7,11 @@ ghost use Rattle.pdh_line.specs.Sending.{Mode};
 ghost use Rattle.pdh_line.specs.Sending.Mode.{Plain};
 ghost use Rattle.pdh_line.specs.Nodes.{Counts};
 ghost use Rattle.pdh_nesting.specs.Receiving.{far};
+ghost use Rattle.pdh_edge.specs.Ports.{Inputs};
+ghost use Rattle.pdh_clock.specs.Contents.{Contents, counts as counts_in};
 ghost use Rattle.pdh_chain.specs.Muxes.{obstacle_at, IsNoEvent, IsTolerated, PutsPrefix};
 ghost use Rattle.pdh_chain.specs.Demuxes.{DemuxesPart};
-ghost use Rattle.pdh_chain.specs.Calls.{PutsAtMost};
+ghost use Rattle.pdh_chain.specs.Calls.{IsScheduledWithin, HaveEnough, GoesClear, PutsAtMost};
 
 /// Within the tolerance no bit of a chain's line meets an event of a store, whatever the leaves' lists
 /// hold and however many frames are scheduled.
@@ -17,6 +19,14 @@ pub fn no_event_within_tolerance()
     ensures { (shapes : List FrameShape) (counts : Counts) (bits : ℕ) → IsTolerated shapes counts bits
         → (scheduled : List ℕ → ℕ) (size : ℕ → ℕ) (x : ℕ) → x < bits
         → IsNoEvent (obstacle_at Plain shapes counts scheduled size x) }
+{}
+
+/// Within the tolerance the sender of a chain may make any bits of its line at once: nothing stands in their way, and they bring no
+/// slip. The nodes have the frames that they begin, and each leaf's list has the bits that it gives.
+pub fn line_is_clear_within_tolerance()
+    ensures { (shapes : List FrameShape) (schedule : Contents) (bits : ℕ) → IsScheduledWithin shapes schedule bits
+        → (from to : ℕ) → to ≤ bits → (inputs : Inputs) → HaveEnough shapes (counts_in schedule.rows) from to inputs
+        → GoesClear shapes schedule from to inputs }
 {}
 
 /// A leaf receives no more bits of a line than its share of them.

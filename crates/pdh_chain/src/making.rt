@@ -11,12 +11,12 @@ ghost use Rattle.pdh_chain.specs.Calls.{IsPortFor, IsChainOf, MuxesBy, MuxStopsB
 ghost use Rattle.pdh_chain.specs.Slipping.{TellsSlips};
 
 use crate::multiplexer::ChainTop;
+use crate::opening::open_sender;
 use crate::sending::{SendStop, send_frames};
 use crate::stop::MuxStop;
 use pdh_clock::Schedule;
 use pdh_edge::{Failed, Port};
 use pdh_packed::Packed;
-use pdh_shape::TOP;
 use pdh_slips::SlipLog;
 use pdh_tx::TxStop;
 use std::alloc::Global;
@@ -57,9 +57,7 @@ pub fn mux_with<T: ChainTop, P: Port, G: SlipLog>(
     ensures told { G.takes ≡ true → TellsSlips G.SlipLog log.old log.new T.shapes clock.now frames result }
     ensures untold { result ≡ Err Memory → log.new ≡ log.old }
 {
-    let mut next_leaf = 0;
-    let tables = T::tables(alloc)?;
-    let mut top = T::open(alloc, &tables, TOP, &mut next_leaf)?;
+    let mut top: T = open_sender(alloc)?;
     let len = T::LEN;
     let mut frame = Packed::open(alloc, len as usize)?;
     if let Err(Failed) = port.start() {

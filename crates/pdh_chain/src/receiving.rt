@@ -6,12 +6,13 @@ ghost use Rattle.pdh_chain.specs.declared.stop.DemuxStop.TheVariants.{Memory, Re
 ghost use Rattle.pdh_chain.specs.Faults.{demux_reads, demux_writes};
 ghost use Rattle.pdh_chain.specs.Calls.{AreFew, IsPortFor, DemuxesBy, DemuxStopsBy, IsLeft, IsLinkedTo, ReceivesFirst};
 
+use crate::opening::open_receiver;
 use crate::stop::DemuxStop;
 use crate::trees::ChainRx;
 use pdh_edge::Port;
 use pdh_packed::Packed;
 use pdh_rx::{Rx, RxNode, take_watched};
-use pdh_shape::{Shape, TOP};
+use pdh_shape::Shape;
 use pdh_watch::Watch;
 use std::alloc::Global;
 
@@ -78,9 +79,7 @@ pub fn demux_with<S: Shape, C: ChainRx, P: Port, W: Watch>(
         port.old port.new) }
     ensures unseen { result ≡ Err Memory → watch.new ≡ watch.old }
 {
-    let mut next_leaf = 0;
-    let tables = <RxNode<S, C> as ChainRx>::tables(alloc)?;
-    let mut node = <RxNode<S, C> as ChainRx>::open(alloc, &tables, TOP, &mut next_leaf)?;
+    let mut node: RxNode<S, C> = open_receiver(alloc)?;
     let mut buffer = Packed::open(alloc, BUFFER)?;
     port.start()?;
     receive(&mut node, bits, &mut buffer, port, watch)?;

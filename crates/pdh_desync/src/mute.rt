@@ -48,6 +48,10 @@ impl Rx for Mute {
         Ok(())
     }
 
+    fn frames(&self) -> u64 {
+        0
+    }
+
     fn glide<D: Drain>(
         &mut self,
         bits: &Packed,

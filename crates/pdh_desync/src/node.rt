@@ -1,7 +1,6 @@
 //! The node of far stores: a demultiplexer that gives its tributaries out evenly.
 
 ghost use Rattle.std.specs.Prelude.{◌≡◌, ◌⊎◌, ◌<◌, ◌≤◌, ◌+◌, ◌^◌, List, [], Bool, false, length, IfOk};
-ghost use Rattle.pdh_rx.specs.Node.{frames_counted};
 ghost use Rattle.pdh_rx.specs.laws.NodeLaws.{fewer_than_none};
 ghost use Rattle.pdh_desync.specs.FarStore.{pieces_of, start_fill};
 ghost use Rattle.pdh_desync.specs.Smooth.{smooth_meaning};
@@ -68,14 +67,6 @@ impl<S: Shape> SmoothNode<S> {
         Ok(SmoothNode { events, far })
     }
 
-    /// How many frames it has delivered. At `u64::MAX` the count stands.
-    pub fn frames(&self) -> u64
-        ensures { (line : List Bool) → ⟦<SmoothNode<S> as Rx>⟧.stands self.now line
-            → result ≡ frames_counted S.shape line }
-    {
-        self.far.frames()
-    }
-
     /// How many bits of a tributary are held at the start of the next piece.
     pub fn fill(&self, trib: u8) -> u32
         requires { trib < S.TRIBS }
@@ -110,6 +101,10 @@ impl<S: Shape> Rx for SmoothNode<S> {
     ) -> Result<(), Failed> {
         self.events.push(bit, drain, watch)?;
         self.far.push(bit, drain)
+    }
+
+    fn frames(&self) -> u64 {
+        self.far.frames()
     }
 
     fn glide<D: Drain>(

@@ -56,7 +56,7 @@ module _ (chain : Chain) (frames : ℕ) (clock : Contents) (is : IsClockOf chain
   -- ---- what is never met
 
   -- each node has the frames that it begins
-  all_scheduled : AllScheduled (shapes_of chain) (counts clock.rows) (frame_count clock.rows) [] (frames * top_len (shapes_of chain))
+  pub all_scheduled : AllScheduled (shapes_of chain) (counts clock.rows) (frame_count clock.rows) [] (frames * top_len (shapes_of chain))
   all_scheduled = all_scheduled_of (shapes_of chain) clock frames (subst (AreLevelsOf (shapes_of chain)) (sym is.levels) (are_levels_of chain)) (none_of (shortage clock frames) is.enough)
 
 pub has_frames : (chain : Chain) (frames : ℕ) (clock : Contents) (node : Path) → IsClockOf chain frames clock → StopsForFrame (shapes_of chain) (counts clock.rows) (frame_count clock.rows) frames node → ⊥

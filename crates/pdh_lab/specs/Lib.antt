@@ -1,3 +1,4 @@
 pub mod Drill
 pub mod Pattern
+pub mod Patterns
 pub mod Steps

@@ -17,10 +17,18 @@ differ a b = not (beq a b)
 abbrev pub next_state : ℕ → ℕ
 next_state state = 2 * state % 32768 + bit_value (differ (bit state 14) (bit state 13))
 
+-- the state n steps later
+unfoldable pub state_after : ℕ → ℕ → ℕ
+state_after state zero = state
+state_after state (suc n) = next_state (state_after state n)
+
+-- the next n bits of a register in this state: of each state the most significant bit
+abbrev pub bits_from : ℕ → ℕ → List Bool
+bits_from state n = front (λ i. bit (state_after state i) 14) n
+
 -- the state from which bit n of a leaf's pattern is given
-unfoldable pub pattern_state : ℕ → ℕ → ℕ → ℕ
-pattern_state seed leaf zero = first_state seed leaf
-pattern_state seed leaf (suc n) = next_state (pattern_state seed leaf n)
+abbrev pub pattern_state : ℕ → ℕ → ℕ → ℕ
+pattern_state seed leaf n = state_after (first_state seed leaf) n
 
 -- bit n of the pattern of a leaf, counted from 0: the most significant bit of the state
 abbrev pub pattern_bit : ℕ → ℕ → ℕ → Bool
@@ -36,5 +44,5 @@ HasGiven seed leaf n state = state ≡ pattern_state seed leaf n
 
 -- worked by the checker: the pattern of seed 1 and leaf 0 begins with the bytes 00 82 03 0C
 pub pattern-00_82_03_0C : pattern 1 0 32 ≡ bits_of (0x00 ∷ 0x82 ∷ 0x03 ∷ 0x0C ∷ [])
-unfolding pattern_state
+unfolding state_after
 pattern-00_82_03_0C = refl

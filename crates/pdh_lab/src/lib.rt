@@ -6,11 +6,14 @@ mod drilling;
 mod laws;
 mod leaves;
 mod pattern;
+mod patterns;
 mod receiving;
 mod report;
 mod sending;
 
 pub use drilling::drill;
-pub use laws::drills_are_in_time;
+pub use laws::{drills_are_in_time, made_schedules_are_within_tolerance};
+pub use leaves::clock_of;
 pub use pattern::Pattern;
+pub use patterns::Patterns;
 pub use report::Drill;

@@ -3,7 +3,7 @@
 
 ghost use Rattle.std.specs.Prelude.{◌≡◌, ℕ, suc, ◌+◌, ◌*◌, ◌%◌, ◌<◌, ◌≤◌, ◌++◌, length};
 ghost use Rattle.pdh_bits.specs.Bits.{bit as bit_of, bit_value};
-ghost use Rattle.pdh_lab.specs.Pattern.{HasGiven, pattern_bit, pattern};
+ghost use Rattle.pdh_lab.specs.Pattern.{next_state, state_after, bits_from, HasGiven, pattern_bit, pattern};
 
 use pdh_packed::Word;
 use std::marker::Model;
@@ -59,7 +59,9 @@ impl Pattern {
 
     /// The next bit.
     pub fn next(&mut self) -> bool
-        ensures { (seed leaf n : ℕ) → HasGiven seed leaf n self.old
+        ensures bit { result ≡ bit_of self.old 14 }
+        ensures state { self.new ≡ next_state self.old }
+        ensures given { (seed leaf n : ℕ) → HasGiven seed leaf n self.old
             → (result ≡ pattern_bit seed leaf n) × HasGiven seed leaf (suc n) self.new }
     {
         let given = bit(self.state, 14);
@@ -67,9 +69,12 @@ impl Pattern {
         self.state = shifted(self.state, feedback);
         given
     }
+
     // The next bits, so many.
     pub(crate) fn word(&mut self, count: u32) -> Word
         requires few { count ≤ 64 }
+        ensures next { result ≡ bits_from self.old count }
+        ensures state { self.new ≡ state_after self.old count }
         ensures count { length result ≡ count }
         ensures given { (seed leaf n : ℕ) → HasGiven seed leaf n self.old → HasGiven seed leaf (n + count) self.new }
         ensures bits { (seed leaf n : ℕ) → HasGiven seed leaf n self.old

@@ -15,6 +15,8 @@ pub record Meaning : Type 0 where
   pub got : List Bool → ℕ → List Bool
   -- the events that one more bit brings, after these received bits
   pub notes : List Bool → Bool → List Event
+  -- how many frames of its own were delivered, by these received bits; a leaf has none
+  pub delivered : List Bool → ℕ
 
 -- more received bits only add, and only leaves get bits
 pub record IsSound (m : Meaning) : Type 0 where

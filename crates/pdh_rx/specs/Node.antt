@@ -52,12 +52,17 @@ child_notes [] j line bit = []
 child_notes (m ∷ ms) zero line bit = m.notes line bit
 child_notes (m ∷ ms) (suc j) line bit = child_notes ms j line bit
 
+-- how many frames of a line are delivered, where a count that reaches its type's end stands there
+unfoldable pub frames_counted : FrameShape → List Bool → ℕ
+frames_counted s line = min (frames_delivered s line) (2 ^ 64 - 1)
+
 abbrev pub node_meaning : FrameShape → Path → List Meaning → Meaning
 node_meaning s path ms = record {
   path = Some path;
   leaves = any_leaf ms;
   got = λ line k. got_by ms (received_lines s line) k;
   notes = λ line bit. acts_events (child_notes ms) (received_lines s line) (bit_acts s path line bit);
+  delivered = frames_counted s;
 }
 
 -- each child that is a node stands below the node at this path, by its number from 1
@@ -191,10 +196,6 @@ step_pieces _ ready pieces = pieces
 -- the positions of the gap that a line's pieces end with, less whole frames' lengths
 abbrev pub IsGap : FrameShape → ℕ → List Piece → Type 0
 IsGap s gap pieces = (others : List Piece) (n : ℕ) → pieces ≡ others ++ Gap n ∷ [] → gap ≡ n % s.len
-
--- how many frames of a line are delivered, where a count that reaches its type's end stands there
-unfoldable pub frames_counted : FrameShape → List Bool → ℕ
-frames_counted s line = min (frames_delivered s line) (2 ^ 64 - 1)
 
 -- what a demultiplexer's children and its aligner are, after these received bits
 pub record NodeTracks {C : Type 0} (stands : C → List Bool → Type 0) (meaning : C → Meaning) (s : FrameShape) (children : List C) (held : Held) (gap frames : ℕ) (line : List Bool) : Type 0 where

@@ -2,7 +2,7 @@
 
 ghost use Rattle.std.specs.Prelude.{◌≡◌, ◌<◌, ◌≤◌, ◌+◌, Bool, List, [], length, take, drop, map, IfOk, false};
 ghost use Rattle.pdh_rx.specs.Meaning.{TakesQuietly};
-ghost use Rattle.pdh_rx.specs.Node.{EachStands, IsDisjoint, ArePlaced, node_meaning, NodeStands, gap_after as gap_after_step, frames_after as frames_after_step, frames_counted};
+ghost use Rattle.pdh_rx.specs.Node.{EachStands, IsDisjoint, ArePlaced, node_meaning, NodeStands, gap_after as gap_after_step, frames_after as frames_after_step};
 ghost use Rattle.pdh_rx.specs.laws.NodeLaws.{node_sound, fewer_than_none};
 
 use crate::Rx;
@@ -119,14 +119,6 @@ impl<S: Shape, C: Rx> RxNode<S, C> {
         })
     }
 
-    /// How many frames it has delivered. At `u64::MAX` the count stands.
-    pub fn frames(&self) -> u64
-        ensures { (line : List Bool) → ⟦<RxNode<S, C> as Rx>⟧.stands self.now line
-            → result ≡ frames_counted S.shape line }
-    {
-        self.frames
-    }
-
     // Takes bits from a place on, none or more of those by which it notes nothing and gives its children nothing, and answers
     // how many: positions of a gap that a search passes over, short of a whole frame's length of it, or bits up to the one
     // at which frames end.
@@ -197,6 +189,10 @@ impl<S: Shape, C: Rx> Rx for RxNode<S, C> {
             drain,
             watch,
         )
+    }
+
+    fn frames(&self) -> u64 {
+        self.frames
     }
 
     fn glide<D: Drain>(

@@ -21,8 +21,8 @@ pub trait Rx: Drop {
     /// The state stands for this list of received bits.
     ghost stands: { Self → List Bool → Type 0 };
 
-    /// Its path, its leaves, what each leaf has got by any received bits, and the events that one more
-    /// bit brings. No call changes it.
+    /// Its path, its leaves, what each leaf has got by any received bits, the events that one more bit
+    /// brings, and how many frames are delivered. No call changes it.
     ghost meaning: { Self → Meaning };
 
     /// Room so told suffices to take so many bits at once, whatever they are.
@@ -53,6 +53,10 @@ pub trait Rx: Drop {
         ensures cause { HasCause (D.drain_faults drain.old) (D.drain_faults drain.new) result }
         ensures drained { D.drained drain.old drain.new }
         ensures same { meaning self.new ≡ meaning self.old };
+
+    /// How many frames of its own it has delivered. At `u64::MAX` the count stands; a leaf has none.
+    fn frames(&self) -> u64
+        ensures { (line : List Bool) → stands self.now line → result ≡ (meaning self.now).delivered line };
 
     /// Takes the next bits of the line from a place on, none or more of those that bring no event, puts each bit that leaves
     /// gain by them, and answers how many. It fails only where the drain failed, and isn't used again then.

@@ -49,6 +49,10 @@ impl Rx for Tail {
         drain.put(self.leaf, bit)
     }
 
+    fn frames(&self) -> u64 {
+        0
+    }
+
     fn glide<D: Drain>(
         &mut self,
         bits: &Packed,

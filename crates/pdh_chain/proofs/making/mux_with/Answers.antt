@@ -176,14 +176,9 @@ returns-clause-told g c takes =
     let told = rw c.in-Err-WriteFailed.field-0-is at c.in-Err-WriteFailed.ensures.told in
     tells_same _ _ same told
 
-pub returns-in_err-tables-clause-told : goal.returns-in_err-tables-clause-told
-returns-in_err-tables-clause-told g c takes =
-    let p = err_from_is_err_and c.from_residual.result c.from_residual.ensures.1 in
-    rw (p.1, p.2) (record { all = tt; front = front_first g.G.SlipLog (record { nothing = g.met.G.SlipLog.logged_nothing; joins = g.met.G.SlipLog.logged_join; breaks = g.met.G.SlipLog.broken_join }) c.args.log.now _ Failed (λ is. cc) })
-
 pub returns-in_err-top-clause-told : goal.returns-in_err-top-clause-told
 returns-in_err-top-clause-told g c takes =
-    let p = err_from_is_err_and c.from_residual-in_err-top.result c.from_residual-in_err-top.ensures.1 in
+    let p = err_from_is_err_and c.from_residual.result c.from_residual.ensures.1 in
     rw (p.1, p.2) (record { all = tt; front = front_first g.G.SlipLog (record { nothing = g.met.G.SlipLog.logged_nothing; joins = g.met.G.SlipLog.logged_join; breaks = g.met.G.SlipLog.broken_join }) c.args.log.now _ Failed (λ is. cc) })
 
 pub returns-in_err-frame-clause-told : goal.returns-in_err-frame-clause-told
