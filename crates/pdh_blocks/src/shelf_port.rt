@@ -220,6 +220,3 @@ impl<S: Shelf> Port for ShelfPort<S> {
         Ok(())
     }
 }
-
-#[cfg(test)]
-mod tests;

@@ -2,9 +2,6 @@
 //! It alone joins `run` with the real devices, and it knows no frame and no chain.
 #![tactic(auto)]
 
-#[cfg(test)]
-mod tests;
-
 use bitflags::Flags;
 use pdh_edge::{Shelf, Sink};
 use pdh_folder::{Folder, Out};

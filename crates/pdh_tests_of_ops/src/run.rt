@@ -79,17 +79,17 @@ fn monitors_come_back_and_are_dropped_once(rt: HostRuntime) -> Result<(), Fail> 
     words.push(String::from_str(alloc, "inspect")?)?;
     words.push(String::from_str(alloc, "e12")?)?;
     let ran = run(alloc, &words, shelf, out, &mut monitors);
-    assert_eq!(rt; ran.status, 0);
+    assert!(rt; ran.status == 0);
     let written = ran.out.written();
     let rest = b"\nlost: 1\ninspect e12: frames 11 events 3\n".as_slice();
     assert!(rt; written.starts_with(&text) && written.ends_with(rest));
-    assert_eq!(rt; written.len(), text.len() + rest.len());
-    assert_eq!(rt; monitors.len(), 2);
-    assert_eq!(rt; monitors[0].hits(), 1);
-    assert_eq!(rt; monitors[1].hits(), 1);
-    assert_eq!(rt; Rc::strong_count(&held), 2);
+    assert!(rt; written.len() == text.len() + rest.len());
+    assert!(rt; monitors.len() == 2);
+    assert!(rt; monitors[0].hits() == 1);
+    assert!(rt; monitors[1].hits() == 1);
+    assert!(rt; Rc::strong_count(&held) == 2);
     drop(monitors);
-    assert_eq!(rt; Rc::strong_count(&held), 1);
+    assert!(rt; Rc::strong_count(&held) == 1);
     Ok(())
 }
 
@@ -127,11 +127,11 @@ fn no_frames_over_devices_that_never_fail(rt: HostRuntime) -> Result<(), Fail> {
     let words = words(alloc, "mux", "e12")?;
     let out = MemSink::open(alloc, 100)?;
     let ran = run(alloc, &words, empty_inputs(alloc)?, out, &mut monitors);
-    assert_eq!(rt; ran.status, 0);
+    assert!(rt; ran.status == 0);
     assert!(rt; ran.out.written() == b"mux e12: frames 0\n".as_slice());
-    assert_eq!(rt; (ran.shelf.taken(), ran.shelf.write_faults()), (0, 0));
+    assert!(rt; (ran.shelf.taken(), ran.shelf.write_faults()) == (0, 0));
     let empty = empty_inputs(alloc)?;
     let ran = run_never_failing(alloc, &words, empty, empty_inputs(alloc)?, &mut monitors);
-    assert_eq!(rt; (ran.status, ran.out.taken()), (0, 18));
+    assert!(rt; (ran.status, ran.out.taken()) == (0, 18));
     Ok(())
 }

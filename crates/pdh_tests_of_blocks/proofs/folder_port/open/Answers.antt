@@ -1,9 +1,9 @@
-use Rattle.std.proofs.Common.{◌≡◌, ℕ, zero, suc, ◌+◌, ◌<◌, ◌≤◌, List, [], ◌∷◌, length, Some, slice_get, refl, sym, ap, ◌∙◌, arith}
+use Rattle.std.proofs.Common.{◌≡◌, ℕ, zero, suc, ◌+◌, ◌≤◌, List, [], ◌∷◌, length, Some, slice_get, refl, ap, arith}
 use Rattle.std.specs.Prelude.{min}
 use Rattle.std.proofs.lemmas.Option.{none-some, same_Some}
 use Rattle.pdh_edge.specs.Files.Told.{Untold, Known}
 use Rattle.pdh_blocks.specs.Held.{AllDiffer}
-use Rattle.pdh_blocks.proofs.shelf_port.tests.port_over.Goals as goal
+use Rattle.pdh_tests_of_blocks.proofs.folder_port.open.Goals as goal
 
 -- four names of which no two have one length, and the last is the longest
 module _ (a b c d : List ℕ) (four : length a ≡ 4) (five : length b ≡ 5) (six : length c ≡ 6) (longest : 7 ≤ length d) where
