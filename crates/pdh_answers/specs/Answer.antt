@@ -6,6 +6,7 @@ use Rattle.pdh_clock.specs.declared.fault.ScheduleFault.{ScheduleFault}
 use Rattle.pdh_clock.specs.declared.fault.ScheduleFault.TheVariants.{TooLong as LongText, BadRow as RowIsBad, UnknownNode as NodeIsUnknown, CountOver as CountIsOver, Memory as NoMemory}
 use Rattle.pdh_script.specs.declared.fault.ScriptFault.{ScriptFault}
 use Rattle.pdh_script.specs.declared.fault.ScriptFault.TheVariants.{TooLong as LongScriptText, BadRow as ScriptRowIsBad, PastEnd as EndIsPast, Memory as NoScriptMemory}
+use Rattle.pdh_script.specs.Scripts.{Row}
 use Rattle.pdh_words.specs.Commands.{usage_text}
 use Rattle.pdh_answers.specs.Names.{name_of}
 use Rattle.pdh_answers.specs.declared.answer.Done.{Done}
@@ -31,6 +32,11 @@ stop_of_script (LongScriptText len) = LongScript
 stop_of_script (ScriptRowIsBad line) = BadScriptRow line
 stop_of_script (EndIsPast line) = PastEnd line
 stop_of_script NoScriptMemory = Memory
+
+-- the rows of a script, or how the fault of its text ends the command
+abbrev pub script_or_stop : Result (List Row) ScriptFault → Result (List Row) Stop
+script_or_stop (Ok rows) = Ok rows
+script_or_stop (Err fault) = Err (stop_of_script fault)
 
 -- the next step, unless an earlier one refused
 abbrev pub and_then : {A B : Type 0} → Result A Stop → (A → Result B Stop) → Result B Stop

@@ -1,7 +1,7 @@
 -- The names of the files.
 use Rattle.std.specs.Prelude.{ℕ, ◌+◌, ◌/◌, ◌%◌, List, [], ◌∷◌, ◌++◌, codes}
 use Rattle.pdh_answers.specs.declared.file.File.{File}
-use Rattle.pdh_answers.specs.declared.file.File.TheVariants.{Line, Bent, Schedule, Script, Leaf, Output, Payload, E1Line, Ds1Line, PayloadOut, ScheduleOut}
+use Rattle.pdh_answers.specs.declared.file.File.TheVariants.{Line, Bent, Schedule, Script, Leaf, Output, Payload, E1Line, Ds1Line, PayloadOut, ScheduleOut, West, East}
 use Rattle.pdh_words.specs.declared.commands.Bits.{Bits}
 use Rattle.pdh_words.specs.declared.commands.Bits.TheVariants.{Line as Recorded, Bent as Disturbed}
 
@@ -57,6 +57,14 @@ payload_out_name = codes "payload.out"
 unfoldable pub schedule_out_name : List ℕ
 schedule_out_name = codes "schedule.out"
 
+-- how the line from the west terminal is disturbed
+unfoldable pub west_name : List ℕ
+west_name = codes "west.txt"
+
+-- how the line from the east terminal is disturbed
+unfoldable pub east_name : List ℕ
+east_name = codes "east.txt"
+
 abbrev pub name_of : File → List ℕ
 name_of Line = line_name
 name_of Bent = bent_name
@@ -69,6 +77,8 @@ name_of E1Line = e1_name
 name_of Ds1Line = ds1_name
 name_of PayloadOut = payload_out_name
 name_of ScheduleOut = schedule_out_name
+name_of West = west_name
+name_of East = east_name
 
 -- the file that a line is read from
 abbrev pub line_file : Bits → File

@@ -1,7 +1,7 @@
 //! The files of the commands, and how each is called.
 
 ghost use Rattle.std.specs.Prelude.{◌≡◌, ◌+◌, ◌%◌, ◌≤◌, length};
-ghost use Rattle.pdh_answers.specs.Names.{line_name as name_of_line, bent_name as name_of_bent, script_name as name_of_script, schedule_name as name_of_schedule, payload_name as name_of_payload, e1_name as name_of_e1, ds1_name as name_of_ds1, payload_out_name as name_of_payload_out, schedule_out_name as name_of_schedule_out, numbered_name as name_of_numbered};
+ghost use Rattle.pdh_answers.specs.Names.{line_name as name_of_line, bent_name as name_of_bent, script_name as name_of_script, schedule_name as name_of_schedule, payload_name as name_of_payload, e1_name as name_of_e1, ds1_name as name_of_ds1, payload_out_name as name_of_payload_out, schedule_out_name as name_of_schedule_out, west_name as name_of_west, east_name as name_of_east, numbered_name as name_of_numbered};
 
 use arrayvec::ArrayString;
 use pdh_words::Bits;
@@ -31,6 +31,10 @@ pub enum File {
     PayloadOut,
     /// The schedule that would make a line again.
     ScheduleOut,
+    /// How the line from the west terminal is disturbed.
+    West,
+    /// How the line from the east terminal is disturbed.
+    East,
 }
 
 /// A file's name, of at most 16 bytes.
@@ -158,6 +162,28 @@ fn schedule_out_name() -> Name
     name
 }
 
+// The name of what disturbs the line from the west terminal.
+#[tactic(auto, unfolding(crate::specs::Names::west_name))]
+fn west_name() -> Name
+    ensures value { result.bytes ≡ name_of_west }
+    ensures short { length result.bytes ≡ 8 }
+{
+    let mut name = Name::new();
+    name.push_str("west.txt");
+    name
+}
+
+// The name of what disturbs the line from the east terminal.
+#[tactic(auto, unfolding(crate::specs::Names::east_name))]
+fn east_name() -> Name
+    ensures value { result.bytes ≡ name_of_east }
+    ensures short { length result.bytes ≡ 8 }
+{
+    let mut name = Name::new();
+    name.push_str("east.txt");
+    name
+}
+
 impl File {
     ghost use Rattle.std.specs.Prelude.{◌≡◌};
     ghost use Rattle.pdh_answers.specs.Names.{name_of, line_file};
@@ -189,6 +215,8 @@ impl File {
             File::Ds1Line => ds1_name(),
             File::PayloadOut => payload_out_name(),
             File::ScheduleOut => schedule_out_name(),
+            File::West => west_name(),
+            File::East => east_name(),
         }
     }
 }

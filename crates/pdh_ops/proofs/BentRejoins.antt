@@ -13,10 +13,11 @@ use Rattle.pdh_script.specs.Scripts.Change.{Flip, Ones, Zeros, Drop, Add}
 use Rattle.pdh_row_text.specs.Text.{lines_of}
 use Rattle.pdh_script.specs.ScriptText.{most_script_bytes, script_of, rows_judged}
 use Rattle.pdh_script.proofs.Growing.{judged_fits}
+use Rattle.pdh_answers.specs.Answer.{script_or_stop}
 use Rattle.pdh_answers.specs.Names.{line_name, script_name}
 use Rattle.pdh_recovery.specs.Recovering.{RejoinsList}
 use Rattle.pdh_runner.specs.Operation.{Files, bytes_in}
-use Rattle.pdh_recorded.specs.Disturb.{script_or_stop, script_rows, script_in, bent_bits, bent_bytes}
+use Rattle.pdh_recorded.specs.Disturb.{script_rows, script_in, bent_bits, bent_bytes}
 use Rattle.pdh_ops.specs.Rejoined.{bits_made, made_from, end_from}
 
 -- the first bits of what rejoins a list rejoin it too

@@ -18,7 +18,7 @@ use Rattle.pdh_making.specs.Mux.{slips_in, slips_where}
 use Rattle.pdh_runner.specs.Performing.{HasCause, IsCounted}
 use Rattle.pdh_ops.specs.Run.{Runs, ToldBy, IsToldBehind, IsToldWhole, Completes}
 use Rattle.pdh_words.specs.declared.commands.Command.{Command}
-use Rattle.pdh_words.specs.declared.commands.Command.TheVariants.{Demux, Mux, MuxSlip, ClockCheck, ClockMake, Inspect, InspectE1, Show, E1Pack, E1Unpack, Ds1Pack, Ds1Unpack, Disturb, Drill, Smooth}
+use Rattle.pdh_words.specs.declared.commands.Command.TheVariants.{Demux, Mux, MuxSlip, ClockCheck, ClockMake, Inspect, InspectE1, Show, E1Pack, E1Unpack, Ds1Pack, Ds1Unpack, Disturb, Drill, Smooth, Duplex}
 use Rattle.pdh_answers.specs.declared.answer.Stop.{Stop}
 use Rattle.pdh_answers.specs.declared.answer.Stop.TheVariants.{Memory, Usage, Read, Write, Unheard}
 
@@ -101,6 +101,7 @@ none_told (Ds1Unpack form) = tt
 none_told (Disturb chain) = tt
 none_told (Drill chain seed frames) = tt
 none_told (Smooth chain) = tt
+none_told (Duplex chain seed frames) = tt
 
 -- and the run tells it
 pub completes : (command : Option Command) (a b : ShelfState) (k l : SinkState) (v w : List State) (status : ℕ) → Runs command a b k l v w status → Completes command a b k l w status

@@ -1,4 +1,4 @@
-//! The one place that tells the commands apart: each is a call of `pdh_making`, `pdh_recorded` or `pdh_streams`.
+//! The one place that tells the commands apart: each is a call of `pdh_making`, `pdh_recorded`, `pdh_linking` or `pdh_streams`.
 
 ghost use Rattle.std.specs.Prelude.{◌≡◌, map};
 ghost use Rattle.std.specs.String.{string_bytes};
@@ -8,6 +8,7 @@ ghost use Rattle.pdh_ops.specs.Run.{Does, Watches, Hears};
 
 use pdh_answers::{SinkLog, Stop};
 use pdh_edge::{Shelf, Sink};
+use pdh_linking::duplex;
 use pdh_making::{clock, drill, mux, muxslip};
 use pdh_recorded::{demux, disturb, inspect, inspect_e1, show, smooth};
 use pdh_runner::Ended;
@@ -68,5 +69,13 @@ pub fn answer<S: Shelf, K: Sink>(
             seed,
             frames,
         } => Ended::new(shelf, drill(alloc, chain, seed, frames)),
+        Command::Duplex {
+            chain,
+            seed,
+            frames,
+        } => {
+            let answer = duplex(alloc, chain, seed, frames, &mut shelf, monitors);
+            Ended::new(shelf, answer)
+        }
     }
 }

@@ -27,8 +27,8 @@ pub struct Ran<S, K> {
 
 /// Does all that the program does with its words (without its own name), over a shelf of files and
 /// a sink for its text, and hands both back on every path. `inspect` shows the events of its line to
-/// the monitors, and writes what each of them says; other commands leave them. `muxslip` writes a line
-/// of each slip when it comes, before its text.
+/// the monitors, and `duplex` those of the west terminal, and both write what each of them says; other
+/// commands leave them. `muxslip` writes a line of each slip when it comes, before its text.
 ///
 /// The clauses `runs`, `gives_back`, `no_event` and `delay` carry the headline: Where every tributary of
 /// every multiplexer brings, over every run of k frames, between K·k-18 and (K+1)·k+18 bits, `mux` writes
@@ -42,8 +42,8 @@ pub struct Ran<S, K> {
 /// isn't held; 6, the schedule's text has a fault; 7, the schedule has too few frames of a node below
 /// the top, a leaf's file too few bits, or the line no such frame to show; 8, in `mux` an elastic store
 /// overflows or underflows, and the line ends before the frame in whose making that happens; 9, the
-/// script's text has a fault; 10, the line, or the schedule or drill that is asked for, has too many
-/// frames; 11, no frame of the line, or in `e1unpack` no multiframe, was delivered, and the outputs hold
+/// script's text has a fault; 10, the line, or the schedule, drill or session that is asked for, has too
+/// many frames; 11, no frame of the line, or in `e1unpack` no multiframe, was delivered, and the outputs hold
 /// what the search gives; 12, the payload doesn't fill whole multiframes.
 pub fn run<S: Shelf, K: Sink>(
     alloc: Global,

@@ -9,9 +9,9 @@ use Rattle.pdh_script.specs.declared.fault.ScriptFault.TheVariants.{TooLong, Bad
 use Rattle.pdh_script.specs.Scripts.{Row}
 use Rattle.pdh_script.specs.ScriptText.{most_script_bytes, script_of, Fails}
 use Rattle.pdh_answers.specs.Names.{line_name, script_name}
-use Rattle.pdh_answers.specs.Answer.{Answer, and_then, stop_of_script}
+use Rattle.pdh_answers.specs.Answer.{Answer, and_then, script_or_stop, stop_of_script}
 use Rattle.pdh_runner.specs.Lines.{line_of, frames_of}
-use Rattle.pdh_recorded.specs.Disturb.{disturb_inputs, script_or_stop, script_rows, bent, disturbing}
+use Rattle.pdh_recorded.specs.Disturb.{disturb_inputs, script_rows, bent, disturbing}
 use Rattle.pdh_recorded.specs.DisturbSteps.{HasSizes, ScriptIs}
 use Rattle.pdh_runner.specs.Reading.{HasLength, IsSizeStop, IsReadStop}
 use Rattle.pdh_runner.specs.Operation.{AreTold, OfInputs, AreHeld, IsReadDue, all_held, Files, bytes_in}

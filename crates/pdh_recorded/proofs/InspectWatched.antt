@@ -1,5 +1,5 @@
 -- What an inspection comes to.
-use Rattle.std.proofs.Common.{◌≡◌, ℕ, List, [], ◌∷◌, Bool, Ok, refl, ap, ◌∙◌}
+use Rattle.std.proofs.Common.{◌≡◌, ℕ, List, [], ◌∷◌, Bool, Ok, refl, ap, subst, ◌∙◌}
 use Rattle.std.proofs.lemmas.Option.{same_Some}
 use Rattle.pdh_bits.specs.Bits.{bits_of}
 use Rattle.pdh_edge.specs.Files.{ShelfState}
@@ -18,7 +18,7 @@ use Rattle.pdh_streams.specs.E1.{e1_codec}
 use Rattle.pdh_streams.specs.Steps.{IsFramedLine}
 use Rattle.pdh_recorded.specs.Inspect.{inspected, e1_inspected, inspecting_e1, inspect_says, inspect_e1_says}
 use Rattle.pdh_runner.specs.LineSteps.{CanRead, IsLinePort}
-use Rattle.pdh_runner.specs.Operation.{View}
+use Rattle.pdh_runner.specs.Operation.{IsOfFile}
 use Rattle.pdh_runner.specs.Running.{ArePrepared}
 use Rattle.pdh_answers.specs.declared.file.File.{File}
 use Rattle.pdh_answers.specs.declared.file.File.TheVariants.{E1Line}
@@ -43,7 +43,7 @@ framed_reads line b is = record {
   begins = framed_begins;
   in_run = refl;
   no_outputs = refl;
-  shows = λ view e. ap (λ (view : View). view.file) (same_Some _ view e);
+  shows = λ view e. subst (IsOfFile E1Line) (same_Some _ view e) refl;
   file_is = is.file_is;
   bytes = is.octets;
   bits_are = is.bits_are;

@@ -15,6 +15,7 @@ use Rattle.pdh_answers.specs.declared.answer.Stop.TheVariants.{Read, Missing, Ma
 use Rattle.pdh_runner.specs.Lines.{frames_of, line_of}
 use Rattle.pdh_runner.specs.LineSteps.{ReadsLine, CanRead, IsLinePort}
 use Rattle.pdh_runner.specs.Operation.{Operation, View}
+use Rattle.pdh_runner.specs.Operation.View.{EventsOfFile, EventsOfAll}
 use Rattle.pdh_runner.specs.Reading.{HasLength}
 use Rattle.pdh_runner.specs.Performing.{WatchedBy}
 use Rattle.pdh_runner.specs.Running.{ArePrepared}
@@ -54,7 +55,8 @@ module _ (operation : Operation) (file : File) (chain : Chain) (next : List ℕ 
 -- where the line was refused, the monitors saw nothing
 pub refused_unseen : (view : Option View) (operation : Operation) (file : File) (chain : Chain) (a b : ShelfState) (stop : Stop) (states : List State) → IsLineCause file chain a b stop → WatchedBy view operation a b (Err stop) states states
 refused_unseen None operation file chain a b stop states cause = refl
-refused_unseen (Some view) operation file chain a b (Read failed) states cause = inl (subst (λ f. FailsToRead SizeCall (name_of f) a b) (sym cause.0) cause.1, refl)
-refused_unseen (Some view) operation file chain a b (Missing missed) states cause = refl
-refused_unseen (Some view) operation file chain a b (ManyFrames n) states cause = refl
-refused_unseen (Some view) operation file chain a b stop states cause = absurd cause
+refused_unseen (Some (EventsOfAll events_of)) operation file chain a b stop states cause = refl
+refused_unseen (Some (EventsOfFile shown events_of)) operation file chain a b (Read failed) states cause = inl (subst (λ f. FailsToRead SizeCall (name_of f) a b) (sym cause.0) cause.1, refl)
+refused_unseen (Some (EventsOfFile shown events_of)) operation file chain a b (Missing missed) states cause = refl
+refused_unseen (Some (EventsOfFile shown events_of)) operation file chain a b (ManyFrames n) states cause = refl
+refused_unseen (Some (EventsOfFile shown events_of)) operation file chain a b stop states cause = absurd cause

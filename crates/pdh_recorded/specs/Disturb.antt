@@ -1,13 +1,12 @@
 -- What `disturb` comes to, and what its output holds.
-use Rattle.std.specs.Prelude.{ℕ, zero, suc, ◌*◌, List, [], ◌∷◌, Bool, true, false, ◌&&◌, nat_le, is_ok, length, None, Result, Ok, Err, ◌++◌, codes, decimal}
+use Rattle.std.specs.Prelude.{ℕ, zero, suc, ◌*◌, List, [], ◌∷◌, Bool, true, false, ◌&&◌, nat_le, is_ok, length, None, Result, Ok, ◌++◌, codes, decimal}
 use Rattle.std.specs.Result.{result_unwrap_or}
 use Rattle.pdh_bits.specs.Bits.{bits_of, bytes_of}
 use Rattle.pdh_chain.specs.declared.chain.Chain.{Chain}
-use Rattle.pdh_script.specs.declared.fault.ScriptFault.{ScriptFault}
 use Rattle.pdh_script.specs.Scripts.{Row, disturbed}
 use Rattle.pdh_script.specs.ScriptText.{script_of, most_script_bytes}
 use Rattle.pdh_answers.specs.Names.{line_name, script_name, bent_name}
-use Rattle.pdh_answers.specs.Answer.{Answer, stop_of_script, and_then}
+use Rattle.pdh_answers.specs.Answer.{Answer, script_or_stop, and_then}
 use Rattle.pdh_answers.specs.declared.file.File.{File}
 use Rattle.pdh_answers.specs.declared.file.File.TheVariants.{Line, Script}
 use Rattle.pdh_answers.specs.declared.answer.Stop.{Stop}
@@ -21,10 +20,6 @@ use Rattle.pdh_chain.specs.Chains.{name_of as name_of_chain}
 -- the files that it reads, in order
 abbrev pub disturb_inputs : List File
 disturb_inputs = Line ∷ Script ∷ []
-
-abbrev pub script_or_stop : Result (List Row) ScriptFault → Result (List Row) Stop
-script_or_stop (Ok rows) = Ok rows
-script_or_stop (Err fault) = Err (stop_of_script fault)
 
 -- the rows of a script's text for a line of so many bytes, or why it is refused
 unfoldable pub script_rows : ℕ → List ℕ → Result (List Row) Stop

@@ -17,6 +17,7 @@ use Rattle.pdh_g706.specs.Events.{e1_events}
 use Rattle.pdh_words.specs.declared.commands.Bits.{Bits}
 use Rattle.pdh_streams.specs.Codecs.{framed_of}
 use Rattle.pdh_streams.specs.E1.{e1_codec}
+use Rattle.pdh_runner.specs.Operation.View.{EventsOfFile}
 use Rattle.pdh_runner.specs.Operation.{Operation, no_names, one_name, no_bytes, all_in_run, due_at_outputs, Files}
 use Rattle.pdh_answers.specs.declared.answer.Done.TheVariants.{Watched, Frame}
 use Rattle.pdh_answers.specs.declared.answer.Done.{Done}
@@ -51,7 +52,7 @@ inspecting chain bits = record {
   comes_to = inspect_comes chain bits;
   reads_in_run = all_in_run;
   is_due = due_at_outputs (inspect_comes chain bits);
-  shows = Some (record { file = line_file bits; events_of = line_bits_events chain });
+  shows = Some (EventsOfFile (line_file bits) (line_bits_events chain));
   tells = None;
 }
 
@@ -67,7 +68,7 @@ inspecting_e1 = record {
   comes_to = inspect_e1_comes;
   reads_in_run = all_in_run;
   is_due = due_at_outputs inspect_e1_comes;
-  shows = Some (record { file = E1Line; events_of = e1_events });
+  shows = Some (EventsOfFile E1Line e1_events);
   tells = None;
 }
 

@@ -18,6 +18,7 @@ use Rattle.pdh_answers.specs.declared.file.File.{File}
 use Rattle.pdh_answers.specs.declared.answer.Stop.{Stop}
 use Rattle.pdh_answers.specs.declared.answer.Stop.TheVariants.{Memory, Read, Overflow, Underflow, NoAlignment, Unheard}
 use Rattle.pdh_runner.specs.Operation.{Operation, View, IsOutput, reaches_outputs}
+use Rattle.pdh_runner.specs.Operation.View.{EventsOfFile, EventsOfAll}
 use Rattle.pdh_runner.specs.Performing.{Comes, AreWhole, AreBegun, ChangesOnly, Performs, WatchedBy, IsWatched}
 use Rattle.pdh_runner.specs.PortFiles.{HasFiles, IsOpenFor, IsStopOf, PutsFront}
 use Rattle.pdh_runner.specs.Running.{IsAlone, IsGiven, AreStarted, IsDone, IsUnstarted, StopsReading, StopsWriting, StopsTelling, IsSeen}
@@ -85,17 +86,18 @@ module _ {operation : Operation} {a : ShelfState} {reads : List Input} {p q : Po
   failed_seen : (writes : List File) (view : Option View) (before after : List State) (stop : Stop) → IsAlone view operation reads → IsPort q → HasFiles reads writes q → IsStopOf reads writes q stop → StopsReading operation a p q ⊎ StopsWriting operation a p q
       → IsSeen view operation a q Failed before after → WatchedBy view operation a q.shelf (Err stop) before after
   failed_seen writes None before after stop alone port files is stops seen = seen
-  failed_seen writes (Some view) before after stop alone port files is (inl stops) seen =
+  failed_seen writes (Some (EventsOfAll events_of)) before after stop alone port files is stops seen = seen
+  failed_seen writes (Some (EventsOfFile shown events_of)) before after stop alone port files is (inl stops) seen =
       let found = read_failed operation a p q given.open_for port kept reads writes stop files is (stops.failed ∙ one_fault p.feed_faults given.open_for.unread) (stops.unwritten ∙ given.open_for.unwritten) in
-      let same : found.1.file ≡ view.file = alone.1 found.0 found.1 found.2 in
-      subst (λ stop. WatchedBy (Some view) operation a q.shelf (Err stop) before after) (sym found.3) (inr (record {
+      let same : found.1.file ≡ shown = alone.1 found.0 found.1 found.2 in
+      subst (λ stop. WatchedBy (Some (EventsOfFile shown events_of)) operation a q.shelf (Err stop) before after) (sym found.3) (inr (record {
         bits = seen.bits;
         range = seen.range;
         block = seen.block;
         fails = record { fails = found.4; asked = subst (λ file. TellsFailed (q.shelf.tells_name (name_of file)) seen.range q.shelf.failed_range) (sym same) seen.asked };
         seen = seen.seen;
       }))
-  failed_seen writes (Some view) before after stop alone port files is (inr stops) seen =
+  failed_seen writes (Some (EventsOfFile shown events_of)) before after stop alone port files is (inr stops) seen =
       let found = write_failed operation a p q given.open_for port kept reads writes stop files is (stops.unread ∙ given.open_for.unread) (stops.failed ∙ one_fault p.drain_faults given.open_for.unwritten) in
       absurd (omega (arith, found.5, alone.0))
 
@@ -137,9 +139,12 @@ module _ {operation : Operation} {a : ShelfState} {reads : List Input} {p q : Po
 
       append_seen : (view : Option View) (before after : List State) → IsAlone view operation reads → IsSeen view operation a q (Whole answer) before after → WatchedBy view operation a r.shelf (Err stop) before after
       append_seen None before after alone seen = seen
-      append_seen (Some view) before after alone seen =
+      append_seen (Some (EventsOfFile shown events_of)) before after alone seen =
           let found = write_failed operation a p r given.open_for port keeps reads writes stop files is none_read one_written in
           absurd (omega (arith, found.5, alone.0))
+      append_seen (Some (EventsOfAll events_of)) before after alone seen =
+          let found = write_failed operation a p r given.open_for port keeps reads writes stop files is none_read one_written in
+          absurd (omega (arith, found.5, alone))
 
       pub append_watched : (before after : List State) → IsSeen operation.shows operation a q (Whole answer) before after → IsWatched operation a r.shelf (Err stop) before after
       append_watched before after seen = append_seen operation.shows before after given.alone seen
@@ -162,9 +167,11 @@ module _ {operation : Operation} {a : ShelfState} {p q : PortState} (open_for : 
 -- of work that was done
 whole_seen : (view : Option View) (operation : Operation) (a b : ShelfState) (q : PortState) (answer : Answer) (before after : List State) → reaches_outputs answer ≡ true → IsSeen view operation a q (Whole answer) before after → WatchedBy view operation a b answer before after
 whole_seen None operation a b q answer before after behind seen = seen
-whole_seen (Some view) operation a b q (Ok done) before after behind seen = seen
-whole_seen (Some view) operation a b q (Err (Read file)) before after behind seen = absurd (let wrong : false ≡ true = behind in cc)
-whole_seen (Some view) operation a b q (Err stop) before after behind seen = seen
+whole_seen (Some (EventsOfFile shown events_of)) operation a b q (Ok done) before after behind seen = seen
+whole_seen (Some (EventsOfFile shown events_of)) operation a b q (Err (Read file)) before after behind seen = absurd (let wrong : false ≡ true = behind in cc)
+whole_seen (Some (EventsOfFile shown events_of)) operation a b q (Err stop) before after behind seen = seen
+whole_seen (Some (EventsOfAll events_of)) operation a b q (Ok done) before after behind seen = seen
+whole_seen (Some (EventsOfAll events_of)) operation a b q (Err stop) before after behind seen = seen
 
 pub whole_watched : (operation : Operation) (a b : ShelfState) (q : PortState) (answer : Answer) (before after : List State) → reaches_outputs answer ≡ true → IsSeen operation.shows operation a q (Whole answer) before after → IsWatched operation a b answer before after
 whole_watched operation a b q answer before after behind seen = whole_seen operation.shows operation a b q answer before after behind seen
@@ -172,7 +179,8 @@ whole_watched operation a b q answer before after behind seen = whole_seen opera
 -- none where memory was wanting
 memory_seen : (view : Option View) (operation : Operation) (a b : ShelfState) (q : PortState) (before after : List State) → IsSeen view operation a q NoMemory before after → WatchedBy view operation a b (Err Memory) before after
 memory_seen None operation a b q before after seen = seen
-memory_seen (Some view) operation a b q before after seen = seen
+memory_seen (Some (EventsOfFile shown events_of)) operation a b q before after seen = seen
+memory_seen (Some (EventsOfAll events_of)) operation a b q before after seen = seen
 
 pub memory_watched : (operation : Operation) (a b : ShelfState) (q : PortState) (before after : List State) → IsSeen operation.shows operation a q NoMemory before after → IsWatched operation a b (Err Memory) before after
 memory_watched operation a b q before after seen = memory_seen operation.shows operation a b q before after seen
@@ -180,7 +188,8 @@ memory_watched operation a b q before after seen = memory_seen operation.shows o
 -- or the log failed
 unheard_seen : (view : Option View) (operation : Operation) (a b : ShelfState) (q : PortState) (before after : List State) → IsSeen view operation a q LogFailed before after → WatchedBy view operation a b (Err Unheard) before after
 unheard_seen None operation a b q before after seen = seen
-unheard_seen (Some view) operation a b q before after seen = seen
+unheard_seen (Some (EventsOfFile shown events_of)) operation a b q before after seen = seen
+unheard_seen (Some (EventsOfAll events_of)) operation a b q before after seen = seen
 
 pub unheard_watched : (operation : Operation) (a b : ShelfState) (q : PortState) (before after : List State) → IsSeen operation.shows operation a q LogFailed before after → IsWatched operation a b (Err Unheard) before after
 unheard_watched operation a b q before after seen = unheard_seen operation.shows operation a b q before after seen
@@ -188,7 +197,8 @@ unheard_watched operation a b q before after seen = unheard_seen operation.shows
 -- and a command that never had a port shows nothing
 same_seen : (view : Option View) (operation : Operation) (a b : ShelfState) (before after : List State) → after ≡ before → WatchedBy view operation a b (Err Memory) before after
 same_seen None operation a b before after same = same
-same_seen (Some view) operation a b before after same = same
+same_seen (Some (EventsOfFile shown events_of)) operation a b before after same = same
+same_seen (Some (EventsOfAll events_of)) operation a b before after same = same
 
 pub unopened_watched : (operation : Operation) (a b : ShelfState) (before after : List State) → after ≡ before → IsWatched operation a b (Err Memory) before after
 unopened_watched operation a b before after same = same_seen operation.shows operation a b before after same

@@ -22,7 +22,8 @@ use Rattle.pdh_watch.specs.Monitors.{State, SawEach}
 use Rattle.pdh_answers.specs.Names.{name_of}
 use Rattle.pdh_answers.specs.Answer.{Answer}
 use Rattle.pdh_runner.specs.Reading.{HasLength}
-use Rattle.pdh_runner.specs.Operation.{Operation, View, bytes_in, Files, AreTold, OfInputs, reaches_outputs, IsReadDue}
+use Rattle.pdh_runner.specs.Operation.{Operation, View, bytes_in, Files, AreTold, OfInputs, reaches_outputs, IsReadDue, IsOfFile}
+use Rattle.pdh_runner.specs.Operation.View.{EventsOfFile, EventsOfAll}
 use Rattle.pdh_runner.specs.Performing.{GoesOn, SeeEvents}
 use Rattle.pdh_runner.specs.PortFiles.{HasBits, AreFiles, AreRead, unread_file, opened_for, input_name}
 use Rattle.pdh_runner.specs.Running.{IsAlone, ArePrepared, SeesBefore}
@@ -40,7 +41,7 @@ pub record ReadsWhole (operation : Operation) (file : File) (judge : Judge) (nex
   pub begins : BeginsWith operation file judge next
   pub in_run : operation.reads_in_run file ≡ true
   pub no_outputs : operation.outputs.count ≡ 0
-  pub shows : (view : View) → operation.shows ≡ Some view → file ≡ view.file
+  pub shows : (view : View) → operation.shows ≡ Some view → IsOfFile file view
   pub file_is : line.file ≡ file
   pub bytes : ℕ
   pub bits_are : line.bits ≡ 8 * bytes
@@ -120,7 +121,8 @@ module _ (operation : Operation) (file : File) (judge : Judge) (next : List ℕ 
 
     alone : (view : Option View) → operation.shows ≡ view → IsAlone view operation reads
     alone None shows = tt
-    alone (Some view) shows = (is.no_outputs, λ k input here. is_file k input here ∙ is.shows view shows)
+    alone (Some (EventsOfFile shown events_of)) shows = (is.no_outputs, λ k input here. is_file k input here ∙ is.shows (EventsOfFile shown events_of) shows)
+    alone (Some (EventsOfAll events_of)) shows = is.no_outputs
 
     pub line_prepared : ArePrepared operation (CanRead line.bits) (IsLinePort operation file next line) b reads writes
     line_prepared = record {
@@ -168,7 +170,7 @@ module _ {operation : Operation} {file : File} {next : List ℕ → Answer} {lin
 
     -- the monitors saw what came before the block of which the call failed
     pub first_seen : (events_of : List Bool → List Event) (before after : List State) (given : List Bool) → Takes (as_line given) (inputs_of p) (inputs_of q) → SawEach before (events_of given) after → IsUnread q 0
-        → SeesBefore (record { file = file; events_of = events_of }) operation a q before after
+        → SeesBefore file events_of operation a q before after
     first_seen events_of before after given takes saw unread =
         let named : the_leaf.0.name ≡ name_of file = ap (λ (origin : Origin). origin.name) the_leaf.2 ∙ ap name_of is.file_is in
         record {

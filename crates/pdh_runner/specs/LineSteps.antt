@@ -11,7 +11,7 @@ use Rattle.pdh_answers.specs.declared.answer.Stop.TheVariants.{Missing}
 use Rattle.pdh_answers.specs.declared.file.File.{File}
 use Rattle.pdh_chain.specs.declared.chain.Chain.{Chain}
 use Rattle.pdh_runner.specs.Lines.{line_of}
-use Rattle.pdh_runner.specs.Operation.{Operation, View, Files, bytes_in, OfInputs, reaches_outputs, IsReadDue}
+use Rattle.pdh_runner.specs.Operation.{Operation, View, Files, bytes_in, OfInputs, reaches_outputs, IsReadDue, IsOfFile}
 use Rattle.pdh_runner.specs.PortFiles.{IsOpenFor, unread_file}
 use Rattle.pdh_runner.specs.Lines.{HasLine}
 use Rattle.pdh_runner.specs.declared.port.Input.{Input}
@@ -37,7 +37,7 @@ pub record ReadsLine (operation : Operation) (file : File) (chain : Chain) (next
   pub begins : BeginsWith operation file (line_of file chain) next
   pub in_run : operation.reads_in_run file ≡ true
   pub no_outputs : operation.outputs.count ≡ 0
-  pub shows : (view : View) → operation.shows ≡ Some view → file ≡ view.file
+  pub shows : (view : View) → operation.shows ≡ Some view → IsOfFile file view
   pub tells : operation.tells ≡ None
 
 -- ---- its port

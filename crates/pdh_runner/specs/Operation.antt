@@ -26,10 +26,11 @@ pub record Names : Type 0 where
   pub count : ℕ
   pub name : ℕ → List ℕ
 
--- what monitors see of a file: events, by its bits
-pub record View : Type 0 where
-  pub file : File
-  pub events_of : List Bool → List Event
+-- what monitors see: the events of a file, by its bits, as they are read; or events that all inputs give together, once the work
+-- is done
+pub data View : Type 0 where
+  EventsOfFile : File → (List Bool → List Event) → View
+  EventsOfAll : (Files → List Event) → View
 
 pub record Operation : Type 0 where
   -- what it reads
@@ -86,6 +87,11 @@ abbrev pub all_held : List File → Files → Result (Unit {0}) Stop
 all_held inputs files = option_map_or (λ file. Err (Missing file)) (find (λ file. is_none (files (name_of file))) inputs) (Ok tt)
 
 -- ---- what holds of an operation
+
+-- what monitors see are events of this file
+abbrev pub IsOfFile : File → View → Type 0
+IsOfFile file (EventsOfFile shown events_of) = file ≡ shown
+IsOfFile file (EventsOfAll events_of) = ⊥
 
 -- its inputs are told, as these files
 abbrev pub AreTold : Operation → (List ℕ → Told) → Files → Type 0

@@ -8,6 +8,7 @@ use Rattle.pdh_watch.specs.declared.event.Event.{Event}
 use Rattle.pdh_watch.specs.Monitors.{State, SawEach}
 use Rattle.pdh_answers.specs.Names.{name_of}
 use Rattle.pdh_answers.specs.Answer.{Answer}
+use Rattle.pdh_runner.specs.Operation.View.{EventsOfFile, EventsOfAll}
 use Rattle.pdh_runner.specs.Operation.{Operation, View, OfInputs, IsOutput, reaches_outputs, AreHeld, IsReadDue, Files, bytes_in}
 use Rattle.pdh_answers.specs.declared.file.File.{File}
 use Rattle.pdh_answers.specs.declared.answer.Stop.{Stop}
@@ -172,10 +173,12 @@ SeeUnread operation file old new events_of before after =
     (FailsToRead SizeCall (name_of file) old new × (after ≡ before)) ⊎ SeeBlocksBefore operation file old new events_of before after
 
 -- A command that shows the events of a file and did its work showed the monitors them all, and one of which a call for a block of the
--- file failed those of the bits before the block; every other run leaves them as they were.
+-- file failed those of the bits before the block. One that shows events which all inputs give together showed them all when its
+-- work was done. Every other run leaves the monitors as they were.
 abbrev pub WatchedBy : Option View → Operation → ShelfState → ShelfState → Answer → List State → List State → Type 0
-WatchedBy (Some view) operation old new (Ok done) before after = SeeEvents operation old (λ files. view.events_of (bits_of (bytes_in files (name_of view.file)))) before after
-WatchedBy (Some view) operation old new (Err (Read file)) before after = SeeUnread operation file old new (λ n files. view.events_of (take n (bits_of (bytes_in files (name_of view.file))))) before after
+WatchedBy (Some (EventsOfFile shown events_of)) operation old new (Ok done) before after = SeeEvents operation old (λ files. events_of (bits_of (bytes_in files (name_of shown)))) before after
+WatchedBy (Some (EventsOfFile shown events_of)) operation old new (Err (Read file)) before after = SeeUnread operation file old new (λ n files. events_of (take n (bits_of (bytes_in files (name_of shown))))) before after
+WatchedBy (Some (EventsOfAll events_of)) operation old new (Ok done) before after = SeeEvents operation old events_of before after
 WatchedBy view operation old new answer before after = after ≡ before
 
 abbrev pub IsWatched : Operation → ShelfState → ShelfState → Answer → List State → List State → Type 0

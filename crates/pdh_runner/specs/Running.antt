@@ -1,5 +1,5 @@
 -- A command over a port: what its work is given, how it comes out, and what the monitors see of it.
-use Rattle.std.specs.Prelude.{◌≡◌, ◌≢◌, ◌⊎◌, ℕ, ◌+◌, List, take, true, ⊤, Option, Some, None, Ok, slice_get}
+use Rattle.std.specs.Prelude.{◌≡◌, ◌≢◌, ◌⊎◌, ℕ, ◌+◌, Bool, List, take, true, ⊤, Option, Some, None, Ok, slice_get}
 use Rattle.pdh_bits.specs.Bits.{bits_of}
 use Rattle.pdh_edge.specs.Counts.{one_more}
 use Rattle.pdh_edge.specs.Files.{ShelfState, Range, TellsFailed}
@@ -7,11 +7,13 @@ use Rattle.pdh_blocks.specs.Leaves.{IsNextBlock}
 use Rattle.pdh_blocks.specs.State.{PortState}
 use Rattle.pdh_blocks.specs.Lists.{outputs_of}
 use Rattle.pdh_blocks.specs.Kept.{IsReady, IsRefused}
+use Rattle.pdh_watch.specs.declared.event.Event.{Event}
 use Rattle.pdh_watch.specs.Monitors.{State}
 use Rattle.pdh_answers.specs.Names.{name_of}
 use Rattle.pdh_answers.specs.Answer.{Answer}
 use Rattle.pdh_answers.specs.declared.file.File.{File}
 use Rattle.pdh_runner.specs.Operation.{Operation, View, bytes_in, reaches_outputs}
+use Rattle.pdh_runner.specs.Operation.View.{EventsOfFile, EventsOfAll}
 use Rattle.pdh_runner.specs.Performing.{Comes, OfBeginning, SeeEvents}
 use Rattle.pdh_runner.specs.PortFiles.{AreFiles, AreRead, IsOpenFor, PutsAll, PutsFront, opened_for}
 use Rattle.pdh_runner.specs.declared.port.Input.{Input}
@@ -20,10 +22,11 @@ use Rattle.pdh_runner.specs.declared.running.Outcome.TheVariants.{Whole, Memory,
 
 -- ---- what the work is given
 
--- a command that shows the events of a file reads no other, and writes nothing
+-- a command that shows events writes nothing, and one that shows those of a file reads no other
 abbrev pub IsAlone : Option View → Operation → List Input → Type 0
 IsAlone None operation reads = ⊤
-IsAlone (Some view) operation reads = (operation.outputs.count ≡ 0) × ((k : ℕ) (input : Input) → slice_get reads k ≡ Some input → input.file ≡ view.file)
+IsAlone (Some (EventsOfFile shown events_of)) operation reads = (operation.outputs.count ≡ 0) × ((k : ℕ) (input : Input) → slice_get reads k ≡ Some input → input.file ≡ shown)
+IsAlone (Some (EventsOfAll events_of)) operation reads = operation.outputs.count ≡ 0
 
 -- a fresh port that reads these files is open for a command
 pub record IsGiven (operation : Operation) (begun : ShelfState) (reads : List Input) (port : PortState) : Type 0 where
@@ -95,15 +98,16 @@ IsCountedBy port outcome = ⊤
 -- ---- what the monitors see
 
 -- they saw the events of exactly the bits that stand before the block of which the call failed
-pub record SeesBefore (view : View) (operation : Operation) (begun : ShelfState) (port : PortState) (before after : List State) : Type 0 where
+pub record SeesBefore (shown : File) (events_of : List Bool → List Event) (operation : Operation) (begun : ShelfState) (port : PortState) (before after : List State) : Type 0 where
   pub bits : ℕ
   pub range : Range
   pub block : IsNextBlock bits range
-  pub asked : TellsFailed (port.shelf.tells_name (name_of view.file)) range port.shelf.failed_range
-  pub seen : SeeEvents operation begun (λ files. view.events_of (take bits (bits_of (bytes_in files (name_of view.file))))) before after
+  pub asked : TellsFailed (port.shelf.tells_name (name_of shown)) range port.shelf.failed_range
+  pub seen : SeeEvents operation begun (λ files. events_of (take bits (bits_of (bytes_in files (name_of shown))))) before after
 
--- they saw all events of the file of a command that shows them, and whose work was done, or those; and else nothing
+-- they saw all events that a command shows, and whose work was done, or those; and else nothing
 abbrev pub IsSeen : Option View → Operation → ShelfState → PortState → Outcome → List State → List State → Type 0
-IsSeen (Some view) operation begun port (Whole (Ok done)) before after = SeeEvents operation begun (λ files. view.events_of (bits_of (bytes_in files (name_of view.file)))) before after
-IsSeen (Some view) operation begun port Failed before after = SeesBefore view operation begun port before after
+IsSeen (Some (EventsOfFile shown events_of)) operation begun port (Whole (Ok done)) before after = SeeEvents operation begun (λ files. events_of (bits_of (bytes_in files (name_of shown)))) before after
+IsSeen (Some (EventsOfFile shown events_of)) operation begun port Failed before after = SeesBefore shown events_of operation begun port before after
+IsSeen (Some (EventsOfAll events_of)) operation begun port (Whole (Ok done)) before after = SeeEvents operation begun events_of before after
 IsSeen view operation begun port outcome before after = after ≡ before

@@ -11,7 +11,7 @@ use Rattle.pdh_chain.specs.declared.chain.Chain.{Chain}
 use Rattle.pdh_chain.specs.declared.chain.Chain.TheVariants.{C13}
 use Rattle.pdh_chain.specs.Chains.{chains, levels_of, name_of}
 use Rattle.pdh_words.specs.declared.commands.Command.{Command}
-use Rattle.pdh_words.specs.declared.commands.Command.TheVariants.{Demux, Mux, MuxSlip, ClockCheck, ClockMake, Inspect, InspectE1, Show, E1Pack, E1Unpack, Ds1Pack, Ds1Unpack, Disturb, Drill, Smooth}
+use Rattle.pdh_words.specs.declared.commands.Command.TheVariants.{Demux, Mux, MuxSlip, ClockCheck, ClockMake, Inspect, InspectE1, Show, E1Pack, E1Unpack, Ds1Pack, Ds1Unpack, Disturb, Drill, Smooth, Duplex}
 use Rattle.pdh_words.specs.declared.commands.Bits.{Bits}
 use Rattle.pdh_words.specs.declared.commands.Bits.TheVariants.{Line, Bent}
 
@@ -92,6 +92,14 @@ drilling_of chain_word seed_word frames_word = do
   frames ← number_of frames_word
   Some (Drill chain seed frames)
 
+-- `duplex` of a chain, with what its test patterns begin with and so many frames a line
+abbrev pub linking_of : List ℕ → List ℕ → List ℕ → Option Command
+linking_of chain_word seed_word frames_word = do
+  chain ← chain_of chain_word
+  seed ← number_of seed_word
+  frames ← number_of frames_word
+  Some (Duplex chain seed frames)
+
 -- `ds1pack` of a form
 abbrev pub ds1_packing_of : List ℕ → Option Command
 ds1_packing_of form_word = do
@@ -124,11 +132,12 @@ of_three first second third =
       chain ← chain_of second
       reading_of first chain Bent) else None))
 
--- `mux c13 feac CODE`, or `drill CHAIN SEED FRAMES`
+-- `mux c13 feac CODE`, `drill CHAIN SEED FRAMES`, or `duplex CHAIN SEED FRAMES`
 abbrev pub of_four : List ℕ → List ℕ → List ℕ → List ℕ → Option Command
 of_four first second third fourth =
     if bytes_eq first (codes "mux") && (bytes_eq second (codes "c13") && bytes_eq third (codes "feac")) then sending_of fourth
-    else (if bytes_eq first (codes "drill") then drilling_of second third fourth else None)
+    else (if bytes_eq first (codes "drill") then drilling_of second third fourth
+    else (if bytes_eq first (codes "duplex") then linking_of second third fourth else None))
 
 -- `clock make CHAIN FRAMES BIAS`
 abbrev pub of_five : List ℕ → List ℕ → List ℕ → List ℕ → List ℕ → Option Command
@@ -137,8 +146,8 @@ of_five first second third fourth fifth =
 
 -- the command of these words, if they are a row of the table: `mux CHAIN`, `demux CHAIN`, `demux CHAIN bent`,
 -- `clock check CHAIN`, `mux c13 feac CODE`, `muxslip CHAIN`, `clock make CHAIN FRAMES BIAS`, `inspect CHAIN`, `inspect CHAIN bent`, `inspect e1`,
--- `show CHAIN NUMBER`, `e1pack`, `e1unpack`, `disturb CHAIN`, `drill CHAIN SEED FRAMES`, `ds1pack FORM`, `ds1unpack FORM`, and
--- `smooth CHAIN` with a chain of one multiplexer
+-- `show CHAIN NUMBER`, `e1pack`, `e1unpack`, `disturb CHAIN`, `drill CHAIN SEED FRAMES`, `ds1pack FORM`, `ds1unpack FORM`,
+-- `smooth CHAIN` with a chain of one multiplexer, and `duplex CHAIN SEED FRAMES`
 abbrev pub command_of : List (List ℕ) → Option Command
 command_of (a ∷ []) = framing_of a
 command_of (a ∷ b ∷ []) = of_two a b
@@ -153,9 +162,10 @@ abbrev pub KeepsLimits : Command → Type 0
 KeepsLimits (Mux chain (Some code)) = code < 64
 KeepsLimits (Show chain frame) = frame ≤ 999999999
 KeepsLimits (Drill chain seed frames) = seed ≤ 999999999
+KeepsLimits (Duplex chain seed frames) = seed ≤ 999999999
 KeepsLimits (Smooth chain) = length (levels_of chain) ≡ 1
 KeepsLimits _ = ⊤
 
 -- what is told of words that are no row of the table
 abbrev pub usage_text : List ℕ
-usage_text = codes "usage: pdh mux demux clock inspect show e1pack e1unpack disturb drill muxslip ds1pack ds1unpack smooth"
+usage_text = codes "usage: pdh mux demux clock inspect show e1pack e1unpack disturb drill muxslip ds1pack ds1unpack smooth duplex"

@@ -2,7 +2,7 @@
 
 ghost use Rattle.std.specs.Prelude.{◌≡◌, ◌≤◌, length, map, IfSome};
 ghost use Rattle.std.specs.String.{string_bytes};
-ghost use Rattle.pdh_words.specs.Commands.{chain_of, bias_of, framing_of, reading_of, conversion_of, showing_of, checking_of, sending_of, making_of, drilling_of, form_of, smoothing_of, ds1_packing_of, ds1_unpacking_of, of_two as by_two, of_three as by_three, of_four as by_four, of_five as by_five, command_of, usage_text, KeepsLimits};
+ghost use Rattle.pdh_words.specs.Commands.{chain_of, bias_of, framing_of, reading_of, conversion_of, showing_of, checking_of, sending_of, making_of, drilling_of, linking_of, form_of, smoothing_of, ds1_packing_of, ds1_unpacking_of, of_two as by_two, of_three as by_three, of_four as by_four, of_five as by_five, command_of, usage_text, KeepsLimits};
 
 use pdh_chain::{Chain, all_chains};
 use pdh_clock::Bias;
@@ -103,6 +103,15 @@ pub enum Command {
         /// How many frames the line has.
         frames: u64,
     },
+    /// `duplex CHAIN SEED FRAMES`: links two terminals by disturbed lines, and tells what both counted.
+    Duplex {
+        /// The chain of both lines.
+        chain: Chain,
+        /// What the test patterns begin with, of at most 999,999,999.
+        seed: u64,
+        /// How many frames each line has.
+        frames: u64,
+    },
 }
 
 /// What is told of words that are no row of the table.
@@ -110,7 +119,7 @@ pub fn usage() -> &'static str
     ensures text { result.now ≡ usage_text }
     ensures short { length result.now ≤ 200 }
 {
-    "usage: pdh mux demux clock inspect show e1pack e1unpack disturb drill muxslip ds1pack ds1unpack smooth"
+    "usage: pdh mux demux clock inspect show e1pack e1unpack disturb drill muxslip ds1pack ds1unpack smooth duplex"
 }
 
 // The chain that a word names.
@@ -258,6 +267,21 @@ fn drilling(chain_word: &str, seed: &str, frames: &str) -> Option<Command>
     })
 }
 
+// The linking of two terminals of a chain, by what their test patterns begin with and the number of frames of each line.
+fn linking(chain_word: &str, seed: &str, frames: &str) -> Option<Command>
+    ensures is { result ≡ linking_of chain_word.now seed.now frames.now }
+    ensures limits { IfSome result KeepsLimits }
+{
+    let chain = chain(chain_word)?;
+    let seed = u64::from(number(seed.as_bytes())?);
+    let frames = u64::from(number(frames.as_bytes())?);
+    Some(Command::Duplex {
+        chain,
+        seed,
+        frames,
+    })
+}
+
 // The packing of a payload into superframes, by their form.
 fn ds1_packing(form_word: &str) -> Option<Command>
     ensures { result ≡ ds1_packing_of form_word.now }
@@ -319,6 +343,9 @@ fn of_four(first: &str, second: &str, third: &str, fourth: &str) -> Option<Comma
     if first == "drill" {
         return drilling(second, third, fourth);
     }
+    if first == "duplex" {
+        return linking(second, third, fourth);
+    }
     None
 }
 
@@ -337,8 +364,9 @@ fn of_five(first: &str, second: &str, third: &str, fourth: &str, fifth: &str) ->
 /// `demux CHAIN bent`, `mux c13 feac CODE` with a number of at most 63, `muxslip CHAIN`, `clock check CHAIN`,
 /// `clock make CHAIN FRAMES BIAS` with a number and `nominal`, `fast`, `slow` or `mixed`, `inspect CHAIN`,
 /// `inspect CHAIN bent`, `inspect e1`, `show CHAIN NUMBER`, `e1pack`, `e1unpack`, `disturb CHAIN`, `drill CHAIN SEED FRAMES`
-/// with two numbers, `ds1pack` or `ds1unpack` with `sf` or `esf`, or `smooth CHAIN` with a chain of one multiplexer. CHAIN is
-/// the name of a chain, and a number is `0`, or a digit 1 to 9 and at most eight digits.
+/// with two numbers, `ds1pack` or `ds1unpack` with `sf` or `esf`, `smooth CHAIN` with a chain of one multiplexer, or
+/// `duplex CHAIN SEED FRAMES` with two numbers. CHAIN is the name of a chain, and a number is `0`, or a digit 1 to 9 and at most
+/// eight digits.
 pub fn command_for(words: &[String]) -> Option<Command>
     ensures is { result ≡ command_of (map string_bytes words.now) }
     ensures limits { IfSome result KeepsLimits }

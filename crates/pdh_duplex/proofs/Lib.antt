@@ -1,0 +1,12 @@
+pub mod Aligned
+pub mod TallyLaws
+pub mod MoreHeard
+pub mod FramesSent
+pub mod FrameLengths
+pub mod SessionLines
+pub mod Going
+pub mod Sessions
+pub mod Starting
+pub mod Undisturbed
+pub mod Received
+pub mod Told

@@ -1,0 +1,5 @@
+use Rattle.pdh_lab.proofs.InTime.{no_event}
+use Rattle.pdh_duplex.proofs.laws.no_store_meets_an_event.Goals as goal
+
+pub returns : goal.returns
+returns c z = no_event z.chain z.frames

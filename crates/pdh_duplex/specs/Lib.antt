@@ -1,0 +1,13 @@
+pub mod Nowhere
+pub mod Top
+pub mod Tallies
+pub mod Hearing
+pub mod Heard
+pub mod Session
+pub mod Sending
+pub mod Lines
+pub mod Ways
+pub mod Links
+pub mod Opened
+pub mod Answers
+pub mod Laws

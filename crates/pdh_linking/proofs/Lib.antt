@@ -1,0 +1,2 @@
+pub mod SessionComes
+pub mod SessionWatched

@@ -1,0 +1,2 @@
+pub mod Duplex
+pub mod DuplexSteps
