@@ -10,6 +10,7 @@ pub mod Numbered
 pub mod TreeLeaves
 pub mod Receivers
 pub mod Noted
+pub mod Counted
 pub mod LevelNumbers
 pub mod Senders
 pub mod Stops

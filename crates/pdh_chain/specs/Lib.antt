@@ -3,6 +3,7 @@ pub mod Chains
 pub mod Saying
 pub mod Muxing
 pub mod Trees
+pub mod Counts
 pub mod Muxes
 pub mod Slipping
 pub mod Demuxing

@@ -1,5 +1,5 @@
 //! Laws of whole chains. Each function does nothing: what it ensures is the law.
-ghost use Rattle.std.specs.Prelude.{◌≤◌, ◌<◌, ◌*◌, ◌/◌, ℕ, Bool, List, length, ⊤};
+ghost use Rattle.std.specs.Prelude.{◌≡◌, ◌≤◌, ◌<◌, ◌*◌, ◌/◌, ℕ, Bool, List, length, ⊤};
 ghost use Rattle.pdh_shape.specs.declared.role.Service.{Service};
 ghost use Rattle.pdh_shape.specs.Frame.{FrameShape};
 ghost use Rattle.pdh_nesting.specs.Chains.{width, top_len, AreFrames};
@@ -9,6 +9,9 @@ ghost use Rattle.pdh_line.specs.Nodes.{Counts};
 ghost use Rattle.pdh_nesting.specs.Receiving.{far};
 ghost use Rattle.pdh_edge.specs.Ports.{Inputs};
 ghost use Rattle.pdh_clock.specs.Contents.{Contents, counts as counts_in};
+ghost use Rattle.pdh_shape.specs.declared.place.Path.{Path};
+ghost use Rattle.pdh_chain.specs.Trees.{receiver_of};
+ghost use Rattle.pdh_chain.specs.Counts.{node_counts};
 ghost use Rattle.pdh_chain.specs.Muxes.{obstacle_at, IsNoEvent, IsTolerated, PutsPrefix};
 ghost use Rattle.pdh_chain.specs.Demuxes.{DemuxesPart};
 ghost use Rattle.pdh_chain.specs.Calls.{IsScheduledWithin, HaveEnough, GoesClear, PutsAtMost};
@@ -33,6 +36,12 @@ pub fn line_is_clear_within_tolerance()
 pub fn leaf_receives_no_more_than_its_share()
     ensures { (shapes : List FrameShape) (line : List Bool) (leaf : ℕ) → AreFrames shapes
         → leaf < width shapes → length (far shapes line leaf) * width shapes ≤ length line }
+{}
+
+/// What a chain's receiver counts of a line is what each of its nodes counts, from the top down, one tributary after another.
+pub fn receiver_counts_each_node()
+    ensures { (shapes : List FrameShape) (path : Path) (leaf : ℕ) (line : List Bool)
+        → (receiver_of shapes path leaf).counted line ≡ node_counts shapes path line }
 {}
 
 /// Where `mux` or `mux_slips` couldn't put a bit, no list took more bits than its frames have.

@@ -22,6 +22,7 @@ pub use chain::{Chain, all_chains, delay, frame_bytes, leaves};
 pub use laws::{
     demux_puts_no_more_than_the_shares, leaf_receives_no_more_than_its_share,
     line_is_clear_within_tolerance, mux_puts_no_more_than_its_frames, no_event_within_tolerance,
+    receiver_counts_each_node,
 };
 pub use multiplexer::{ChainTop, Multiplexer};
 pub use opening::{open_receiver, open_sender};

@@ -6,8 +6,9 @@ ghost use Rattle.pdh_desync.specs.laws.SmoothSound.{mute_sound};
 
 use pdh_edge::{Drain, Failed};
 use pdh_packed::Packed;
-use pdh_rx::Rx;
+use pdh_rx::{NodeCounts, Rx};
 use pdh_watch::Watch;
+use std::alloc::AllocError;
 
 /// Takes bits and puts none. It notes nothing.
 #[derive(Drop)]
@@ -50,6 +51,10 @@ impl Rx for Mute {
 
     fn frames(&self) -> u64 {
         0
+    }
+
+    fn count_nodes(&self, _counts: &mut Vec<NodeCounts>) -> Result<(), AllocError> {
+        Ok(())
     }
 
     fn glide<D: Drain>(

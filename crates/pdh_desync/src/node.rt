@@ -13,7 +13,7 @@ use crate::unwatched::Unwatched;
 use pdh_edge::{Drain, Failed};
 use pdh_packed::Packed;
 use pdh_runs::Layout;
-use pdh_rx::{Rx, RxNode};
+use pdh_rx::{NodeCounts, Rx, RxNode};
 use pdh_shape::{Path, Shape};
 use pdh_watch::Watch;
 use std::alloc::{AllocError, Global};
@@ -105,6 +105,10 @@ impl<S: Shape> Rx for SmoothNode<S> {
 
     fn frames(&self) -> u64 {
         self.far.frames()
+    }
+
+    fn count_nodes(&self, counts: &mut Vec<NodeCounts>) -> Result<(), AllocError> {
+        self.events.count_nodes(counts)
     }
 
     fn glide<D: Drain>(

@@ -19,3 +19,4 @@ pub mod DueLaws
 pub mod InTurn
 pub mod Watched
 pub mod Fitting
+pub mod Counting

@@ -15,6 +15,9 @@ use Rattle.pdh_events.specs.Keeping.{OnesRun, CountsOnes, Kept, Remembers}
 use Rattle.pdh_events.specs.Acts.{Act, bit_acts, acts_events}
 use Rattle.pdh_events.specs.Acts.Act.{Note}
 use Rattle.pdh_events.specs.laws.ActsLaws.{bits_to}
+use Rattle.pdh_judging.specs.declared.judged.Judged.{Judged}
+use Rattle.pdh_judging.specs.Judged.{after_step, Judges}
+use Rattle.pdh_judging.proofs.Steps.{judges_step, judges_none}
 use Rattle.pdh_rx.specs.Meaning.{Meaning, Gains, GainsPart}
 use Rattle.pdh_rx.specs.Node.{received_lines, child_notes, node_meaning, Gives, Plays, PlaysPart, gap_after, frames_after, step_bits, step_acts, step_pieces, NodeTracks, NodeStands}
 use Rattle.pdh_rx.specs.laws.NodeLaws.{AllSound}
@@ -26,8 +29,8 @@ use Rattle.pdh_rx.proofs.NodeSteps.{node_tracks, node_gains, node_part, track_no
 next_goes : (line : List Bool) (bit : Bool) (n : ℕ) → n ≡ next_bit line → min (n + 1) (2 ^ 64 - 1) ≡ next_bit (line ++ bit ∷ [])
 next_goes line bit n is = let more : length (line ++ bit ∷ []) ≡ length line + 1 = length-append line (bit ∷ []) in omega (arith, is, more)
 
-module _ {C W : Type 0} {stands : C → List Bool → Type 0} (saw : W → List Event → W → Type 0) (joins : SawJoins saw) {meaning : C → Meaning} {s : FrameShape} (path : Path) (shape : IsFrame s) {children : List C} {held held' : Held} {gap frames bits : ℕ} {ais : OnesRun} {kept : Kept} {step : Step} {bit : Bool} {line : List Bool}
-    (told : NodeStands stands meaning s children held gap frames bits ais kept line) (tracks : Tracks s held held' bit step line) {gap' : ℕ} (now : gap' ≡ gap_after s step gap)
+module _ {C W : Type 0} {stands : C → List Bool → Type 0} (saw : W → List Event → W → Type 0) (joins : SawJoins saw) {meaning : C → Meaning} {s : FrameShape} (path : Path) (shape : IsFrame s) {children : List C} {held held' : Held} {gap frames : ℕ} {judged : Judged} {bits : ℕ} {ais : OnesRun} {kept : Kept} {step : Step} {bit : Bool} {line : List Bool}
+    (told : NodeStands stands meaning s children held gap frames judged bits ais kept line) (tracks : Tracks s held held' bit step line) {gap' : ℕ} (now : gap' ≡ gap_after s step gap)
     (was heard is : W) (noted : saw was (tell path bits (ais_kinds ais.long line bit)) heard) where
   abbrev own : List Event
   own = tell path bits (ais_kinds ais.long line bit)
@@ -54,11 +57,12 @@ module _ {C W : Type 0} {stands : C → List Bool → Type 0} (saw : W → List 
   step_gives new o p same gives =
       gives_below stands (map meaning children) (bits_to acts) (step_bits s step held'.ready gap') children new o p (sym (length-map new meaning) ∙ ap length same) bits_same gives
 
-  pub node_stands : (new : List C) (frames' bits' : ℕ) (ais' : OnesRun) (kept' : Kept) (o p : Outputs) → frames' ≡ frames_after step frames → bits' ≡ min (bits + 1) (2 ^ 64 - 1) → ais'.long ≡ ais.long → CountsOnes ais' (line ++ bit ∷ [])
+  pub node_stands : (new : List C) (frames' : ℕ) (judged' : Judged) (bits' : ℕ) (ais' : OnesRun) (kept' : Kept) (o p : Outputs) → frames' ≡ frames_after step frames → judged' ≡ after_step s judged step held'.ready → bits' ≡ min (bits + 1) (2 ^ 64 - 1) → ais'.long ≡ ais.long → CountsOnes ais' (line ++ bit ∷ [])
       → Remembers s kept' (step_pieces step held'.ready (track s line)) → map meaning new ≡ map meaning children → Plays stands saw (map meaning children) acts children new o p heard is
-      → NodeStands stands meaning s new held' gap' frames' bits' ais' kept' (line ++ bit ∷ [])
-  node_stands new frames' bits' ais' kept' o p delivers counts long ones remembers same played = record {
+      → NodeStands stands meaning s new held' gap' frames' judged' bits' ais' kept' (line ++ bit ∷ [])
+  node_stands new frames' judged' bits' ais' kept' o p delivers judges counts long ones remembers same played = record {
     node = node_tracks stands meaning s path shape children held held' gap frames step bit line told.node tracks gap' now new frames' o p delivers same (step_gives new o p same played.gives);
+    judges = judges_step s judged judged' step held'.ready line (line ++ bit ∷ []) told.judges tracks.grows judges;
     bits_are = counts ∙ next_goes line bit bits told.bits_are;
     long_is = long ∙ told.long_is;
     ones_are = ones;
@@ -96,9 +100,10 @@ remembers_none : (s : FrameShape) (kept : Kept) → Remembers s kept [] → Reme
 remembers_none s kept r = record { alarm_is = r.alarm_is; odd_is = r.odd_is; channel_is = r.channel_is }
 
 pub opened_stands : {C : Type 0} (stands : C → List Bool → Type 0) (meaning : C → Meaning) (s : FrameShape) → IsFrame s → (children : List C) (held : Held) (ais : OnesRun) (kept : Kept) → NodeTracks stands meaning s children held 0 0 []
-    → ais.long ≡ s.len → CountsOnes ais [] → Remembers s kept [] → NodeStands stands meaning s children held 0 0 0 ais kept []
+    → ais.long ≡ s.len → CountsOnes ais [] → Remembers s kept [] → NodeStands stands meaning s children held 0 0 (record { frames = 0; right = 0 }) 0 ais kept []
 opened_stands stands meaning s shape children held ais kept node long ones remembers = record {
   node = node;
+  judges = judges_none s shape;
   bits_are = (let e : 0 ≡ next_bit [] = omega arith in e);
   long_is = long;
   ones_are = ones;

@@ -17,6 +17,8 @@ use Rattle.pdh_events.specs.Keeping.{OnesRun, CountsOnes, Kept, Remembers}
 use Rattle.pdh_events.specs.Acts.{Act, rounds_acts, bit_acts, acts_events}
 use Rattle.pdh_events.specs.Acts.Act.{Note}
 use Rattle.pdh_events.specs.laws.QuietLaws.{IsQuiet, IsCalm, quiet_join}
+use Rattle.pdh_judging.specs.declared.judged.Judged.{Judged}
+use Rattle.pdh_judging.proofs.Steps.{judges_waits, judges_passes}
 use Rattle.pdh_rx.specs.Meaning.{Meaning, TakesBits, TakesQuietly}
 use Rattle.pdh_rx.specs.laws.NodeLaws.{got_by_same}
 use Rattle.pdh_rx.specs.Node.{received_lines, child_notes, node_meaning, gap_after, step_acts, IsGap, NodeTracks, NodeStands}
@@ -77,8 +79,8 @@ calm_fewer long n k line bits le h =
 
 -- ---- what a node stands for after such bits
 
-module _ {C : Type 0} (stands : C → List Bool → Type 0) (meaning : C → Meaning) (s : FrameShape) (path : Path) (shape : IsFrame s) (children : List C) (held held' : Held) (gap frames bits : ℕ) (ais : OnesRun) (kept : Kept) (piece line : List Bool)
-    (told : NodeStands stands meaning s children held gap frames bits ais kept line) (waits : Waits s held' piece line) (calm : IsCalm ais.long line piece) where
+module _ {C : Type 0} (stands : C → List Bool → Type 0) (meaning : C → Meaning) (s : FrameShape) (path : Path) (shape : IsFrame s) (children : List C) (held held' : Held) (gap frames : ℕ) (judged : Judged) (bits : ℕ) (ais : OnesRun) (kept : Kept) (piece line : List Bool)
+    (told : NodeStands stands meaning s children held gap frames judged bits ais kept line) (waits : Waits s held' piece line) (calm : IsCalm ais.long line piece) where
   pub wait_quiet : IsQuiet (node_meaning s path (map meaning children)).notes line piece
   wait_quiet =
       let P : ℕ → Type 0 = λ n. IsCalm n line piece in
@@ -87,19 +89,20 @@ module _ {C : Type 0} (stands : C → List Bool → Type 0) (meaning : C → Mea
   pub wait_same : (k : ℕ) → (node_meaning s path (map meaning children)).got (line ++ piece) k ≡ (node_meaning s path (map meaning children)).got line k
   wait_same k = got_by_same (map meaning children) _ _ (received_same stands meaning s children held held' gap frames piece line told.node waits) k
 
-  pub wait_stands : (bits' : ℕ) (ais' : OnesRun) → bits' ≡ min (bits + length piece) (2 ^ 64 - 1) → ais'.long ≡ ais.long → CountsOnes ais' (line ++ piece) → NodeStands stands meaning s children held' gap frames bits' ais' kept (line ++ piece)
+  pub wait_stands : (bits' : ℕ) (ais' : OnesRun) → bits' ≡ min (bits + length piece) (2 ^ 64 - 1) → ais'.long ≡ ais.long → CountsOnes ais' (line ++ piece) → NodeStands stands meaning s children held' gap frames judged bits' ais' kept (line ++ piece)
   wait_stands bits' ais' counts long ones =
       let R : List Piece → Type 0 = Remembers s kept in
       record {
         node = node_waits stands meaning s children held held' gap frames piece line told.node waits;
+        judges = judges_waits s held' judged line piece waits told.judges;
         bits_are = (let more : length (line ++ piece) ≡ length line + length piece = length-append line piece in omega (arith, counts, told.bits_are, more));
         long_is = long ∙ told.long_is;
         ones_are = ones;
         remembers = subst R (sym waits.same) told.remembers;
       }
 
-module _ {C : Type 0} (stands : C → List Bool → Type 0) (meaning : C → Meaning) (s : FrameShape) (path : Path) (shape : IsFrame s) (children : List C) (held held' : Held) (gap frames bits : ℕ) (ais : OnesRun) (kept : Kept) (piece line : List Bool)
-    (told : NodeStands stands meaning s children held gap frames bits ais kept line) (passes : Passes s held' piece line) (short : gap + length piece < s.len) (calm : IsCalm ais.long line piece) where
+module _ {C : Type 0} (stands : C → List Bool → Type 0) (meaning : C → Meaning) (s : FrameShape) (path : Path) (shape : IsFrame s) (children : List C) (held held' : Held) (gap frames : ℕ) (judged : Judged) (bits : ℕ) (ais : OnesRun) (kept : Kept) (piece line : List Bool)
+    (told : NodeStands stands meaning s children held gap frames judged bits ais kept line) (passes : Passes s held' piece line) (short : gap + length piece < s.len) (calm : IsCalm ais.long line piece) where
   pub pass_quiet : IsQuiet (node_meaning s path (map meaning children)).notes line piece
   pass_quiet =
       let P : ℕ → Type 0 = λ n. IsCalm n line piece in
@@ -108,12 +111,13 @@ module _ {C : Type 0} (stands : C → List Bool → Type 0) (meaning : C → Mea
   pub pass_same : (k : ℕ) → (node_meaning s path (map meaning children)).got (line ++ piece) k ≡ (node_meaning s path (map meaning children)).got line k
   pass_same k = got_by_same (map meaning children) _ _ (received_passed stands meaning s shape children held held' gap frames piece line told.node passes short) k
 
-  pub pass_stands : (gap' bits' : ℕ) (ais' : OnesRun) → gap' ≡ gap + length piece → bits' ≡ min (bits + length piece) (2 ^ 64 - 1) → ais'.long ≡ ais.long → CountsOnes ais' (line ++ piece) → NodeStands stands meaning s children held' gap' frames bits' ais' kept (line ++ piece)
+  pub pass_stands : (gap' bits' : ℕ) (ais' : OnesRun) → gap' ≡ gap + length piece → bits' ≡ min (bits + length piece) (2 ^ 64 - 1) → ais'.long ≡ ais.long → CountsOnes ais' (line ++ piece) → NodeStands stands meaning s children held' gap' frames judged bits' ais' kept (line ++ piece)
   pass_stands gap' bits' ais' goes counts long ones =
       let N : ℕ → Type 0 = λ g. NodeTracks stands meaning s children held' g frames (line ++ piece) in
       let R : List Piece → Type 0 = Remembers s kept in
       record {
         node = subst N (sym goes) (node_passed stands meaning s shape children held held' gap frames piece line told.node passes short);
+        judges = judges_passes s held' judged line piece passes told.judges;
         bits_are = (let more : length (line ++ piece) ≡ length line + length piece = length-append line piece in omega (arith, counts, told.bits_are, more));
         long_is = long ∙ told.long_is;
         ones_are = ones;

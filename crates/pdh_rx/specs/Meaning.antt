@@ -4,6 +4,7 @@ use Rattle.pdh_shape.specs.declared.place.Path.{Path}
 use Rattle.pdh_watch.specs.declared.event.Event.{Event}
 use Rattle.pdh_events.specs.laws.QuietLaws.{IsQuiet}
 use Rattle.pdh_edge.specs.Leaves.{HaveLists}
+use Rattle.pdh_rx.specs.declared.counts.NodeCounts.{NodeCounts}
 use Rattle.pdh_edge.specs.Ports.{Outputs, Puts, PutsPart, IsPrefix}
 
 pub record Meaning : Type 0 where
@@ -17,6 +18,8 @@ pub record Meaning : Type 0 where
   pub notes : List Bool → Bool → List Event
   -- how many frames of its own were delivered, by these received bits; a leaf has none
   pub delivered : List Bool → ℕ
+  -- what it and the nodes below it counted, by these received bits; a leaf counts nothing
+  pub counted : List Bool → List NodeCounts
 
 -- more received bits only add, and only leaves get bits
 pub record IsSound (m : Meaning) : Type 0 where

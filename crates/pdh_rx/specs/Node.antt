@@ -23,6 +23,9 @@ use Rattle.pdh_events.specs.Acts.{Act, with_more, frames_acts, rounds_acts, bit_
 use Rattle.pdh_events.specs.Acts.Act.{Note}
 use Rattle.pdh_events.specs.laws.ActsLaws.{bits_to}
 use Rattle.pdh_rx.specs.declared.rx.Rx as rx
+use Rattle.pdh_judging.specs.declared.judged.Judged.{Judged}
+use Rattle.pdh_judging.specs.Judged.{judged_in, Judges}
+use Rattle.pdh_rx.specs.declared.counts.NodeCounts.{NodeCounts}
 use Rattle.pdh_rx.specs.Meaning.{Meaning, HoldsAll, Gains, GainsPart}
 
 -- each child stands for its line
@@ -56,6 +59,15 @@ child_notes (m ∷ ms) (suc j) line bit = child_notes ms j line bit
 unfoldable pub frames_counted : FrameShape → List Bool → ℕ
 frames_counted s line = min (frames_delivered s line) (2 ^ 64 - 1)
 
+-- what the node at a path counts of its received line
+abbrev pub counts_of : FrameShape → Path → List Bool → NodeCounts
+counts_of s path line = record { path = path; bits = next_bit line; frames = frames_counted s line; judged = judged_in s line }
+
+-- what these children and the nodes below them count of their lines, one child after another
+abbrev pub counted_by : List Meaning → (ℕ → List Bool) → List NodeCounts
+counted_by [] lines = []
+counted_by (m ∷ ms) lines = m.counted (lines 0) ++ counted_by ms (λ j. lines (suc j))
+
 abbrev pub node_meaning : FrameShape → Path → List Meaning → Meaning
 node_meaning s path ms = record {
   path = Some path;
@@ -63,6 +75,7 @@ node_meaning s path ms = record {
   got = λ line k. got_by ms (received_lines s line) k;
   notes = λ line bit. acts_events (child_notes ms) (received_lines s line) (bit_acts s path line bit);
   delivered = frames_counted s;
+  counted = λ line. counts_of s path line ∷ counted_by ms (received_lines s line);
 }
 
 -- each child that is a node stands below the node at this path, by its number from 1
@@ -206,9 +219,10 @@ pub record NodeTracks {C : Type 0} (stands : C → List Bool → Type 0) (meanin
   pub gap_is : IsGap s gap (track s line)
   pub frames_are : frames ≡ frames_counted s line
 
--- what its state is: these, and what it keeps to tell events
-pub record NodeStands {C : Type 0} (stands : C → List Bool → Type 0) (meaning : C → Meaning) (s : FrameShape) (children : List C) (held : Held) (gap frames bits : ℕ) (ais : OnesRun) (kept : Kept) (line : List Bool) : Type 0 where
+-- what its state is: these, what it judged, and what it keeps to tell events
+pub record NodeStands {C : Type 0} (stands : C → List Bool → Type 0) (meaning : C → Meaning) (s : FrameShape) (children : List C) (held : Held) (gap frames : ℕ) (judged : Judged) (bits : ℕ) (ais : OnesRun) (kept : Kept) (line : List Bool) : Type 0 where
   pub node : NodeTracks stands meaning s children held gap frames line
+  pub judges : Judges s judged line
   pub bits_are : bits ≡ next_bit line
   pub long_is : ais.long ≡ s.len
   pub ones_are : CountsOnes ais line

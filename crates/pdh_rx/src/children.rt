@@ -1,17 +1,18 @@
 //! The children of a demultiplexer, as one that gives each of them its bits.
 
-ghost use Rattle.std.specs.Prelude.{◌≡◌, ◌<◌, ◌≤◌, ◌+◌, ℕ, Bool, true, List, [], ◌∷◌, length, take, drop, map, IfOk, OnErr};
+ghost use Rattle.std.specs.Prelude.{◌≡◌, ◌<◌, ◌≤◌, ◌+◌, ℕ, Bool, true, List, [], ◌∷◌, ◌++◌, length, take, drop, map, IfOk, OnOk, OnErr};
 ghost use Rattle.pdh_edge.specs.Ports.{for_leaf};
 ghost use Rattle.pdh_events.specs.Acts.Act.{Give};
 ghost use Rattle.pdh_events.specs.laws.QuietLaws.{IsQuiet};
 ghost use Rattle.pdh_rx.specs.Meaning.{HoldsAll};
-ghost use Rattle.pdh_rx.specs.Node.{EachStands, IsDisjoint, any_leaf, child_notes, AreReady, ChildFits, AllFit, Keeps, Gives, GivesPart, Acted};
+ghost use Rattle.pdh_rx.specs.Node.{EachStands, IsDisjoint, any_leaf, child_notes, counted_by, AreReady, ChildFits, AllFit, Keeps, Gives, GivesPart, Acted};
 
-use crate::Rx;
+use crate::{NodeCounts, Rx};
 use pdh_edge::{Drain, Failed};
 use pdh_packed::Packed;
 use pdh_shape::Shape;
 use pdh_watch::Watch;
+use std::alloc::AllocError;
 use std::marker::{Model, PhantomData};
 
 /// The children of a demultiplexer, one for each tributary. No leaf is below two of them.
@@ -85,6 +86,18 @@ impl<S: Shape, C: Rx> Children<S, C> {
     {
         let child = &mut self.list[trib as usize];
         child.glide(bits, from, drain)
+    }
+
+    /// Appends what each node among and below the children counted, in the order of tributaries. It fails only where it finds
+    /// no memory.
+    pub fn count_nodes(&self, counts: &mut Vec<NodeCounts>) -> Result<(), AllocError>
+        ensures { OnOk result ((lines : ℕ → List Bool) → EachStands C.stands self.now lines
+            → counts.new.items ≡ counts.old.items ++ counted_by (map C.meaning self.now) lines) }
+    {
+        for trib in 0..self.list.len() {
+            self.list[trib].count_nodes(counts)?;
+        }
+        Ok(())
     }
 
     /// Whether the drain has room for all that so many bits of each child bring, at once.

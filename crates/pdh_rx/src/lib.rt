@@ -4,6 +4,7 @@
 #![tactic(auto)]
 
 mod children;
+mod counts;
 mod frames;
 mod giving;
 mod merging;
@@ -13,6 +14,7 @@ mod rx;
 mod strip;
 mod tail;
 
+pub use counts::NodeCounts;
 pub use giving::take_watched;
 pub use node::{RxNode, frames_after, gap_after};
 pub use rx::Rx;

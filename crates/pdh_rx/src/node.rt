@@ -5,13 +5,14 @@ ghost use Rattle.pdh_rx.specs.Meaning.{TakesQuietly};
 ghost use Rattle.pdh_rx.specs.Node.{EachStands, IsDisjoint, ArePlaced, node_meaning, NodeStands, gap_after as gap_after_step, frames_after as frames_after_step};
 ghost use Rattle.pdh_rx.specs.laws.NodeLaws.{node_sound, fewer_than_none};
 
-use crate::Rx;
 use crate::children::Children;
 use crate::frames::{LineBit, act};
 use crate::merging::Split;
+use crate::{NodeCounts, Rx};
 use pdh_align::{Aligner, Step};
 use pdh_edge::{Drain, Failed};
 use pdh_events::{AisRun, FrameTeller};
+use pdh_judging::{Judged, judged_after};
 use pdh_packed::Packed;
 use pdh_runs::Layout;
 use pdh_shape::{Path, Shape};
@@ -57,6 +58,7 @@ pub struct RxNode<S: Shape, C: Rx> {
     // how many positions of a gap were passed over since its last whole frame's length
     gap: u32,
     frames: u64,
+    judged: Judged,
     // what tells events: the number of the next bit, which stands at `u64::MAX`,
     bits: u64,
     // the ones that the line ends with,
@@ -76,6 +78,7 @@ impl<S: Shape, C: Rx> Drop for RxNode<S, C> {
             split: _,
             gap: _,
             frames: _,
+            judged: _,
             bits: _,
             ais: _,
             teller: _,
@@ -112,6 +115,10 @@ impl<S: Shape, C: Rx> RxNode<S, C> {
             split,
             gap: 0,
             frames: 0,
+            judged: Judged {
+                frames: 0,
+                right: 0,
+            },
             bits: 0,
             ais: AisRun::new(S::LEN),
             teller,
@@ -152,7 +159,7 @@ impl<S: Shape, C: Rx> Rx for RxNode<S, C> {
 
     const IS_LEAF: bool = false;
 
-    ghost stands = { λ n line. NodeStands C.stands C.meaning S.shape n.children n.aligner n.gap n.frames n.bits n.ais n.teller line };
+    ghost stands = { λ n line. NodeStands C.stands C.meaning S.shape n.children n.aligner n.gap n.frames n.judged n.bits n.ais n.teller line };
 
     ghost meaning = { λ n. node_meaning S.shape n.path (map C.meaning n.children) };
 
@@ -174,6 +181,7 @@ impl<S: Shape, C: Rx> Rx for RxNode<S, C> {
         let step = self.aligner.push(bit);
         self.gap = gap_after::<S>(step, self.gap);
         self.frames = frames_after(step, self.frames);
+        self.judged = judged_after(self.judged, step, &self.aligner);
         self.ais.note(bit, self.path, number, watch);
         act::<S, C, D, W>(
             &mut self.children,
@@ -193,6 +201,16 @@ impl<S: Shape, C: Rx> Rx for RxNode<S, C> {
 
     fn frames(&self) -> u64 {
         self.frames
+    }
+
+    fn count_nodes(&self, counts: &mut Vec<NodeCounts>) -> Result<(), AllocError> {
+        counts.push(NodeCounts {
+            path: self.path,
+            bits: self.bits,
+            frames: self.frames,
+            judged: self.judged,
+        })?;
+        self.children.count_nodes(counts)
     }
 
     fn glide<D: Drain>(

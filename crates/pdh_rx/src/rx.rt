@@ -6,9 +6,11 @@ ghost use Rattle.pdh_edge.specs.Ports.{HasCause};
 ghost use Rattle.pdh_watch.specs.Seen.{SawPart};
 ghost use Rattle.pdh_rx.specs.Meaning.{Meaning, IsSound, HoldsAll, Gains, GainsPart, TakesBits, TakesPart};
 
+use crate::NodeCounts;
 use pdh_edge::{Drain, Failed};
 use pdh_packed::Packed;
 use pdh_watch::Watch;
+use std::alloc::AllocError;
 
 /// Takes a received line: a bit by itself, where it notes the events that it brings, or many bits at a
 /// time that bring none.
@@ -22,7 +24,7 @@ pub trait Rx: Drop {
     ghost stands: { Self → List Bool → Type 0 };
 
     /// Its path, its leaves, what each leaf has got by any received bits, the events that one more bit
-    /// brings, and how many frames are delivered. No call changes it.
+    /// brings, how many frames are delivered, and what its nodes count. No call changes it.
     ghost meaning: { Self → Meaning };
 
     /// Room so told suffices to take so many bits at once, whatever they are.
@@ -57,6 +59,12 @@ pub trait Rx: Drop {
     /// How many frames of its own it has delivered. At `u64::MAX` the count stands; a leaf has none.
     fn frames(&self) -> u64
         ensures { (line : List Bool) → stands self.now line → result ≡ (meaning self.now).delivered line };
+
+    /// Appends what each of its nodes counted: itself first, and then those below it in the order of tributaries. A leaf has
+    /// none. It fails only where it finds no memory.
+    fn count_nodes(&self, counts: &mut Vec<NodeCounts>) -> Result<(), AllocError>
+        ensures { OnOk result ((line : List Bool) → stands self.now line
+            → counts.new.items ≡ counts.old.items ++ (meaning self.now).counted line) };
 
     /// Takes the next bits of the line from a place on, none or more of those that bring no event, puts each bit that leaves
     /// gain by them, and answers how many. It fails only where the drain failed, and isn't used again then.

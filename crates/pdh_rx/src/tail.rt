@@ -4,10 +4,11 @@ ghost use Rattle.std.specs.Prelude.{◌≡◌, ◌≤◌, Bool, List, true};
 ghost use Rattle.pdh_rx.specs.Tail.{tail_meaning};
 ghost use Rattle.pdh_rx.specs.laws.TailLaws.{tail_sound, tail_fits_by};
 
-use crate::Rx;
+use crate::{NodeCounts, Rx};
 use pdh_edge::{Drain, Failed};
 use pdh_packed::Packed;
 use pdh_watch::Watch;
+use std::alloc::AllocError;
 
 /// Puts the bits that it receives to one leaf of a drain. It notes nothing.
 #[derive(Drop)]
@@ -51,6 +52,10 @@ impl Rx for Tail {
 
     fn frames(&self) -> u64 {
         0
+    }
+
+    fn count_nodes(&self, _counts: &mut Vec<NodeCounts>) -> Result<(), AllocError> {
+        Ok(())
     }
 
     fn glide<D: Drain>(

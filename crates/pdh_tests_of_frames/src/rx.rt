@@ -8,9 +8,10 @@ ghost use Rattle.pdh_rx.specs.Node.{node_meaning};
 
 use pdh_edge::{Drain, Failed, MemPort};
 use pdh_eframes::E2;
+use pdh_judging::Judged;
 use pdh_packed::Packed;
 use pdh_runs::Layout;
-use pdh_rx::{Rx, RxNode, Tail, take_watched};
+use pdh_rx::{NodeCounts, Rx, RxNode, Tail, take_watched};
 use pdh_shape::TOP;
 use pdh_watch::{Event, Kind, Quiet, Watch};
 use std::alloc::{AllocError, Global};
@@ -172,6 +173,61 @@ fn lines_and_leaves(rt: HostRuntime) -> Result<(), Fail> {
         let bits = zeros_ones_zeros(alloc, counts)?;
         assert!(rt; run(alloc, &line, &bits)? == (true, delivered));
         assert!(rt; run_at_once(alloc, &line, &bits)? == (true, delivered));
+    }
+    Ok(())
+}
+
+// What the nodes count where a node takes all bits of a line in one call.
+fn counted(alloc: Global, line: &[bool]) -> Result<Vec<NodeCounts>, Fail> {
+    let mut node = node(alloc)?;
+    let mut port = port_with_rooms(alloc, [line.len(); 4])?;
+    let line = packed(alloc, line)?;
+    take_watched(&mut node, &line, &mut port, &mut Quiet)?;
+    let mut counts = Vec::new(alloc);
+    node.count_nodes(&mut counts)?;
+    Ok(counts)
+}
+
+// The counts of a node at the top, by its bits, its frames, those that were judged, and the right ones of them.
+fn at_the_top(bits: u64, frames: u64, judged: u64, right: u64) -> NodeCounts {
+    NodeCounts {
+        path: TOP,
+        bits,
+        frames,
+        judged: Judged {
+            frames: judged,
+            right,
+        },
+    }
+}
+
+// The three frames that confirm an alignment aren't judged. Of those behind them the four wrong ones are, the last of which
+// completes the loss, and the two right ones behind the second alignment.
+#[test]
+fn frames_behind_the_first_three_are_judged(rt: HostRuntime) -> Result<(), Fail> {
+    let alloc = rt.alloc();
+    let frames: &[u8] = &[0xF4, 0xF4, 0xF4, 4, 4, 4, 4, 0xF4, 0xF4, 0xF4, 0xF4, 0xF4];
+    let line = line(alloc, 0, frames)?;
+    let all = at_the_top(10_176, 11, 6, 2);
+    assert!(rt; counted(alloc, &line)?.as_slice() == [all].as_slice());
+    Ok(())
+}
+
+// Frames with one wrong alignment bit each, of which no four come in a row: all are delivered, and none of these is right.
+#[test]
+fn frames_with_single_wrong_alignment_bits_are_not_right(rt: HostRuntime) -> Result<(), Fail> {
+    let alloc = rt.alloc();
+    let one: &[u8] = &[0xF4, 0xF4, 0xF4, 0xF4, 0x74, 0xF4];
+    let last: &[u8] = &[0xF4, 0xF4, 0xF4, 0xF5];
+    let three: &[u8] = &[0xF4, 0xF4, 0xF4, 0xB4, 0xD4, 0xE4, 0xF4, 0xF0];
+    let cases = [
+        (0, one, at_the_top(5088, 6, 3, 2)),
+        (100, last, at_the_top(3492, 4, 1, 0)),
+        (0, three, at_the_top(6784, 8, 5, 1)),
+    ];
+    for (zeros, frames, all) in cases {
+        let line = line(alloc, zeros, frames)?;
+        assert!(rt; counted(alloc, &line)?.as_slice() == [all].as_slice());
     }
     Ok(())
 }

@@ -31,14 +31,14 @@ returns-clause-taken g c =
           let calm_of : (line : List Bool) → CountsOnes old.ais line → IsCalm old.ais.long line (take k rest) = λ line ones. calm_fewer _ c.calm-calm.result k line rest few (c.calm-calm.ensures.calm line ones) in
           let Was : Held → Type 0 = λ held. (line : List Bool) → StandsFor s held line → StandsFor s c.pass-count.new.self line in
           let was : Was old.aligner = subst Was (c.pass-count.ensures.none none) (λ line h. h) in
-          let Gap : ℕ → Type 0 = λ gap. (line : List Bool) → NodeStands g.C.Rx.stands g.C.Rx.meaning s old.children w.take-count.new.self old.gap old.frames bits ais old.teller line → NodeStands g.C.Rx.stands g.C.Rx.meaning s old.children w.take-count.new.self gap old.frames bits ais old.teller line in
+          let Gap : ℕ → Type 0 = λ gap. (line : List Bool) → NodeStands g.C.Rx.stands g.C.Rx.meaning s old.children w.take-count.new.self old.gap old.frames old.judged bits ais old.teller line → NodeStands g.C.Rx.stands g.C.Rx.meaning s old.children w.take-count.new.self gap old.frames old.judged bits ais old.teller line in
           let gap_is : old.gap ≡ old.gap + c.pass-count.result = omega (arith, none) in
           let gap : Gap (old.gap + c.pass-count.result) = subst Gap gap_is (λ line h. h) in
           rw (w.self-is, w.count-is)
           (record {
-            stands = λ line told. gap (line ++ take k rest) (wait_stands g.C.Rx.stands g.C.Rx.meaning s old.path g.met.S.Shape.is_frame _ _ _ _ _ _ _ _ (take k rest) line told (w.take-count.ensures.waits line (was line told.node.aligner)) (calm_of line told.ones_are) bits ais counts long (skips line told.ones_are (calm_of line told.ones_are)));
-            same = λ line told. wait_same g.C.Rx.stands g.C.Rx.meaning s old.path g.met.S.Shape.is_frame _ _ _ _ _ _ _ _ (take k rest) line told (w.take-count.ensures.waits line (was line told.node.aligner)) (calm_of line told.ones_are);
-            quiet = λ line told. wait_quiet g.C.Rx.stands g.C.Rx.meaning s old.path g.met.S.Shape.is_frame _ _ _ _ _ _ _ _ (take k rest) line told (w.take-count.ensures.waits line (was line told.node.aligner)) (calm_of line told.ones_are);
+            stands = λ line told. gap (line ++ take k rest) (wait_stands g.C.Rx.stands g.C.Rx.meaning s old.path g.met.S.Shape.is_frame _ _ _ _ _ _ _ _ _ (take k rest) line told (w.take-count.ensures.waits line (was line told.node.aligner)) (calm_of line told.ones_are) bits ais counts long (skips line told.ones_are (calm_of line told.ones_are)));
+            same = λ line told. wait_same g.C.Rx.stands g.C.Rx.meaning s old.path g.met.S.Shape.is_frame _ _ _ _ _ _ _ _ _ (take k rest) line told (w.take-count.ensures.waits line (was line told.node.aligner)) (calm_of line told.ones_are);
+            quiet = λ line told. wait_quiet g.C.Rx.stands g.C.Rx.meaning s old.path g.met.S.Shape.is_frame _ _ _ _ _ _ _ _ _ (take k rest) line told (w.take-count.ensures.waits line (was line told.node.aligner)) (calm_of line told.ones_are);
           })
       | else-count-eq0 w ↦
           let k = c.pass-count.result in
@@ -52,8 +52,8 @@ returns-clause-taken g c =
           let calm_of : (line : List Bool) → CountsOnes old.ais line → IsCalm old.ais.long line (take k rest) = λ line ones. calm_fewer _ c.calm-calm.result k line rest few (c.calm-calm.ensures.calm line ones) in
           rw (w.self-is, w.count-is)
           (record {
-            stands = λ line told. pass_stands g.C.Rx.stands g.C.Rx.meaning s old.path g.met.S.Shape.is_frame _ _ _ _ _ _ _ _ (take k rest) line told (c.pass-count.ensures.passes some line told.node.aligner) short (calm_of line told.ones_are) _ bits ais (omega (arith, count)) counts long (skips line told.ones_are (calm_of line told.ones_are));
-            same = λ line told. pass_same g.C.Rx.stands g.C.Rx.meaning s old.path g.met.S.Shape.is_frame _ _ _ _ _ _ _ _ (take k rest) line told (c.pass-count.ensures.passes some line told.node.aligner) short (calm_of line told.ones_are);
-            quiet = λ line told. pass_quiet g.C.Rx.stands g.C.Rx.meaning s old.path g.met.S.Shape.is_frame _ _ _ _ _ _ _ _ (take k rest) line told (c.pass-count.ensures.passes some line told.node.aligner) short (calm_of line told.ones_are);
+            stands = λ line told. pass_stands g.C.Rx.stands g.C.Rx.meaning s old.path g.met.S.Shape.is_frame _ _ _ _ _ _ _ _ _ (take k rest) line told (c.pass-count.ensures.passes some line told.node.aligner) short (calm_of line told.ones_are) _ bits ais (omega (arith, count)) counts long (skips line told.ones_are (calm_of line told.ones_are));
+            same = λ line told. pass_same g.C.Rx.stands g.C.Rx.meaning s old.path g.met.S.Shape.is_frame _ _ _ _ _ _ _ _ _ (take k rest) line told (c.pass-count.ensures.passes some line told.node.aligner) short (calm_of line told.ones_are);
+            quiet = λ line told. pass_quiet g.C.Rx.stands g.C.Rx.meaning s old.path g.met.S.Shape.is_frame _ _ _ _ _ _ _ _ _ (take k rest) line told (c.pass-count.ensures.passes some line told.node.aligner) short (calm_of line told.ones_are);
           })
     ]

@@ -19,7 +19,7 @@ returns-clause-stands g c =
     let acted = c.act.ensures.acted (track g.S.Shape.shape line) told.remembers in
     on_ok_weaker c.act.result (λ both.
     node_stands g.W.Watch.saw g.met.W.Watch.saw_join c.args.self.now.path g.met.S.Shape.is_frame told (c.push-step.ensures.tracks line told.node.aligner) c.gap_after-self.ensures _ _ _ (c.note.ensures.seen line told.ones_are)
-    _ _ _ _ _ _ _ c.frames_after-self.ensures c.saturating_add-self.ensures c.note.ensures.long (c.note.ensures.counts line told.ones_are) (both.1 (track g.S.Shape.shape line) told.remembers) acted.kept.same both.0)
+    _ _ _ _ _ _ _ _ c.frames_after-self.ensures c.judged_after-self.ensures c.saturating_add-self.ensures c.note.ensures.long (c.note.ensures.counts line told.ones_are) (both.1 (track g.S.Shape.shape line) told.remembers) acted.kept.same both.0)
     (on_ok_both _ _ c.act.result acted.played c.act.ensures.remembers))
 
 pub returns-clause-put : goal.returns-clause-put
