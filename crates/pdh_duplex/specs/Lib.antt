@@ -1,4 +1,3 @@
-pub mod Nowhere
 pub mod Top
 pub mod Tallies
 pub mod Hearing

@@ -6,9 +6,9 @@ ghost use Rattle.pdh_shape.specs.Frame.{FrameShape};
 ghost use Rattle.pdh_duplex.specs.Hearing.{Heard, hears, next_say as next_say_of};
 ghost use Rattle.pdh_duplex.specs.Tallies.{tally_none};
 
-use crate::nowhere::Nowhere;
 use crate::tally::{Tallied, Tally};
 use pdh_edge::Failed;
+use pdh_nowhere::Nowhere;
 use pdh_packed::Packed;
 use pdh_rx::{Rx, take_watched};
 use pdh_shape::Service;

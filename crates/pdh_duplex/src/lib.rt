@@ -9,7 +9,6 @@ mod laws;
 mod line;
 mod link;
 mod linking;
-mod nowhere;
 mod outgoing;
 mod session;
 mod tally;

@@ -1,8 +1,8 @@
-//! The drain of receivers whose bits nobody wants.
+//! The drain that lets go of all bits.
 
 ghost use Rattle.std.specs.Prelude.{◌^◌};
 ghost use Rattle.std.proofs.Common.{refl, arith};
-ghost use Rattle.pdh_duplex.specs.Nowhere.{all_lists};
+ghost use Rattle.pdh_nowhere.specs.Nowhere.{all_lists};
 
 use pdh_edge::{Drain, Failed};
 use pdh_packed::Packed;
