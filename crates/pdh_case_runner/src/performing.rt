@@ -3,8 +3,7 @@
 use crate::watched::Watched;
 use pdh_case_language::{Given, Observer, Run};
 use pdh_edge::{MemShelf, MemSink};
-use pdh_main::run_with_monitors;
-use pdh_ops::{Ran, run};
+use pdh_main::{Ran, run, run_with_monitors};
 use pdh_watch::{Counter, First, Latch, Monitor};
 use std::alloc::{AllocError, Global};
 

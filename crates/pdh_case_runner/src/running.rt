@@ -5,7 +5,7 @@ use crate::watched::Watched;
 use pdh_case_judge::{Files, Outcome, content_of, known_names};
 use pdh_case_language::{Given, Kind, Run};
 use pdh_edge::{Call, MemShelf, MemSink, Shelf, Sink};
-use pdh_ops::Ran;
+use pdh_main::Ran;
 use std::alloc::{AllocError, Global};
 use std::collections::BTreeSet;
 

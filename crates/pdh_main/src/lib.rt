@@ -5,7 +5,7 @@
 use bitflags::Flags;
 use pdh_edge::{Shelf, Sink};
 use pdh_folder::{Folder, Out};
-use pdh_ops::{Ran, run};
+pub use pdh_ops::{Ran, run};
 use pdh_watch::{Counter, First, Kind, Latch, Monitor};
 use std::alloc::{AllocError, Global};
 use std::fs::{File, Files};
