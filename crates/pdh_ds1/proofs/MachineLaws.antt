@@ -73,11 +73,11 @@ stays a b most = omega arith
 
 -- ---- blocks
 
-last_word-append : (frames : ℕ) (before : Option ℕ) (xs ys : List Piece) → last_word frames before (xs ++ ys) ≡ last_word frames (last_word frames before xs) ys
+pub last_word-append : (frames : ℕ) (before : Option ℕ) (xs ys : List Piece) → last_word frames before (xs ++ ys) ≡ last_word frames (last_word frames before xs) ys
 last_word-append frames before [] ys = refl
 last_word-append frames before (x ∷ xs) ys = last_word-append frames (word_behind frames x) xs ys
 
-judgements-append : (frames : ℕ) (before : Option ℕ) (xs ys : List Piece) → judgements frames before (xs ++ ys) ≡ judgements frames before xs ++ judgements frames (last_word frames before xs) ys
+pub judgements-append : (frames : ℕ) (before : Option ℕ) (xs ys : List Piece) → judgements frames before (xs ++ ys) ≡ judgements frames before xs ++ judgements frames (last_word frames before xs) ys
 judgements-append frames before [] ys = refl
 judgements-append frames before (x ∷ xs) ys =
     ap (λ r. judgement x before ++ r) (judgements-append frames (word_behind frames x) xs ys)

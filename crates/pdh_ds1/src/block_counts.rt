@@ -30,9 +30,9 @@ fn with_one_more(number: u8, bit: bool) -> u8
     2 * number + if bit { 1 } else { 0 }
 }
 
-/// The word that a superframe carries.
+/// The word that an extended superframe carries.
 #[tactic(auto, unfolding(crate::specs::Receiving::carried_word))]
-fn carried(superframe: &Packed) -> u8
+pub fn carried(superframe: &Packed) -> u8
     requires { 4632 ≤ length superframe.now.bits }
     ensures { result ≡ carried_word superframe.now.bits }
 {

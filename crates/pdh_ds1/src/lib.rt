@@ -21,6 +21,7 @@ mod superframe;
 mod words;
 
 pub use align::Ds1Align;
+pub use block_counts::carried;
 pub use codec::{pack, packed_is_given_back, unpack};
 pub use crc::crc6_after;
 pub use deframer::Deframer;
@@ -31,3 +32,4 @@ pub use packer::Ds1Packer;
 pub use plan::{InSuperframe, SuperframePlan};
 pub use plans::{ESF_PLAN, EsfPlan, SF_PLAN, SfPlan};
 pub use superframe::{Ds1Esf, Ds1Sf, Superframe};
+pub use words::word_of;

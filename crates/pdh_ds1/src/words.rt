@@ -24,7 +24,7 @@ fn with_frame(before: u8, line: &Packed, start: usize) -> u8
 }
 
 /// The word of the superframe of so many frames that begins at this place.
-pub(crate) fn word_of(frames: u32, line: &Packed, start: usize) -> u8
+pub fn word_of(frames: u32, line: &Packed, start: usize) -> u8
     requires few { frames ≤ 24 }
     requires within { start + 193 * frames ≤ length line.now.bits }
     ensures word { result ≡ word_of_bits frames (drop start line.now.bits) }

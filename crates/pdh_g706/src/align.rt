@@ -8,14 +8,15 @@ ghost use Rattle.pdh_edge.specs.Ports.{Puts, PutsPart, HasCause, for_leaf};
 ghost use Rattle.pdh_watch.specs.Seen.{SawPart};
 ghost use Rattle.pdh_watch.specs.declared.kind.TheConstants.Kind.{LOST};
 ghost use Rattle.pdh_line.specs.Paths.{top};
-ghost use Rattle.pdh_events.specs.Telling.{tell};
+ghost use Rattle.pdh_events.specs.Telling.{tell, next_bit};
 ghost use Rattle.pdh_events.specs.laws.QuietLaws.{IsQuiet};
 ghost use Rattle.pdh_g706.specs.declared.stage.Stage.TheVariants.{Searching, Aligned, Framed};
+ghost use Rattle.pdh_g706.specs.Machine.Phase.{Searching as SearchingPhase};
 ghost use Rattle.pdh_g706.specs.Tracking.{e1_far, multiframes_in, blocks_in, errors_in, counted};
 ghost use Rattle.pdh_events.specs.Chain.{bits_events};
 ghost use Rattle.pdh_g706.specs.Events.{rise, e1_bit_events};
 ghost use Rattle.pdh_g706.specs.Machine.{Fits, Waits, held_on, last_bits, search_turn, framing_turn, is_false_group, group_phase, turn as turn_of};
-ghost use Rattle.pdh_g706.specs.View.{phase, aligned_here, framed_here, block_here, StandsFor, Becomes, Turned, Gains, GainsPart};
+ghost use Rattle.pdh_g706.specs.View.{phase, is_framed, aligned_here, framed_here, block_here, StandsFor, Becomes, Turned, Gains, GainsPart};
 
 use crate::counts::{Counts, Group};
 use crate::held::{errs, first_multiframe, is_confirmed, loses, put_frames, rejected};
@@ -49,7 +50,8 @@ pub struct E1Align {
 impl E1Align {
     /// A machine that searches, and has taken no bit; or it finds no memory.
     pub fn open(alloc: Global) -> Result<E1Align, AllocError>
-        ensures { IfOk result (λ align. StandsFor align []) }
+        ensures stands { IfOk result (λ align. StandsFor align []) }
+        ensures phase { IfOk result (λ align. phase align ≡ SearchingPhase []) }
     {
         Ok(E1Align {
             stage: Stage::Searching,
@@ -82,6 +84,30 @@ impl E1Align {
         ensures { (line : List Bool) → StandsFor self.now line → result ≡ counted (errors_in line) }
     {
         self.counts.errored
+    }
+
+    /// How many multiframes its turns delivered. At `u64::MAX` the count stands.
+    pub fn delivered(&self) -> u64
+        ensures { result ≡ self.now.counts.multiframes }
+    {
+        self.counts.multiframes
+    }
+
+    /// How many bits of the line came. At `u64::MAX` the count stands.
+    pub fn bits(&self) -> u64
+        ensures { (line : List Bool) → StandsFor self.now line → result ≡ next_bit line }
+    {
+        self.bits
+    }
+
+    /// Whether multiframe alignment holds.
+    pub fn is_framed(&self) -> bool
+        ensures { result ≡ is_framed self.now.stage }
+    {
+        match self.stage {
+            Stage::Framed => true,
+            _ => false,
+        }
     }
 
     /// Takes the next bits of the line, puts each payload bit that is gained by them to leaf 0 of the drain, and notes the
@@ -119,9 +145,9 @@ impl E1Align {
 
 // What many bits do that gain nothing.
 impl E1Align {
-    // Takes the next bits of the line from a place on, none or more of those that gain nothing and bring no event, and
-    // answers how many.
-    fn glide(&mut self, bits: &Packed, from: usize) -> usize
+    /// Takes the next bits of the line from a place on, none or more of those that gain nothing and bring no event, and
+    /// answers how many.
+    pub fn glide(&mut self, bits: &Packed, from: usize) -> usize
         requires begun { from ≤ length bits.now.bits }
         requires stands { (line : List Bool) × StandsFor self.old line }
         ensures count { from + result ≤ length bits.now.bits }
@@ -140,8 +166,8 @@ impl E1Align {
         count
     }
 
-    // How many of the next bits gain nothing, whatever they are; there may be more.
-    fn idle(&self) -> u32
+    /// How many of the next bits gain nothing, whatever they are; there may be more.
+    pub fn idle(&self) -> u32
         requires { Fits (phase self.now) }
         ensures waits { (bits : List Bool) → length bits ≤ result
             → Waits (phase self.now) bits (held_on (phase self.now) bits) }
@@ -157,8 +183,8 @@ impl E1Align {
         rejected(&self.held)
     }
 
-    // Holds bits that gain nothing, so many from a place on.
-    fn hold(&mut self, bits: &Packed, from: usize, count: usize)
+    /// Holds bits that gain nothing, so many from a place on. They aren't numbered, and AIS isn't told by them.
+    pub fn hold(&mut self, bits: &Packed, from: usize, count: usize)
         requires within { from + count ≤ length bits.now.bits }
         requires room { length self.old.held.bits + count ≤ self.old.held.capacity }
         ensures phase { phase self.new ≡ held_on (phase self.old) (take count (drop from bits.now.bits)) }
@@ -175,8 +201,9 @@ impl E1Align {
 
 // What one more bit does.
 impl E1Align {
-    // Takes the next bit of the line, puts the payload that is gained by it, and notes the events that it brings.
-    fn push<D: Drain, W: Watch>(
+    /// Takes the next bit of the line, puts the payload that is gained by it to leaf 0 of the drain, and notes the events that it
+    /// brings, in order. It fails only where the drain failed, and isn't used again then.
+    pub fn push<D: Drain, W: Watch>(
         &mut self,
         bit: bool,
         drain: &mut D,
@@ -203,8 +230,9 @@ impl E1Align {
         result
     }
 
-    // Takes a bit of the line, puts the payload that is gained by it, and then notes what it shows of the alignment.
-    fn turn<D: Drain, W: Watch>(
+    /// Takes a bit of the line, puts the payload that is gained by it to leaf 0 of the drain, and then notes what it shows of the
+    /// alignment. The bit isn't numbered, and AIS isn't told by it.
+    pub fn turn<D: Drain, W: Watch>(
         &mut self,
         bit: bool,
         drain: &mut D,

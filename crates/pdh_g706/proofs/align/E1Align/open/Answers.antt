@@ -8,8 +8,11 @@ use Rattle.pdh_g706.specs.Tracking.{Signs}
 use Rattle.pdh_g706.specs.Events.{alarm_after}
 use Rattle.pdh_g706.proofs.align.E1Align.open.Goals as goal
 
-pub returns : goal.returns
-returns c =
+pub returns-clause-phase : goal.returns-clause-phase
+returns-clause-phase c = ap (λ (b : BoundedBits). Searching b.bits) c.in_ok-open.ensures
+
+pub returns-clause-stands : goal.returns-clause-stands
+returns-clause-stands c =
     let empty : [] ≡ c.in_ok-open.field-0.bits = ap (λ (b : BoundedBits). b.bits) (sym c.in_ok-open.ensures) in
     record {
       holds = subst (λ (bits : List Bool). Holds (Searching bits) []) empty holds_empty;
