@@ -1,0 +1,3 @@
+pub mod Events
+pub mod Checking
+pub mod Line
