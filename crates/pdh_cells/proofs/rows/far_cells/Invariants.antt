@@ -1,0 +1,8 @@
+use Rattle.std.proofs.Common.{◌≡◌, ℕ, ◌<◌, false, get_or, length}
+use Rattle.pdh_cells.specs.Contents.{blank}
+use Rattle.pdh_cells.specs.Rows.{shows_state}
+use Rattle.pdh_cells.proofs.rows.far_cells.Given as goal
+
+-- the first cells are done
+abbrev pub invariant-loop-index : goal.invariant-loop-index
+invariant-loop-index l = record { done : (cell : ℕ) → cell < l.index → get_or l.counts cell 0 ≡ (get_or l.cells cell blank).far; len : length l.counts ≡ 430 }

@@ -1,0 +1,5 @@
+pub mod Lanes
+pub mod Contents
+pub mod Pictures
+pub mod Standing
+pub mod Rows

@@ -1,0 +1,9 @@
+pub mod Plans
+pub mod Signs
+pub mod Marking
+pub mod Kept
+pub mod Courses
+pub mod Findings
+pub mod Nodes
+pub mod Lines
+pub mod LineLaws

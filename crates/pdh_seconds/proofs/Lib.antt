@@ -1,0 +1,4 @@
+pub mod Waiting
+pub mod Tallies
+pub mod Steps
+pub mod Worked

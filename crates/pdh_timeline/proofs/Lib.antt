@@ -1,0 +1,4 @@
+pub mod Adding
+pub mod Nexting
+pub mod Standings
+pub mod Worked
