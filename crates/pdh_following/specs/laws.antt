@@ -1,0 +1,2 @@
+pub mod RowsSeen
+pub mod Telling
