@@ -7,7 +7,6 @@ use Rattle.pdh_clock.specs.declared.fault.ScheduleFault.TheVariants.{TooLong as 
 use Rattle.pdh_script.specs.declared.fault.ScriptFault.{ScriptFault}
 use Rattle.pdh_script.specs.declared.fault.ScriptFault.TheVariants.{TooLong as LongScriptText, BadRow as ScriptRowIsBad, PastEnd as EndIsPast, Memory as NoScriptMemory}
 use Rattle.pdh_script.specs.Scripts.{Row}
-use Rattle.pdh_words.specs.Commands.{usage_text}
 use Rattle.pdh_answers.specs.Names.{name_of}
 use Rattle.pdh_answers.specs.declared.answer.Done.{Done}
 use Rattle.pdh_answers.specs.declared.answer.Done.TheVariants.{Line, Watched, Frame}
@@ -75,6 +74,10 @@ abbrev pub done_text : Done → List ℕ
 done_text (Line text) = text
 done_text (Watched text) = text
 done_text (Frame text) = text
+
+-- what is told of words that are no command
+abbrev pub usage_text : List ℕ
+usage_text = codes "usage: pdh mux demux clock inspect show e1pack e1unpack disturb drill muxslip ds1pack ds1unpack smooth duplex"
 
 -- each text of a stop is one line, but for the stop behind a line that couldn't be written, which has none
 abbrev pub stop_text : Stop → List ℕ

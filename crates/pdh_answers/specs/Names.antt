@@ -2,8 +2,8 @@
 use Rattle.std.specs.Prelude.{ℕ, ◌+◌, ◌/◌, ◌%◌, List, [], ◌∷◌, ◌++◌, codes}
 use Rattle.pdh_answers.specs.declared.file.File.{File}
 use Rattle.pdh_answers.specs.declared.file.File.TheVariants.{Line, Bent, Schedule, Script, Leaf, Output, Payload, E1Line, Ds1Line, PayloadOut, ScheduleOut, West, East}
-use Rattle.pdh_words.specs.declared.commands.Bits.{Bits}
-use Rattle.pdh_words.specs.declared.commands.Bits.TheVariants.{Line as Recorded, Bent as Disturbed}
+use Rattle.pdh_answers.specs.declared.file.Bits.{Bits}
+use Rattle.pdh_answers.specs.declared.file.Bits.TheVariants.{Line as Recorded, Bent as Disturbed}
 
 -- the last two decimal digits of a number
 abbrev pub two_digits : ℕ → List ℕ

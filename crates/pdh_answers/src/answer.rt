@@ -4,7 +4,7 @@ use crate::file::File;
 use pdh_clock::ScheduleFault;
 use pdh_script::ScriptFault;
 use pdh_shape::{Path, Place};
-use pdh_words::Text;
+use pdh_text::Text;
 use std::alloc::AllocError;
 use std::marker::Model;
 

@@ -4,7 +4,15 @@ ghost use Rattle.std.specs.Prelude.{◌≡◌, ◌+◌, ◌%◌, ◌≤◌, leng
 ghost use Rattle.pdh_answers.specs.Names.{line_name as name_of_line, bent_name as name_of_bent, script_name as name_of_script, schedule_name as name_of_schedule, payload_name as name_of_payload, e1_name as name_of_e1, ds1_name as name_of_ds1, payload_out_name as name_of_payload_out, schedule_out_name as name_of_schedule_out, west_name as name_of_west, east_name as name_of_east, numbered_name as name_of_numbered};
 
 use arrayvec::ArrayString;
-use pdh_words::Bits;
+
+/// Which file a line is read from.
+#[derive(Clone, Copy, Debug, PartialEq, Eq)]
+pub enum Bits {
+    /// The recorded line.
+    Line,
+    /// The disturbed line.
+    Bent,
+}
 
 /// A file of a command.
 #[derive(Clone, Copy, Debug, PartialEq, Eq)]

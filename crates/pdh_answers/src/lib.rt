@@ -11,7 +11,7 @@ mod telling;
 mod texts;
 
 pub use answer::{Done, FrameText, Stop};
-pub use file::{File, Name};
+pub use file::{Bits, File, Name};
 pub use leaf::leaf_count;
 pub use reporting::report;
 pub use telling::SinkLog;

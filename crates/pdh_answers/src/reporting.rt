@@ -3,7 +3,7 @@
 ghost use Rattle.std.specs.Prelude.{◌≡◌, ◌≤◌, ◌++◌, length, map, decimal, codes, OnOk, OnErr};
 ghost use Rattle.pdh_line.specs.Paths.{steps_of, path_text};
 ghost use Rattle.pdh_answers.specs.Names.{name_of};
-ghost use Rattle.pdh_answers.specs.Answer.{stop_text as stop_of, place_text as place_of};
+ghost use Rattle.pdh_answers.specs.Answer.{stop_text as stop_of, usage_text as text_of_usage, place_text as place_of};
 ghost use Rattle.pdh_edge.specs.Files.{Sends, FailsToSend};
 ghost use Rattle.pdh_slips.specs.Logs.{slip_at};
 ghost use Rattle.pdh_answers.specs.SlipLines.{slip_line as line_of_slip};
@@ -13,8 +13,8 @@ use crate::answer::{Done, Stop};
 use crate::file::File;
 use pdh_edge::{Failed, Sink};
 use pdh_shape::{Path, Place};
+use pdh_text::Text;
 use pdh_watch::Monitor;
-use pdh_words::{Text, usage};
 
 // A line of a part and a number.
 #[tactic(auto, using(pdh_text::proofs::Lengths::digits))]
@@ -167,6 +167,14 @@ fn short_node(node: Path, have: u64, need: u64) -> Text
     text.number(need);
     text.text("\n");
     text
+}
+
+// What is told of words that are no command.
+fn usage() -> &'static str
+    ensures text { result.now ≡ text_of_usage }
+    ensures short { length result.now ≤ 200 }
+{
+    "usage: pdh mux demux clock inspect show e1pack e1unpack disturb drill muxslip ds1pack ds1unpack smooth duplex"
 }
 
 fn stop_text(stop: Stop) -> Text

@@ -4,7 +4,7 @@ ghost use Rattle.std.specs.Prelude.{◌≡◌, ◌≤◌, ◌++◌, length, deci
 ghost use Rattle.pdh_chain.specs.Chains.{name_of as name_of_chain};
 
 use pdh_chain::Chain;
-use pdh_words::Text;
+use pdh_text::Text;
 
 /// The line of a command, its chain, a part and a number, with its line feed. The command and the part have at most 100 bytes each.
 #[tactic(auto, using(pdh_text::proofs::Lengths::digits))]

@@ -3,7 +3,6 @@
 #![tactic(auto)]
 
 mod ahead;
-mod by_chain;
 mod chain;
 mod laws;
 mod making;
@@ -17,16 +16,16 @@ mod stop;
 mod trees;
 mod types;
 
-pub use by_chain::{demux, mux, mux_slips};
 pub use chain::{Chain, all_chains, delay, frame_bytes, leaves};
 pub use laws::{
     demux_puts_no_more_than_the_shares, leaf_receives_no_more_than_its_share,
     line_is_clear_within_tolerance, mux_puts_no_more_than_its_frames, no_event_within_tolerance,
     receiver_counts_each_node,
 };
+pub use making::mux_with;
 pub use multiplexer::{ChainTop, Multiplexer};
 pub use opening::{open_receiver, open_sender};
-pub use receiving::receive;
+pub use receiving::{demux_with, receive};
 pub use stages::{
     DS2_LEVEL, DS2_LOCKED_LEVEL, DS3_LEVEL, DS3_LOCKED_LEVEL, E2_LEVEL, E3_LEVEL, E4_LEVEL,
 };

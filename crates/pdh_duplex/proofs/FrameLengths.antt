@@ -7,7 +7,7 @@ use Rattle.pdh_shape.specs.OwnNumbers.{most_frames}
 use Rattle.pdh_line.proofs.SentFrames.{length-front}
 use Rattle.pdh_nesting.specs.Chains.{top_len}
 use Rattle.pdh_chain.specs.Chains.{shapes_of}
-use Rattle.pdh_lab.proofs.Sent.{few_bits}
+use Rattle.pdh_patterns.proofs.Entered.{few_bits}
 use Rattle.pdh_duplex.specs.Session.{Setting, frame_of, line_upto}
 
 pub length-line : (z : Setting) (says : List Service) (n : ℕ) → length (line_upto z says n) ≡ n * top_len (shapes_of z.chain)

@@ -32,10 +32,9 @@ use Rattle.pdh_chain.proofs.Senders.{senders, line_is, given_is}
 use Rattle.pdh_chain.proofs.SenderStops.{given_below-grows}
 use Rattle.pdh_chain.proofs.Tolerated.{at_top}
 use Rattle.pdh_chain.proofs.TreeLeaves.{leaf_in, leaf_known}
-use Rattle.pdh_lab.specs.Drill.{made_counts, input_of, entered_of}
-use Rattle.pdh_lab.specs.Pattern.{pattern_bit}
-use Rattle.pdh_lab.specs.Steps.{IsClockOf}
-use Rattle.pdh_lab.proofs.MadeClear.{made_clear}
+use Rattle.pdh_patterns.specs.Leaves.{made_counts, input_of, entered_of, IsClockOf}
+use Rattle.pdh_patterns.specs.Pattern.{pattern_bit}
+use Rattle.pdh_patterns.proofs.MadeClear.{made_clear}
 use Rattle.pdh_duplex.specs.Session.{Setting, frame_of}
 use Rattle.pdh_duplex.specs.Sending.{taken_of, AreLeft, IsSupply}
 

@@ -21,8 +21,8 @@ use Rattle.pdh_script.specs.Bending.{added_at, all_brought}
 use Rattle.pdh_script.proofs.Brought.{brought_then, at_once}
 use Rattle.pdh_chain.specs.Chains.{shapes_of}
 use Rattle.pdh_chain.proofs.ChainLaws.{are_frames, read_evenly}
-use Rattle.pdh_lab.specs.Drill.{made_counts, input_of}
-use Rattle.pdh_lab.proofs.MadeWithin.{made_within}
+use Rattle.pdh_patterns.specs.Leaves.{made_counts, input_of}
+use Rattle.pdh_patterns.proofs.MadeWithin.{made_within}
 use Rattle.pdh_duplex.specs.Session.{Setting, frame_of, line_upto, disturbed_frame}
 use Rattle.pdh_duplex.proofs.FrameLengths.{length-line}
 use Rattle.pdh_duplex.proofs.FramesSent.{said_before}

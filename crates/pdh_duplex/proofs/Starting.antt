@@ -18,7 +18,7 @@ use Rattle.pdh_nesting.specs.Sending.{given_below}
 use Rattle.pdh_rx.proofs.NodeSteps.{track_none}
 use Rattle.pdh_chain.specs.Chains.{shapes_of, leaves_of}
 use Rattle.pdh_chain.proofs.ChainLaws.{are_frames}
-use Rattle.pdh_lab.specs.Drill.{made_counts, input_of}
+use Rattle.pdh_patterns.specs.Leaves.{made_counts, input_of}
 use Rattle.pdh_duplex.specs.Session.{Setting}
 use Rattle.pdh_duplex.specs.Sending.{taken_of, AreLeft}
 use Rattle.pdh_watch.specs.declared.watch.Watch as watch

@@ -4,7 +4,7 @@ use Rattle.pdh_watch.specs.declared.watch.Watch as watch
 use Rattle.pdh_tx.specs.declared.tx.Tx as tx
 use Rattle.pdh_rx.specs.declared.rx.Rx as rx
 use Rattle.pdh_chain.specs.declared.chain.Chain.{Chain}
-use Rattle.pdh_lab.specs.Steps.{IsClockOf}
+use Rattle.pdh_patterns.specs.Leaves.{IsClockOf}
 use Rattle.pdh_duplex.specs.Session.{Setting, ends_of, events_of, session_of, setting_with}
 use Rattle.pdh_duplex.specs.Opened.{IsUnwatched}
 use Rattle.pdh_duplex.specs.declared.linking.Opened.{Opened}

@@ -10,7 +10,7 @@ use Rattle.pdh_chain.specs.Chains.{shapes_of}
 use Rattle.pdh_chain.specs.Demuxes.{top_delivered}
 use Rattle.pdh_chain.specs.declared.chain.Chain.{Chain}
 use Rattle.pdh_chain.specs.declared.chain.Chain.TheVariants.{C13}
-use Rattle.pdh_lab.specs.Drill.{made_counts}
+use Rattle.pdh_patterns.specs.Leaves.{made_counts}
 use Rattle.pdh_duplex.specs.Session.{Setting, End, Ends, ends_after, ends_of, events_of, line_upto}
 use Rattle.pdh_duplex.specs.Top.{is_aligned}
 

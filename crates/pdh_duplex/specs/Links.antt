@@ -7,7 +7,7 @@ use Rattle.pdh_watch.specs.declared.watch.Watch as watch
 use Rattle.pdh_tx.specs.declared.tx.Tx as tx
 use Rattle.pdh_rx.specs.declared.rx.Rx as rx
 use Rattle.pdh_chain.specs.Chains.{shapes_of}
-use Rattle.pdh_lab.specs.Steps.{IsClockOf}
+use Rattle.pdh_patterns.specs.Leaves.{IsClockOf}
 use Rattle.pdh_duplex.specs.Session.{Setting, ends_after}
 use Rattle.pdh_duplex.specs.Heard.{HasHeard}
 use Rattle.pdh_duplex.specs.Ways.{IsWay}

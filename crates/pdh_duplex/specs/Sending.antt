@@ -13,10 +13,9 @@ use Rattle.pdh_tx.specs.Meaning.{Supply, plan_of}
 use Rattle.pdh_chain.specs.Chains.{shapes_of}
 use Rattle.pdh_chain.specs.Muxes.{bits_of}
 use Rattle.pdh_chain.specs.Trees.{sender_of}
-use Rattle.pdh_lab.specs.Drill.{made_counts, input_of}
-use Rattle.pdh_lab.specs.Patterns.{pattern_inputs}
-use Rattle.pdh_lab.specs.Steps.{IsClockOf}
-use Rattle.pdh_lab.specs.declared.patterns.Patterns.{Patterns}
+use Rattle.pdh_patterns.specs.Leaves.{made_counts, input_of, IsClockOf}
+use Rattle.pdh_patterns.specs.Patterns.{pattern_inputs}
+use Rattle.pdh_patterns.specs.declared.patterns.Patterns.{Patterns}
 use Rattle.pdh_duplex.specs.Session.{Setting}
 use Rattle.pdh_duplex.specs.declared.outgoing.Outgoing.{Outgoing}
 

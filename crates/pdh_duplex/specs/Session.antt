@@ -16,7 +16,7 @@ use Rattle.pdh_chain.specs.Chains.{shapes_of}
 use Rattle.pdh_chain.specs.Muxes.{frames_of_line}
 use Rattle.pdh_chain.specs.Demuxes.{top_delivered}
 use Rattle.pdh_chain.specs.declared.chain.Chain.{Chain}
-use Rattle.pdh_lab.specs.Drill.{made_counts, input_of}
+use Rattle.pdh_patterns.specs.Leaves.{made_counts, input_of}
 use Rattle.pdh_duplex.specs.declared.session.Session.{Session}
 use Rattle.pdh_duplex.specs.Top.{counted, count_of}
 use Rattle.pdh_duplex.specs.Hearing.{Heard, nothing_heard, next_say, hears}

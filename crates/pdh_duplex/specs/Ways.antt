@@ -9,7 +9,7 @@ use Rattle.pdh_tx.specs.declared.tx.Tx as tx
 use Rattle.pdh_rx.specs.declared.rx.Rx as rx
 use Rattle.pdh_script.specs.Scripts.{Row}
 use Rattle.pdh_chain.specs.Chains.{shapes_of}
-use Rattle.pdh_lab.specs.Steps.{IsClockOf}
+use Rattle.pdh_patterns.specs.Leaves.{IsClockOf}
 use Rattle.pdh_duplex.specs.Session.{Setting, disturbed_frame, frame_of}
 use Rattle.pdh_duplex.specs.Hearing.{Heard, hears}
 use Rattle.pdh_duplex.specs.Heard.{HasHeard}

@@ -14,8 +14,8 @@ use pdh_chain::{
     E34Sender, M12Receiver, M12Sender, M13Receiver, M13Sender, M23Receiver, M23Sender, Multiplexer,
 };
 use pdh_clock::Schedule;
-use pdh_lab::clock_of;
 use pdh_packed::Packed;
+use pdh_patterns::clock_of;
 use pdh_rx::Rx;
 use pdh_script::Script;
 use pdh_watch::Watch;

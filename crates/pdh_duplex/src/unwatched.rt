@@ -5,7 +5,7 @@ ghost use Rattle.pdh_shape.specs.OwnNumbers.{most_frames};
 ghost use Rattle.pdh_clock.specs.Contents.{Contents};
 ghost use Rattle.pdh_script.specs.Scripts.{Row, FitIn};
 ghost use Rattle.pdh_chain.specs.Calls.{AreOfChain};
-ghost use Rattle.pdh_lab.specs.Steps.{IsClockOf};
+ghost use Rattle.pdh_patterns.specs.Leaves.{IsClockOf};
 ghost use Rattle.pdh_duplex.specs.Hearing.{nothing_heard};
 ghost use Rattle.pdh_duplex.specs.Session.{Setting};
 
@@ -15,7 +15,7 @@ use crate::outgoing::Outgoing;
 use crate::way::Way;
 use pdh_chain::{Chain, ChainRx, ChainTop, Multiplexer, open_receiver, open_sender};
 use pdh_clock::Schedule;
-use pdh_lab::Patterns;
+use pdh_patterns::Patterns;
 use pdh_rx::Rx;
 use pdh_script::Script;
 use pdh_watch::Watch;

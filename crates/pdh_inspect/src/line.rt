@@ -10,7 +10,8 @@ ghost use Rattle.pdh_inspect.specs.Seen.{line_bits_events, SeesLine, SeesAll, Is
 
 use crate::line_port::LinePort;
 use crate::seen::{LineStop, Seen};
-use pdh_chain::{Chain, DemuxStop, demux};
+use pdh_chain::{Chain, DemuxStop};
+use pdh_demux::demux;
 use pdh_edge::{Feed, Port};
 use pdh_watch::{Members, Monitor, Watch};
 use std::alloc::Global;

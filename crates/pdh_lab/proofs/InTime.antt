@@ -10,21 +10,22 @@ use Rattle.pdh_shape.specs.OwnNumbers.{most_frames}
 use Rattle.pdh_line.proofs.Ranges.{range_push, count-range_push}
 use Rattle.pdh_line.proofs.SentFrames.{length-front}
 use Rattle.pdh_nesting.specs.Chains.{top_len}
-use Rattle.pdh_nesting.specs.Events.{first_event, NoneEmpty}
+use Rattle.pdh_nesting.specs.Events.{NoneEmpty}
 use Rattle.pdh_nesting.specs.Sending.{given_below}
 use Rattle.pdh_nesting.specs.Receiving.{back_below}
 use Rattle.pdh_nesting.proofs.Delay.{delayed}
 use Rattle.pdh_nesting.proofs.Given.{back-given, given-entered, far-given}
-use Rattle.pdh_nesting.proofs.NoEvents.{first_event-none, none_empty-within}
+use Rattle.pdh_nesting.proofs.NoEvents.{none_empty-within}
 use Rattle.pdh_nesting.proofs.RoundTrip.{far-length}
 use Rattle.pdh_chain.specs.Chains.{shapes_of, leaves_of, delay_of}
 use Rattle.pdh_chain.specs.Saying.{says_of}
 use Rattle.pdh_chain.specs.Muxes.{bits_of}
 use Rattle.pdh_chain.specs.declared.chain.Chain.{Chain}
 use Rattle.pdh_chain.proofs.ChainLaws.{are_frames, read_evenly}
-use Rattle.pdh_lab.specs.Pattern.{pattern_bit}
-use Rattle.pdh_lab.specs.Drill.{made_counts, entered_of, input_of, line_of, output_of, out_of, is_equal, late_of, drill_of, IsInTime}
-use Rattle.pdh_lab.proofs.MadeWithin.{made_within}
+use Rattle.pdh_patterns.specs.Pattern.{pattern_bit}
+use Rattle.pdh_lab.specs.Drill.{line_of, output_of, out_of, is_equal, late_of, drill_of, IsInTime}
+use Rattle.pdh_patterns.specs.Leaves.{made_counts, entered_of, input_of}
+use Rattle.pdh_patterns.proofs.MadeWithin.{made_within}
 
 -- ---- sums and counts over the first leaves
 
@@ -46,12 +47,6 @@ count_all : (p : ℕ → Bool) (n : ℕ) → ((k : ℕ) → k < n → p k ≡ tr
 count_all p zero each = refl
 count_all p (suc n) each =
     count-range_push p n ∙ ap (λ b. count_by p (range_with_len 0 n) + cond b 1 0) (each n (omega arith)) ∙ ap (λ c. c + 1) (count_all p n (λ k h. each k (omega arith))) ∙ omega arith
-
--- ---- the line
-
--- no store of the chain overflows or underflows
-pub no_event : (chain : Chain) (frames : ℕ) → first_event (shapes_of chain) (made_counts chain frames) frames ≡ None
-no_event chain frames = first_event-none (shapes_of chain) (made_counts chain frames) frames (are_frames chain) (read_evenly chain) (made_within chain frames)
 
 -- ---- a leaf
 

@@ -1,11 +1,6 @@
-pub mod Clocked
-pub mod Giving
 pub mod InTime
 pub mod Lists
-pub mod MadeClear
-pub mod MadeWithin
 pub mod Received
-pub mod Register
 pub mod Reported
 pub mod Sent
 pub mod Wanting

@@ -20,10 +20,11 @@ use Rattle.pdh_chain.specs.declared.chain.Chain.{Chain}
 use Rattle.pdh_nesting.specs.Receiving.{far}
 use Rattle.pdh_chain.proofs.ChainLaws.{few_leaves}
 use Rattle.pdh_lab.specs.declared.report.Drill.{Drill}
-use Rattle.pdh_lab.specs.Drill.{entered_of, out_of, is_equal, late_of, drill_upto, line_of, output_of}
-use Rattle.pdh_lab.specs.Steps.{IsClockOf, with_leaf, HasRoom}
+use Rattle.pdh_lab.specs.Drill.{out_of, is_equal, late_of, drill_upto, line_of, output_of}
+use Rattle.pdh_patterns.specs.Leaves.{entered_of, IsClockOf}
+use Rattle.pdh_lab.specs.Steps.{with_leaf, HasRoom}
 use Rattle.pdh_lab.proofs.InTime.{sum_next, most_next, out_fewer}
-use Rattle.pdh_lab.proofs.Sent.{entered_few}
+use Rattle.pdh_patterns.proofs.Entered.{entered_few}
 
 -- ---- a prefix of a pattern
 

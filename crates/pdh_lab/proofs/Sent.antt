@@ -1,12 +1,10 @@
 -- What making the line of a drill never meets, and the line that is made.
-use Rattle.std.proofs.Common.{◌≡◌, ℕ, zero, suc, ◌*◌, ◌<◌, ◌≤◌, ◌^◌, List, [], ◌∷◌, ◌++◌, Bool, false, length, get_or, refl, ap, sym, ◌∙◌, subst, arith, Option, Some, None}
-use Rattle.std.specs.Prelude.{IsTrue, IsNone, map, nat_lt, slice_get, slice_index_or}
+use Rattle.std.proofs.Common.{◌≡◌, ℕ, zero, suc, ◌*◌, ◌<◌, ◌≤◌, List, [], ◌∷◌, ◌++◌, Bool, false, length, get_or, refl, ap, sym, ◌∙◌, subst, arith, Option, Some, None}
+use Rattle.std.specs.Prelude.{IsTrue, map, nat_lt, slice_get, slice_index_or}
 use Rattle.pdh_bits.specs.BitOut.{BoundedBits}
-use Rattle.std.proofs.lemmas.Bool.{ltb-true, false≢true}
+use Rattle.std.proofs.lemmas.Bool.{ltb-true}
 use Rattle.std.proofs.lemmas.List.{get_or_append_left}
-use Rattle.std.proofs.Math.Nat.{mul-le-mul}
 use Rattle.pdh_shape.specs.Frame.{FrameShape}
-use Rattle.pdh_shape.specs.OwnNumbers.{most_frames, most_slots}
 use Rattle.pdh_shape.specs.declared.place.Path.{Path}
 use Rattle.pdh_shape.specs.declared.place.Place.{Place}
 use Rattle.pdh_line.specs.Sending.Mode.{Plain}
@@ -15,49 +13,25 @@ use Rattle.pdh_line.proofs.SentFrames.{length-front}
 use Rattle.pdh_edge.specs.Files.{Rose}
 use Rattle.pdh_edge.specs.Ports.{Inputs, Outputs, before, after}
 use Rattle.pdh_edge.specs.MemLists.{inputs_of, outputs_of, items_of, length_of, bits_held}
-use Rattle.pdh_nesting.specs.Chains.{width, top_len, AreFrames}
+use Rattle.pdh_nesting.specs.Chains.{width, top_len}
 use Rattle.pdh_nesting.specs.Events.{first_event}
-use Rattle.pdh_nesting.specs.Sending.{AllScheduled, entered_below}
 use Rattle.pdh_nesting.proofs.Given.{given-entered}
 use Rattle.pdh_clock.specs.Row.{Row}
-use Rattle.pdh_clock.specs.Begun.{Shortage, shortage, bits_entered}
 use Rattle.pdh_clock.specs.Contents.{Contents, counts, frame_count}
 use Rattle.pdh_chain.specs.Saying.{says_of}
-use Rattle.pdh_chain.specs.Trees.{AreLevelsOf}
 use Rattle.pdh_chain.specs.declared.chain.Chain.{Chain}
 use Rattle.pdh_chain.specs.Chains.{shapes_of, leaves_of}
 use Rattle.pdh_chain.specs.Muxes.{StopsForFrame, StopsAtEnd, StopsAtEvent, PutsPrefix, frames_of_line}
-use Rattle.pdh_chain.proofs.ChainLaws.{are_frames, are_levels_of}
-use Rattle.pdh_chain.proofs.Scheduled.{all_scheduled as all_scheduled_of, entered_small, entered_is, none_lacks_below}
+use Rattle.pdh_chain.proofs.ChainLaws.{are_frames}
+use Rattle.pdh_chain.proofs.Scheduled.{none_lacks_below}
 use Rattle.pdh_chain.proofs.ShortLists.{mux_short}
-use Rattle.pdh_lab.specs.Pattern.{pattern_bit}
-use Rattle.pdh_lab.specs.Drill.{entered_of, input_of, line_of}
-use Rattle.pdh_lab.specs.Steps.{IsClockOf, AreInputs, CanSend, IsSent}
-use Rattle.pdh_lab.proofs.InTime.{no_event}
+use Rattle.pdh_patterns.specs.Pattern.{pattern_bit}
+use Rattle.pdh_lab.specs.Drill.{line_of}
+use Rattle.pdh_patterns.specs.Leaves.{entered_of, input_of, IsClockOf}
+use Rattle.pdh_lab.specs.Steps.{AreInputs, CanSend, IsSent}
+use Rattle.pdh_patterns.proofs.Entered.{no_event, entered_there, all_scheduled}
 
--- ---- what the schedule answers
-
-none_of : (short : Option Shortage) → IsNone short → short ≡ None
-none_of None none = refl
-none_of (Some short) none = absurd (false≢true (sym none))
-
-module _ (chain : Chain) (frames : ℕ) (clock : Contents) (is : IsClockOf chain frames clock) where
-  entered_there : (k : ℕ) → entered_below (shapes_of chain) (counts clock.rows) [] (frames * top_len (shapes_of chain)) k ≡ entered_of chain frames k
-  entered_there k = ap (λ c. entered_below (shapes_of chain) c [] (frames * top_len (shapes_of chain)) k) is.counts_are
-
-  -- how many bits of a leaf enter,
-  pub entered_answer : (k : ℕ) → bits_entered clock frames k ≡ entered_of chain frames k
-  entered_answer k = entered_is chain clock frames k is.levels ∙ entered_there k
-
-  -- which is few bits
-  pub entered_few : (k : ℕ) → frames ≤ most_frames → k < leaves_of chain → entered_of chain frames k < 2 ^ 32
-  entered_few k few low = omega (arith, entered_there k, entered_small chain clock.rows frames k is.sound few low)
-
-  -- ---- what is never met
-
-  -- each node has the frames that it begins
-  pub all_scheduled : AllScheduled (shapes_of chain) (counts clock.rows) (frame_count clock.rows) [] (frames * top_len (shapes_of chain))
-  all_scheduled = all_scheduled_of (shapes_of chain) clock frames (subst (AreLevelsOf (shapes_of chain)) (sym is.levels) (are_levels_of chain)) (none_of (shortage clock frames) is.enough)
+-- ---- what is never met
 
 pub has_frames : (chain : Chain) (frames : ℕ) (clock : Contents) (node : Path) → IsClockOf chain frames clock → StopsForFrame (shapes_of chain) (counts clock.rows) (frame_count clock.rows) frames node → ⊥
 has_frames chain frames clock node is stops =
@@ -143,14 +117,7 @@ line_sent chain seed frames clock leaves line inputs inputs_now outputs outputs_
         let told : inputs.told k ≡ Some (input_of chain seed frames k) = ap (λ (o : Inputs). o.told k) inputs_are ∙ input_told chain seed frames leaves k are low in
         begins (inputs_now.told k) (sent.line.given k) (input_of chain seed frames k) (sym told ∙ sent.line.takes.bits k) i h
 
--- it is few bits
-top_few : (shapes : List FrameShape) → AreFrames shapes → top_len shapes ≤ most_slots
-top_few [] are = omega arith
-top_few (s ∷ below) are = are.0.few_slots
-
-pub few_bits : (chain : Chain) (frames : ℕ) → frames ≤ most_frames → frames * top_len (shapes_of chain) < 2 ^ 32
-few_bits chain frames few = let most : frames * top_len (shapes_of chain) ≤ most_frames * most_slots = mul-le-mul few (top_few (shapes_of chain) (are_frames chain)) in omega arith
-
+-- its length
 pub length-line : (chain : Chain) (seed frames : ℕ) → length (line_of chain seed frames) ≡ frames * top_len (shapes_of chain)
 unfolding line_of
 length-line chain seed frames = length-front _ (frames * top_len (shapes_of chain))

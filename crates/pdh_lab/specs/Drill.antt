@@ -1,38 +1,18 @@
 -- The drill: the leaves of a chain give test patterns, their line is taken apart again, and what comes back is compared with
 -- what they gave. The report is on all leaves together.
-use Rattle.std.specs.Prelude.{◌≡◌, ℕ, ◌-◌, ◌*◌, ◌≤◌, Bool, max, List, [], None, fold, map, sum_by, count_by, length, slice_index}
+use Rattle.std.specs.Prelude.{◌≡◌, ℕ, ◌-◌, ◌≤◌, Bool, max, List, None, fold, map, sum_by, count_by, length}
 use Rattle.std.specs.Bool.{beq}
-use Rattle.std.specs.List.{range_with_len, slice_index_or, starts_with}
-use Rattle.pdh_clock.specs.Made.{made}
-use Rattle.pdh_clock.specs.declared.bias.Bias.TheVariants.{Mixed}
+use Rattle.std.specs.List.{range_with_len, starts_with}
 use Rattle.pdh_line.specs.Sending.Mode.{Plain}
-use Rattle.pdh_line.specs.Nodes.{Counts}
-use Rattle.pdh_nesting.specs.Chains.{top_len}
-use Rattle.pdh_nesting.specs.Sending.{entered_below}
 use Rattle.pdh_nesting.specs.Receiving.{far}
-use Rattle.pdh_chain.specs.Chains.{shapes_of, levels_of, leaves_of, delay_of}
+use Rattle.pdh_chain.specs.Chains.{shapes_of, leaves_of, delay_of}
 use Rattle.pdh_chain.specs.Saying.{says_of}
 use Rattle.pdh_chain.specs.Muxes.{frames_of_line}
 use Rattle.pdh_chain.specs.declared.chain.Chain.{Chain}
 use Rattle.pdh_lab.specs.declared.report.Drill.{Drill}
-use Rattle.pdh_lab.specs.Pattern.{pattern}
+use Rattle.pdh_patterns.specs.Leaves.{made_counts, entered_of, input_of}
 
--- ---- the schedule
-
--- how many bits of a tributary arrive in each frame of the made schedule of so many frames, in which neighbouring streams are
--- off to opposite sides
-unfoldable pub made_counts : Chain → ℕ → Counts
-made_counts chain frames path trib frame = slice_index (slice_index_or (made (levels_of chain) Mixed frames path) frame []) trib
-
--- how many bits of a leaf enter
-abbrev pub entered_of : Chain → ℕ → ℕ → ℕ
-entered_of chain frames leaf = entered_below (shapes_of chain) (made_counts chain frames) [] (frames * top_len (shapes_of chain)) leaf
-
--- ---- the leaves and the line
-
--- what a leaf gives: as many bits of its pattern as enter
-abbrev pub input_of : Chain → ℕ → ℕ → ℕ → List Bool
-input_of chain seed frames leaf = pattern seed leaf (entered_of chain frames leaf)
+-- ---- the line
 
 -- the line of these leaves, whose top's frames are idle
 unfoldable pub line_of : Chain → ℕ → ℕ → List Bool

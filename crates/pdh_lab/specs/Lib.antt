@@ -1,4 +1,2 @@
 pub mod Drill
-pub mod Pattern
-pub mod Patterns
 pub mod Steps

@@ -1,25 +1,16 @@
 -- The steps of a drill: the schedule, the leaves' lists, the line, and what comes back.
-use Rattle.std.specs.Prelude.{◌≡◌, ℕ, ◌+◌, ◌-◌, ◌<◌, ◌≤◌, ◌^◌, Bool, max, if◌then◌else◌, IsTrue, IsNone, List, [], All, None, Some, length, slice_index_or}
+use Rattle.std.specs.Prelude.{◌≡◌, ℕ, ◌+◌, ◌-◌, ◌<◌, ◌≤◌, ◌^◌, Bool, max, if◌then◌else◌, IsTrue, List, None, Some, length, slice_index_or}
 use Rattle.pdh_bits.specs.BitOut.{BoundedBits}
 use Rattle.pdh_edge.specs.Ports.{Inputs, Outputs}
 use Rattle.pdh_line.specs.Sending.Mode.{Plain}
 use Rattle.pdh_nesting.specs.Receiving.{far}
-use Rattle.pdh_clock.specs.Contents.{Contents, IsRowOf, counts, frame_count}
-use Rattle.pdh_clock.specs.Begun.{shortage}
-use Rattle.pdh_chain.specs.Chains.{shapes_of, levels_of, leaves_of}
+use Rattle.pdh_clock.specs.Contents.{Contents, counts, frame_count}
+use Rattle.pdh_chain.specs.Chains.{shapes_of, leaves_of}
 use Rattle.pdh_chain.specs.Saying.{says_of}
 use Rattle.pdh_chain.specs.Muxes.{Muxes}
 use Rattle.pdh_chain.specs.declared.chain.Chain.{Chain}
 use Rattle.pdh_lab.specs.declared.report.Drill.{Drill}
-use Rattle.pdh_lab.specs.Drill.{made_counts, entered_of, input_of}
-
--- the made schedule of so many frames of a chain
-pub record IsClockOf (chain : Chain) (frames : ℕ) (clock : Contents) : Type 0 where
-  pub levels : clock.levels ≡ levels_of chain
-  pub counts_are : counts clock.rows ≡ made_counts chain frames
-  pub sound : All (IsRowOf (levels_of chain)) clock.rows
-  pub top : frame_count clock.rows [] ≡ frames
-  pub enough : IsNone (shortage clock frames)
+use Rattle.pdh_patterns.specs.Leaves.{entered_of, input_of}
 
 -- so many lists, each with what its leaf gives
 pub record AreInputs (chain : Chain) (seed frames leaves : ℕ) (lists : List BoundedBits) : Type 0 where

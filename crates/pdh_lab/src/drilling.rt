@@ -4,12 +4,11 @@ ghost use Rattle.std.specs.Prelude.{◌≡◌, ◌≤◌, ◌<◌, IfOk};
 ghost use Rattle.std.specs.Bool.{beq};
 ghost use Rattle.std.specs.List.{starts_with};
 ghost use Rattle.pdh_shape.specs.OwnNumbers.{most_frames};
-ghost use Rattle.pdh_lab.specs.Pattern.{pattern};
+ghost use Rattle.pdh_patterns.specs.Pattern.{pattern};
 ghost use Rattle.pdh_lab.specs.Drill.{drill_of, line_of, IsInTime};
-ghost use Rattle.pdh_lab.specs.Steps.{IsClockOf, HaveReceived};
+ghost use Rattle.pdh_lab.specs.Steps.{HaveReceived};
+ghost use Rattle.pdh_patterns.specs.Leaves.{IsClockOf};
 
-use crate::leaves::clock_of;
-use crate::pattern::Pattern;
 use crate::receiving::receive;
 use crate::report::Drill;
 use crate::sending::line_from;
@@ -17,6 +16,7 @@ use pdh_chain::{Chain, leaves};
 use pdh_clock::Schedule;
 use pdh_edge::{Drain, MemPort};
 use pdh_packed::Packed;
+use pdh_patterns::{Pattern, clock_of};
 use std::alloc::{AllocError, Global};
 
 // Whether bits are a prefix of the first bits of a leaf's pattern, so many.

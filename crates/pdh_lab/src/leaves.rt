@@ -1,24 +1,17 @@
-//! The schedule of a drill, and what its leaves give.
+//! What the leaves of a drill give.
 
 ghost use Rattle.std.specs.Prelude.{◌≡◌, ◌<◌, ◌≤◌, IfOk};
 ghost use Rattle.pdh_shape.specs.OwnNumbers.{most_frames};
 ghost use Rattle.pdh_chain.specs.Chains.{leaves_of};
-ghost use Rattle.pdh_lab.specs.Pattern.{pattern};
-ghost use Rattle.pdh_lab.specs.Steps.{IsClockOf, AreInputs};
+ghost use Rattle.pdh_patterns.specs.Pattern.{pattern};
+ghost use Rattle.pdh_lab.specs.Steps.{AreInputs};
+ghost use Rattle.pdh_patterns.specs.Leaves.{IsClockOf};
 
-use crate::pattern::Pattern;
 use pdh_chain::{Chain, leaves};
-use pdh_clock::{Bias, Schedule};
+use pdh_clock::Schedule;
 use pdh_packed::Packed;
+use pdh_patterns::Pattern;
 use std::alloc::{AllocError, Global};
-
-/// The schedule of so many frames in which neighbouring streams are off to opposite sides.
-pub fn clock_of(alloc: Global, chain: Chain, frames: u64) -> Result<Schedule, AllocError>
-    requires { frames ≤ most_frames }
-    ensures { IfOk result (λ clock. IsClockOf chain frames clock) }
-{
-    Schedule::from_ppm(alloc, chain.levels(), frames, Bias::Mixed)
-}
 
 // The first bits of a leaf's pattern, so many.
 fn pattern_of(alloc: Global, seed: u64, leaf: u32, bits: usize) -> Result<Packed, AllocError>

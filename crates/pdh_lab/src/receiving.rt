@@ -66,7 +66,7 @@ fn deliver(alloc: Global, chain: Chain, bits: u64, port: &mut MemPort) -> Result
     ensures ok { IfOk result (λ frames. Demuxes (shapes_of chain) (λ events. ⊤) bits frames (⟦<MemPort as Feed>⟧.inputs port.old) (⟦<MemPort as Feed>⟧.inputs port.new) (⟦<MemPort as Drain>⟧.outputs port.old) (⟦<MemPort as Drain>⟧.outputs port.new)) }
     ensures leaves { (k : ℕ) → k < leaves_of chain → IsTrue ((⟦<MemPort as Drain>⟧.outputs port.new).holds k) }
 {
-    match pdh_chain::demux(alloc, chain, bits, port, &mut Quiet) {
+    match pdh_demux::demux(alloc, chain, bits, port, &mut Quiet) {
         Ok(frames) => Ok(frames),
         // The line has its bits; the port gives them, and has room.
         Err(stop) => Err(wanting(stop)),

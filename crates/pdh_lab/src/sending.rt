@@ -7,7 +7,8 @@ ghost use Rattle.pdh_shape.specs.OwnNumbers.{most_frames};
 ghost use Rattle.pdh_chain.specs.Chains.{shapes_of};
 ghost use Rattle.pdh_chain.specs.declared.stop.MuxStop.TheVariants.{Memory};
 ghost use Rattle.pdh_lab.specs.Drill.{line_of};
-ghost use Rattle.pdh_lab.specs.Steps.{IsClockOf, CanSend, IsSent};
+ghost use Rattle.pdh_lab.specs.Steps.{CanSend, IsSent};
+ghost use Rattle.pdh_patterns.specs.Leaves.{IsClockOf};
 
 use crate::leaves::inputs_of;
 use pdh_chain::{Chain, MuxStop, frame_bytes};
@@ -55,7 +56,7 @@ fn send(
     ensures ok { OnOk result (IsSent chain frames clock.now (⟦<MemPort as Feed>⟧.inputs port.old) (⟦<MemPort as Feed>⟧.inputs port.new) (⟦<MemPort as Drain>⟧.outputs port.old) (⟦<MemPort as Drain>⟧.outputs port.new)) }
     ensures line { IsTrue ((⟦<MemPort as Drain>⟧.outputs port.new).holds 0) }
 {
-    match pdh_chain::mux(alloc, chain, clock, frames, None, port) {
+    match pdh_mux::mux(alloc, chain, clock, frames, None, port) {
         Ok(()) => Ok(()),
         // The schedule is within the tolerance, and long enough, as the leaves are; the port gives its
         // bits, and has room.

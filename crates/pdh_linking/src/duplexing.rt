@@ -20,8 +20,8 @@ use pdh_edge::Shelf;
 use pdh_runner::files::{read, size};
 use pdh_script::{MOST_SCRIPT_BYTES, Script};
 use pdh_shape::MOST_DRILLED;
+use pdh_text::Text;
 use pdh_watch::{Members, Monitor, Quiet};
-use pdh_words::Text;
 use std::alloc::{AllocError, Global};
 use std::mem;
 

@@ -17,7 +17,7 @@ use pdh_edge::Shelf;
 use pdh_levels::{level_of, node_at, node_count};
 use pdh_runner::files::{append, size, start};
 use pdh_shape::{MOST_FRAMES, Path};
-use pdh_words::Text;
+use pdh_text::Text;
 use std::alloc::Global;
 
 // A tributary that isn't within the tolerance: its node, its number from 1, and the first run of frames that breaks it.

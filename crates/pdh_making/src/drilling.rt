@@ -9,7 +9,7 @@ use pdh_answers::{Done, Stop};
 use pdh_chain::Chain;
 use pdh_lab::Drill;
 use pdh_shape::MOST_DRILLED;
-use pdh_words::Text;
+use pdh_text::Text;
 use std::alloc::Global;
 
 // Appends the report of a drill.

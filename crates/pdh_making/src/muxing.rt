@@ -172,7 +172,7 @@ impl MuxPlan {
             → ComesOut (muxing self.now.chain self.now.feac) begun (over (S.state port.old.shelf) port.old.blocks) (over (S.state port.new.shelf) port.new.blocks) result }
     {
         let frames = self.plan.frames;
-        match pdh_chain::mux(alloc, self.chain, &self.plan.clock, frames, self.feac, port) {
+        match pdh_mux::mux(alloc, self.chain, &self.plan.clock, frames, self.feac, port) {
             Ok(()) => Outcome::Whole(Ok(says(self.chain, frames))),
             // The schedule and the leaves are long enough.
             Err(stop) => outcome_of(stop),

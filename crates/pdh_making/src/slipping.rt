@@ -21,8 +21,8 @@ use pdh_blocks::ShelfPort;
 use pdh_chain::{Chain, MuxStop};
 use pdh_edge::{Shelf, Sink};
 use pdh_runner::{Ended, Outcome, PortFiles, Work, Worked, run_over};
+use pdh_text::Text;
 use pdh_watch::Monitor;
-use pdh_words::Text;
 use std::alloc::{AllocError, Global};
 
 // What is made: the chain's line by this plan.
@@ -81,7 +81,7 @@ impl MuxSlipPlan {
             → WorkLogsSlips (muxing_slips self.now.chain) begun result (log_state (K.state log.old.out) log.old.told) (log_state (K.state log.new.out) log.new.told) }
     {
         let frames = self.plan.frames;
-        match pdh_chain::mux_slips(alloc, self.chain, &self.plan.clock, frames, port, log) {
+        match pdh_mux::mux_slips(alloc, self.chain, &self.plan.clock, frames, port, log) {
             Ok(()) => Outcome::Whole(Ok(says(self.chain, frames, log.told))),
             // The schedule and the leaves are long enough.
             Err(stop) => outcome_of(stop),

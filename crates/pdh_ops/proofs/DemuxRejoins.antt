@@ -14,7 +14,7 @@ use Rattle.pdh_watch.specs.Monitors.{State}
 use Rattle.pdh_answers.specs.Answer.{Answer}
 use Rattle.pdh_answers.specs.Lines.{IsTold}
 use Rattle.pdh_answers.specs.Names.{name_of, line_file, line_name}
-use Rattle.pdh_words.specs.declared.commands.Bits.{Bits}
+use Rattle.pdh_answers.specs.declared.file.Bits.{Bits}
 use Rattle.pdh_words.specs.declared.commands.Command.{Command}
 use Rattle.pdh_words.specs.declared.commands.Command.TheVariants.{Mux, Disturb, Demux}
 use Rattle.pdh_making.specs.Schedules.{rows_in}

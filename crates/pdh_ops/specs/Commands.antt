@@ -8,7 +8,8 @@ use Rattle.pdh_streams.specs.Ds1.{ds1_codec}
 use Rattle.pdh_recorded.specs.Demux.{demuxing}
 use Rattle.pdh_making.specs.Mux.{muxing, muxing_slips}
 use Rattle.pdh_making.specs.Clock.{checking, making}
-use Rattle.pdh_recorded.specs.Inspect.{inspecting, inspecting_e1, showing}
+use Rattle.pdh_recorded.specs.Inspect.{inspecting, showing}
+use Rattle.pdh_streams.specs.Inspect.{inspecting_e1}
 use Rattle.pdh_recorded.specs.Disturb.{disturbing}
 use Rattle.pdh_making.specs.Drill.{drilling}
 use Rattle.pdh_recorded.specs.Smooth.{smoothing}

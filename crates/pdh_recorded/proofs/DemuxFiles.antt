@@ -15,8 +15,8 @@ use Rattle.pdh_chain.specs.declared.chain.Chain.{Chain}
 use Rattle.pdh_chain.proofs.ChainLaws.{few_leaves}
 use Rattle.pdh_blocks.specs.Lists.{inputs_of}
 use Rattle.pdh_blocks.specs.Held.{AllDiffer}
-use Rattle.pdh_words.specs.declared.commands.Bits.{Bits}
-use Rattle.pdh_words.specs.declared.commands.Bits.TheVariants.{Line as Recorded, Bent as Disturbed}
+use Rattle.pdh_answers.specs.declared.file.Bits.{Bits}
+use Rattle.pdh_answers.specs.declared.file.Bits.TheVariants.{Line as Recorded, Bent as Disturbed}
 use Rattle.pdh_answers.specs.Names.{name_of, line_file, output_name}
 use Rattle.pdh_answers.specs.Answer.{and_then}
 use Rattle.pdh_runner.specs.Lines.{line_of, frames_of}

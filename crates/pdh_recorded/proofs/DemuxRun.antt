@@ -18,7 +18,7 @@ use Rattle.pdh_blocks.specs.State.{PortState}
 use Rattle.pdh_blocks.specs.Lists.{inputs_of, outputs_of}
 use Rattle.pdh_blocks.specs.Held.{IsPort}
 use Rattle.pdh_blocks.specs.laws.PortLaws.{left_is}
-use Rattle.pdh_words.specs.declared.commands.Bits.{Bits}
+use Rattle.pdh_answers.specs.declared.file.Bits.{Bits}
 use Rattle.pdh_answers.specs.Names.{name_of}
 use Rattle.pdh_recorded.specs.Demux.{frames_received, output_of, demuxing, demux_says}
 use Rattle.pdh_runner.specs.Operation.{AreTold, Files, bytes_in}

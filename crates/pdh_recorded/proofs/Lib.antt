@@ -6,7 +6,6 @@ pub mod LineComes
 pub mod DemuxFiles
 pub mod SmoothFiles
 pub mod SmoothRun
-pub mod InspectFiles
 pub mod DisturbComes
 pub mod DisturbFiles
 pub mod InspectWatched

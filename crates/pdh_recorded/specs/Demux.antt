@@ -9,7 +9,7 @@ use Rattle.pdh_answers.specs.Answer.{Answer, and_then}
 use Rattle.pdh_answers.specs.declared.answer.Stop.TheVariants.{NoAlignment}
 use Rattle.pdh_answers.specs.Names.{name_of, line_file, output_name}
 use Rattle.pdh_runner.specs.Operation.{Operation, one_name, all_in_run, due_at_outputs, Files, bytes_in}
-use Rattle.pdh_words.specs.declared.commands.Bits.{Bits}
+use Rattle.pdh_answers.specs.declared.file.Bits.{Bits}
 use Rattle.pdh_answers.specs.declared.answer.Done.TheVariants.{Line}
 use Rattle.pdh_answers.specs.declared.answer.Done.{Done}
 use Rattle.pdh_runner.specs.Lines.{line_of}

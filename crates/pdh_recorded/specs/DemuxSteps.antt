@@ -7,7 +7,7 @@ use Rattle.pdh_blocks.specs.State.{PortState}
 use Rattle.pdh_blocks.specs.Lists.{inputs_of, outputs_of}
 use Rattle.pdh_chain.specs.Chains.{leaves_of}
 use Rattle.pdh_chain.specs.declared.chain.Chain.{Chain}
-use Rattle.pdh_words.specs.declared.commands.Bits.{Bits}
+use Rattle.pdh_answers.specs.declared.file.Bits.{Bits}
 use Rattle.pdh_answers.specs.Names.{name_of, line_file}
 use Rattle.pdh_recorded.specs.Demux.{demuxed, demuxing}
 use Rattle.pdh_runner.specs.Operation.{OfInputs, bytes_in}

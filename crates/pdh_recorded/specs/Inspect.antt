@@ -3,20 +3,16 @@ use Rattle.std.specs.Prelude.{ℕ, suc, ◌*◌, nat_lt, Bool, List, Option, Som
 use Rattle.pdh_bits.specs.Bits.{bits_of, bytes_of}
 use Rattle.pdh_chain.specs.Chains.{frame_bytes_of, name_of as name_of_chain}
 use Rattle.pdh_chain.specs.declared.chain.Chain.{Chain}
-use Rattle.pdh_g706.specs.Tracking.{multiframes_in, counted}
-use Rattle.pdh_inspect.specs.Seen.{line_events, framed_events, events_counted, line_bits_events}
+use Rattle.pdh_inspect.specs.Seen.{line_events, events_counted, line_bits_events}
 use Rattle.pdh_show.specs.Shown.{shown}
 use Rattle.pdh_answers.specs.Answer.{Answer, and_then}
 use Rattle.pdh_runner.specs.Lines.{line_of}
 use Rattle.pdh_recorded.specs.Demux.{frames_received}
-use Rattle.pdh_answers.specs.declared.file.File.TheVariants.{Line, E1Line}
+use Rattle.pdh_answers.specs.declared.file.File.TheVariants.{Line}
 use Rattle.pdh_answers.specs.declared.answer.Stop.{Stop}
 use Rattle.pdh_answers.specs.declared.answer.Stop.TheVariants.{Short}
-use Rattle.pdh_answers.specs.Names.{name_of, line_file, line_name, e1_name}
-use Rattle.pdh_g706.specs.Events.{e1_events}
-use Rattle.pdh_words.specs.declared.commands.Bits.{Bits}
-use Rattle.pdh_streams.specs.Codecs.{framed_of}
-use Rattle.pdh_streams.specs.E1.{e1_codec}
+use Rattle.pdh_answers.specs.Names.{name_of, line_file, line_name}
+use Rattle.pdh_answers.specs.declared.file.Bits.{Bits}
 use Rattle.pdh_runner.specs.Operation.View.{EventsOfFile}
 use Rattle.pdh_runner.specs.Operation.{Operation, no_names, one_name, no_bytes, all_in_run, due_at_outputs, Files}
 use Rattle.pdh_answers.specs.declared.answer.Done.TheVariants.{Watched, Frame}
@@ -32,14 +28,6 @@ inspect_says chain frames events = Watched (codes "inspect " ++ name_of_chain ch
 unfoldable pub inspected : Chain → List ℕ → Answer
 inspected chain line = Ok (inspect_says chain (frames_received chain line) (events_counted (line_events chain line)))
 
--- the same of so many multiframes
-abbrev pub inspect_e1_says : ℕ → ℕ → Done
-inspect_e1_says multiframes events = Watched (codes "inspect e1: multiframes " ++ decimal multiframes ++ codes " events " ++ decimal events ++ codes "\n")
-
--- how many multiframes of a framed line are delivered, and how many events it has
-unfoldable pub e1_inspected : List ℕ → Answer
-e1_inspected line = Ok (inspect_e1_says (counted (multiframes_in (bits_of line))) (events_counted (framed_events line)))
-
 abbrev pub inspect_comes : Chain → Bits → Files → Answer
 inspect_comes chain bits files = and_then (line_of (line_file bits) chain (files (name_of (line_file bits)))) (inspected chain)
 
@@ -53,22 +41,6 @@ inspecting chain bits = record {
   reads_in_run = all_in_run;
   is_due = due_at_outputs (inspect_comes chain bits);
   shows = Some (EventsOfFile (line_file bits) (line_bits_events chain));
-  tells = None;
-}
-
-abbrev pub inspect_e1_comes : Files → Answer
-inspect_e1_comes files = and_then (framed_of e1_codec (files e1_name)) e1_inspected
-
--- `inspect e1`
-abbrev pub inspecting_e1 : Operation
-inspecting_e1 = record {
-  inputs = one_name e1_name;
-  outputs = no_names;
-  bytes = no_bytes;
-  comes_to = inspect_e1_comes;
-  reads_in_run = all_in_run;
-  is_due = due_at_outputs inspect_e1_comes;
-  shows = Some (EventsOfFile E1Line e1_events);
   tells = None;
 }
 

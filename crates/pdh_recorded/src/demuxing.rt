@@ -13,13 +13,12 @@ ghost use Rattle.pdh_runner.specs.Lines.{IsLine};
 ghost use Rattle.pdh_recorded.specs.DemuxSteps.{AreLeafOutputs, CanReceive, IsDemuxPort};
 
 use crate::apart::outcome_of;
-use pdh_answers::{Done, File, SinkLog, Stop, chain_counted, leaf_count};
+use pdh_answers::{Bits, Done, File, SinkLog, Stop, chain_counted, leaf_count};
 use pdh_blocks::ShelfPort;
 use pdh_chain::Chain;
 use pdh_edge::{Shelf, Sink};
 use pdh_runner::{Ended, Input, Outcome, PortFiles, Work, Worked, line_of, run_over};
 use pdh_watch::{Monitor, Quiet};
-use pdh_words::Bits;
 use std::alloc::{AllocError, Global};
 
 // The line that is taken apart.
@@ -61,7 +60,7 @@ impl DemuxPlan {
             → ComesOut (demuxing self.now.chain self.now.bits) begun (over (S.state port.old.shelf) port.old.blocks) (over (S.state port.new.shelf) port.new.blocks) result }
     {
         let bits = self.line.bits;
-        match pdh_chain::demux(alloc, self.chain, bits, port, &mut Quiet) {
+        match pdh_demux::demux(alloc, self.chain, bits, port, &mut Quiet) {
             Ok(frames) => {
                 if frames == 0 {
                     return Outcome::Whole(Err(Stop::NoAlignment(bits)));

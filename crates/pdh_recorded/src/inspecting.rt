@@ -2,38 +2,27 @@
 
 ghost use Rattle.std.specs.Prelude.{◌≡◌, map};
 ghost use Rattle.pdh_answers.specs.Names.{line_file};
-ghost use Rattle.pdh_answers.specs.declared.file.File.TheVariants.{E1Line};
 ghost use Rattle.pdh_answers.specs.SlipLines.{log_state};
-ghost use Rattle.pdh_recorded.specs.Inspect.{inspect_says, inspect_e1_says, inspecting, inspecting_e1, inspected, e1_inspected};
+ghost use Rattle.pdh_recorded.specs.Inspect.{inspect_says, inspecting, inspected};
 ghost use Rattle.pdh_runner.specs.Performing.{Performs, IsWatched};
 ghost use Rattle.pdh_recorded.specs.laws.InspectLaws.{inspect_reads};
-ghost use Rattle.pdh_streams.specs.E1.{e1_codec};
-ghost use Rattle.pdh_streams.specs.Steps.{IsFramedLine};
-ghost use Rattle.pdh_runner.specs.LineSteps.{CanRead, IsLinePort};
 
 use crate::line_work::{LineWork, run_line};
-use pdh_answers::{Done, File, SinkLog, Stop};
+use pdh_answers::{Bits, Done, File, SinkLog};
 use pdh_blocks::ShelfPort;
 use pdh_chain::Chain;
 use pdh_edge::{Shelf, Sink};
-use pdh_inspect::{LineStop, inspect_framed, inspect_line};
-use pdh_runner::{Ended, Input, Outcome, PortFiles, Work, Worked, run_over};
-use pdh_streams::{E1, framed_line};
+use pdh_inspect::{LineStop, inspect_line};
+use pdh_runner::{Ended, Outcome, Worked};
+use pdh_text::Text;
 use pdh_watch::Monitor;
-use pdh_words::{Bits, Text};
-use std::alloc::{AllocError, Global};
+use std::alloc::Global;
 
 // The inspection of a line of a chain.
 #[derive(Drop)]
 struct Inspection {
     chain: Chain,
     bits: Bits,
-}
-
-// The framed line that is inspected.
-#[derive(Drop)]
-struct FramedPlan {
-    line: Input,
 }
 
 // The line of what an inspection of a chain's line found.
@@ -46,20 +35,6 @@ fn says(chain: Chain, frames: u64, events: u64) -> Done
     text.text(chain.name());
     text.text(": frames ");
     text.number(frames);
-    text.text(" events ");
-    text.number(events);
-    text.text("\n");
-    Done::Watched(text)
-}
-
-// The line of what an inspection of a framed 2048 kbit/s line found.
-#[tactic(auto, using(pdh_text::proofs::Lengths::digits))]
-fn says_of_e1(multiframes: u64, events: u64) -> Done
-    ensures { result ≡ inspect_e1_says multiframes events }
-{
-    let mut text = Text::new();
-    text.text("inspect e1: multiframes ");
-    text.number(multiframes);
     text.text(" events ");
     text.number(events);
     text.text("\n");
@@ -123,59 +98,4 @@ pub fn inspect<S: Shelf, K: Sink>(
     ensures hears { log_state (K.state log.new.out) log.new.told ≡ log_state (K.state log.old.out) log.old.told }
 {
     run_line(alloc, Inspection { chain, bits }, shelf, monitors, log)
-}
-
-impl Work for FramedPlan {
-    ghost operation = { λ p. inspecting_e1 };
-
-    ghost planned = { λ p state. IsFramedLine e1_codec p.line state };
-
-    ghost opened = { λ p port. CanRead p.line.bits port };
-
-    ghost gives = { λ p begun port. IsLinePort inspecting_e1 E1Line e1_inspected p.line begun port };
-
-    fn files(&self, alloc: Global) -> Result<PortFiles, AllocError> {
-        PortFiles::line(alloc, self.line)
-    }
-
-    fn work<S: Shelf, K: Sink>(
-        &self,
-        alloc: Global,
-        port: ShelfPort<S>,
-        monitors: &mut Vec<Box<dyn Monitor>>,
-        _log: &mut SinkLog<K>,
-    ) -> Worked<S> {
-        let seen = inspect_framed(alloc, self.line.bits, port, monitors);
-        let outcome = match seen.result {
-            Ok(found) => {
-                let done = says_of_e1(found.multiframes, found.events);
-                Outcome::Whole(Ok(done))
-            }
-            Err(LineStop::Memory) => Outcome::Memory,
-            Err(LineStop::Failed) => Outcome::Failed,
-        };
-        Worked {
-            port: seen.feed,
-            outcome,
-        }
-    }
-}
-
-/// Reads the framed line, shows its events to the monitors, and answers the numbers of its delivered multiframes and of its
-/// events.
-pub fn inspect_e1<S: Shelf, K: Sink>(
-    alloc: Global,
-    mut shelf: S,
-    monitors: &mut Vec<Box<dyn Monitor>>,
-    log: &mut SinkLog<K>,
-) -> Ended<S>
-    requires fresh { log.old.told ≡ 0 }
-    ensures performs { Performs inspecting_e1 (S.state shelf) (S.state result.shelf) result.answer }
-    ensures watches { IsWatched inspecting_e1 (S.state shelf) (S.state result.shelf) result.answer (map ⟦<Box<dyn Monitor> as Monitor>⟧.state monitors.old.items) (map ⟦<Box<dyn Monitor> as Monitor>⟧.state monitors.new.items) }
-    ensures hears { log_state (K.state log.new.out) log.new.told ≡ log_state (K.state log.old.out) log.old.told }
-{
-    match framed_line(&E1, &mut shelf) {
-        Ok(line) => run_over(alloc, &FramedPlan { line }, shelf, monitors, log),
-        Err(stop) => Ended::new(shelf, Err(stop)),
-    }
 }

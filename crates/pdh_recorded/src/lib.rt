@@ -12,6 +12,6 @@ mod smoothing;
 
 pub use demuxing::demux;
 pub use disturbing::disturb;
-pub use inspecting::{inspect, inspect_e1};
+pub use inspecting::inspect;
 pub use showing::show;
 pub use smoothing::smooth;

@@ -8,3 +8,5 @@ pub mod StreamLaws
 pub mod StreamFiles
 pub mod StreamRun
 pub mod Ds1Files
+pub mod InspectFiles
+pub mod InspectFramed

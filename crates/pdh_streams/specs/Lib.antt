@@ -5,3 +5,4 @@ pub mod Ds1
 pub mod Steps
 pub mod Delivering
 pub mod Streaming
+pub mod Inspect

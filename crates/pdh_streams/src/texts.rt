@@ -5,7 +5,7 @@ ghost use Rattle.pdh_streams.specs.Texts.{counted_line as line_of_count, found_l
 
 use crate::codec::Found;
 use pdh_answers::Done;
-use pdh_words::Text;
+use pdh_text::Text;
 
 /// Words and a number.
 #[tactic(auto, using(pdh_text::proofs::Lengths::digits))]

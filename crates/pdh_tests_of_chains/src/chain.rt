@@ -6,9 +6,11 @@ ghost use Rattle.pdh_chain.specs.Chains.{leaves_of};
 use crate::chain_sending::{packed, patterns};
 use crate::ports::port_of_line;
 use crate::tx::{make_bits, node};
-use pdh_chain::{Chain, DemuxStop, E2_LEVEL, MuxStop, demux, leaves, mux, mux_slips};
+use pdh_chain::{Chain, DemuxStop, E2_LEVEL, MuxStop, leaves};
 use pdh_clock::Schedule;
+use pdh_demux::demux;
 use pdh_edge::MemPort;
+use pdh_mux::{mux, mux_slips};
 use pdh_packed::Packed;
 use pdh_shape::{Place, TOP};
 use pdh_slips::{KeptSlips, Slip, SlipLog};
@@ -116,9 +118,9 @@ fn ends_and_lengths(rt: HostRuntime) -> Result<(), Fail> {
         ),
     ];
     for (chain, schedule, lengths, end, bits) in cases {
-        assert_eq!(rt; leaves(chain), 4);
+        assert!(rt; leaves(chain) == 4);
         let got = run(rt.alloc(), chain, schedule, lengths)?;
-        assert_eq!(rt; got, (end, bits), "{chain:?}");
+        assert!(rt; got == (end, bits), "{chain:?}");
     }
     Ok(())
 }
@@ -167,19 +169,19 @@ fn stores_slip_and_go_on(rt: HostRuntime) -> Result<(), Fail> {
     let over: &[u8] = b"/ 1 300 206 206 206\n";
     let lists = zeros(alloc, [348, 254, 254, 254])?;
     let (end, line, log) = run_slips(alloc, Chain::E12, over, lists, 8)?;
-    assert_eq!(rt; (end, line.len()), (Ok(()), 848));
-    assert_eq!(rt; log.slips(), [slip(true, 426)].as_slice());
+    assert!(rt; (end, line.len()) == (Ok(()), 848));
+    assert!(rt; log.slips() == [slip(true, 426)].as_slice());
     let under: &[u8] = b"/ 1 0 206 206 206\n";
     let lists = zeros(alloc, [48, 254, 254, 254])?;
     let (end, line, log) = run_slips(alloc, Chain::E12, under, lists, 8)?;
-    assert_eq!(rt; (end, line.len()), (Ok(()), 848));
+    assert!(rt; (end, line.len()) == (Ok(()), 848));
     let slips = [
         slip(false, 204),
         slip(false, 400),
         slip(false, 596),
         slip(false, 792),
     ];
-    assert_eq!(rt; log.slips(), slips.as_slice());
+    assert!(rt; log.slips() == slips.as_slice());
     Ok(())
 }
 
@@ -189,9 +191,8 @@ fn a_full_log_ends_the_line(rt: HostRuntime) -> Result<(), Fail> {
     let rows: &[u8] = b"/ 1 206 206 206 206\n/ 1 0 206 206 206\n";
     let lists = zeros(rt.alloc(), [254, 460, 460, 460])?;
     let (end, line, log) = run_slips(rt.alloc(), Chain::E12, rows, lists, 2)?;
-    assert_eq!(rt; (end, line.len()), (Err(MuxStop::LogFailed), 848));
-    assert_eq!(rt; log.slips().len(), 2);
-    assert_eq!(rt; log.log_faults(), 1);
+    assert!(rt; (end, line.len()) == (Err(MuxStop::LogFailed), 848));
+    assert!(rt; (log.slips().len(), log.log_faults()) == (2, 1));
     Ok(())
 }
 
@@ -219,13 +220,12 @@ fn frames_behind_a_slip_are_as_made_bit_by_bit(rt: HostRuntime) -> Result<(), Fa
     let rows: &[u8] = b"/ 1 262 206 206 206\n/ 8 205 206 205 206\n";
     let lists = packed(alloc, &patterns(alloc, Chain::E12, 2_000)?)?;
     let (line, told) = made_bit_by_bit(alloc, rows, lists, 8)?;
-    assert_eq!(rt; line.len(), 9 * 848);
-    assert_eq!(rt; told.slips(), [slip(true, 728)].as_slice());
+    assert!(rt; line.len() == 9 * 848);
+    assert!(rt; told.slips() == [slip(true, 728)].as_slice());
     let lists = packed(alloc, &patterns(alloc, Chain::E12, 2_000)?)?;
     let (end, same, log) = run_slips(alloc, Chain::E12, rows, lists, 8)?;
-    assert_eq!(rt; end, Ok(()));
-    assert!(rt; same == line);
-    assert_eq!(rt; log.slips(), told.slips());
+    assert!(rt; (end, same == line) == (Ok(()), true));
+    assert!(rt; log.slips() == told.slips());
     Ok(())
 }
 
@@ -272,7 +272,7 @@ fn gaps(rt: HostRuntime) -> Result<(), Fail> {
     ];
     for (chain, zeros, bits, end, got) in cases {
         let ran = run_demux(rt.alloc(), chain, zeros, bits)?;
-        assert_eq!(rt; ran, (end, got), "{chain:?} {bits}");
+        assert!(rt; ran == (end, got), "{chain:?} {bits}");
     }
     Ok(())
 }
@@ -349,15 +349,18 @@ fn watched_or_not(rt: HostRuntime) -> Result<(), Fail> {
         (Chain::E24, Chain::E34, e4, [9_000, 21_000]),
     ];
     for (chain, top, schedule, inverted) in cases {
-        assert_eq!(rt; leaves(top), 4);
+        assert!(rt; leaves(top) == 4);
         let line = made(rt.alloc(), top, schedule, inverted)?;
         let again = line.clone()?;
         let mut seeing = Seeing { events: 0 };
         let unwatched = demuxed(rt.alloc(), chain, line, &mut Quiet)?;
         let watched = demuxed(rt.alloc(), chain, again, &mut seeing)?;
-        assert!(rt; unwatched == watched, "{chain:?} {inverted:?}");
-        assert!(rt; !unwatched.1.is_empty(), "{chain:?} {inverted:?}");
-        assert!(rt; seeing.events > 0, "{chain:?} {inverted:?}");
+        let seen = (
+            unwatched == watched,
+            unwatched.1.is_empty(),
+            seeing.events > 0,
+        );
+        assert!(rt; seen == (true, false, true), "{chain:?} {inverted:?}");
     }
     Ok(())
 }

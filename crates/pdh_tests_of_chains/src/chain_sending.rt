@@ -4,9 +4,10 @@ ghost use Rattle.std.specs.Prelude.{◌≡◌, ◌<◌, ◌≤◌, length, IfOk,
 ghost use Rattle.pdh_chain.specs.Chains.{leaves_of, levels_of};
 ghost use Rattle.pdh_clock.specs.Contents.{frame_count};
 
-use pdh_chain::{Chain, leaves, mux};
+use pdh_chain::{Chain, leaves};
 use pdh_clock::{Bias, Schedule};
 use pdh_edge::{Feed, MemPort};
+use pdh_mux::mux;
 use pdh_packed::Packed;
 use pdh_shape::TOP;
 use std::alloc::{AllocError, Global};
@@ -105,9 +106,9 @@ fn lists_without_a_bit_more_are_enough(rt: HostRuntime) -> Result<(), Fail> {
         let mut lists = patterns(alloc, chain, 4_000)?;
         shorten(&mut lists, &left);
         let (same, none) = sent(alloc, chain, &clock, Some(5), lists)?;
-        assert_eq!(rt; same, line, "{chain:?}");
+        assert!(rt; same == line, "{chain:?}");
         for count in none {
-            assert_eq!(rt; count, 0, "{chain:?}");
+            assert!(rt; count == 0, "{chain:?}");
         }
     }
     Ok(())
@@ -128,7 +129,7 @@ fn a_code_is_sent_in_each_frame(rt: HostRuntime) -> Result<(), Fail> {
         Some(5),
         patterns(alloc, chain, 4_000)?,
     )?;
-    assert_eq!(rt; idle.len(), coded.len());
+    assert!(rt; idle.len() == coded.len());
     let mut changed = Vec::new(alloc);
     for (place, (bit, other)) in idle.iter().zip(coded.iter()).enumerate() {
         if bit != other {
@@ -136,9 +137,9 @@ fn a_code_is_sent_in_each_frame(rt: HostRuntime) -> Result<(), Fail> {
         }
     }
     let frames = [8, 9, 10, 11, 13, 15];
-    assert_eq!(rt; changed.len(), frames.len());
+    assert!(rt; changed.len() == frames.len());
     for (place, frame) in changed.iter().zip(frames) {
-        assert_eq!(rt; *place, frame * 4_760 + 510);
+        assert!(rt; *place == frame * 4_760 + 510);
     }
     Ok(())
 }

@@ -2,7 +2,8 @@
 
 use pdh_bits::bytes_of;
 use pdh_chain::Chain;
-use pdh_lab::{Drill, Pattern, drill};
+use pdh_lab::{Drill, drill};
+use pdh_patterns::Pattern;
 use std::test::Fail;
 
 #[test]
@@ -14,7 +15,7 @@ fn a_pattern_begins_with_its_bytes(rt: HostRuntime) -> Result<(), Fail> {
         bits.push(pattern.next())?;
     }
     let bytes = bytes_of(alloc, &bits)?;
-    assert_eq!(rt; bytes.as_slice(), [0x00, 0x82, 0x03, 0x0C].as_slice());
+    assert!(rt; bytes.as_slice() == [0x00, 0x82, 0x03, 0x0C].as_slice());
     Ok(())
 }
 
@@ -42,7 +43,7 @@ fn leaves_come_back_late(rt: HostRuntime) -> Result<(), Fail> {
             equal,
             late,
         };
-        assert_eq!(rt; came, told, "{chain:?}");
+        assert!(rt; came == told, "{chain:?}");
     }
     Ok(())
 }

@@ -5,11 +5,12 @@ ghost use Rattle.pdh_chain.specs.Chains.{leaves_of};
 
 use crate::chain_sending::sent;
 use crate::ports::port_of_line;
-use pdh_chain::{Chain, demux, leaves};
+use pdh_chain::{Chain, leaves};
 use pdh_clock::{Bias, Schedule};
+use pdh_demux::demux;
 use pdh_edge::MemPort;
-use pdh_lab::Pattern;
 use pdh_packed::Packed;
+use pdh_patterns::Pattern;
 use pdh_script::Script;
 use pdh_watch::Quiet;
 use std::alloc::{AllocError, Global};

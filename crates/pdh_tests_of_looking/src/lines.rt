@@ -3,9 +3,10 @@
 ghost use Rattle.std.specs.Prelude.{◌≡◌, length, IfOk};
 ghost use Rattle.pdh_chain.specs.Chains.{leaves_of};
 
-use pdh_chain::{Chain, leaves, mux};
+use pdh_chain::{Chain, leaves};
 use pdh_clock::{Bias, Schedule};
 use pdh_edge::MemPort;
+use pdh_mux::mux;
 use pdh_packed::Packed;
 use pdh_shape::TOP;
 use std::alloc::{AllocError, Global};

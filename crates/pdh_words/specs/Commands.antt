@@ -1,7 +1,7 @@
 -- The command that the words of a command line are.
 use Rattle.std.specs.Prelude.{◌≡◌, ℕ, ◌<◌, ◌≤◌, ⊤, nat_le, ◌==◌, ◌&&◌, List, [], ◌∷◌, length, codes, Option, Some, None, find, if◌then◌else◌}
 use Rattle.std.specs.Str.{bytes_eq}
-use Rattle.pdh_row_text.specs.Text.{◌>>=◌, number_of}
+use Rattle.pdh_row_text.specs.Text.{number_of}
 use Rattle.pdh_clock.specs.declared.bias.Bias.{Bias}
 use Rattle.pdh_clock.specs.declared.bias.Bias.TheVariants.{Nominal, Fast, Slow, Mixed}
 use Rattle.pdh_ds1.specs.declared.form.Frame1.{Frame1}
@@ -12,8 +12,8 @@ use Rattle.pdh_chain.specs.declared.chain.Chain.TheVariants.{C13}
 use Rattle.pdh_chain.specs.Chains.{chains, levels_of, name_of}
 use Rattle.pdh_words.specs.declared.commands.Command.{Command}
 use Rattle.pdh_words.specs.declared.commands.Command.TheVariants.{Demux, Mux, MuxSlip, ClockCheck, ClockMake, Inspect, InspectE1, Show, E1Pack, E1Unpack, Ds1Pack, Ds1Unpack, Disturb, Drill, Smooth, Duplex}
-use Rattle.pdh_words.specs.declared.commands.Bits.{Bits}
-use Rattle.pdh_words.specs.declared.commands.Bits.TheVariants.{Line, Bent}
+use Rattle.pdh_answers.specs.declared.file.Bits.{Bits}
+use Rattle.pdh_answers.specs.declared.file.Bits.TheVariants.{Line, Bent}
 
 -- the chain of a word
 abbrev pub chain_of : List ℕ → Option Chain
@@ -165,7 +165,3 @@ KeepsLimits (Drill chain seed frames) = seed ≤ 999999999
 KeepsLimits (Duplex chain seed frames) = seed ≤ 999999999
 KeepsLimits (Smooth chain) = length (levels_of chain) ≡ 1
 KeepsLimits _ = ⊤
-
--- what is told of words that are no row of the table
-abbrev pub usage_text : List ℕ
-usage_text = codes "usage: pdh mux demux clock inspect show e1pack e1unpack disturb drill muxslip ds1pack ds1unpack smooth duplex"

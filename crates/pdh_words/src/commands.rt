@@ -1,22 +1,14 @@
 //! The table of commands: each command with what its words tell, and which words ask for which.
 
-ghost use Rattle.std.specs.Prelude.{◌≡◌, ◌≤◌, length, map, IfSome};
+ghost use Rattle.std.specs.Prelude.{◌≡◌, map, IfSome};
 ghost use Rattle.std.specs.String.{string_bytes};
-ghost use Rattle.pdh_words.specs.Commands.{chain_of, bias_of, framing_of, reading_of, conversion_of, showing_of, checking_of, sending_of, making_of, drilling_of, linking_of, form_of, smoothing_of, ds1_packing_of, ds1_unpacking_of, of_two as by_two, of_three as by_three, of_four as by_four, of_five as by_five, command_of, usage_text, KeepsLimits};
+ghost use Rattle.pdh_words.specs.Commands.{chain_of, bias_of, framing_of, reading_of, conversion_of, showing_of, checking_of, sending_of, making_of, drilling_of, linking_of, form_of, smoothing_of, ds1_packing_of, ds1_unpacking_of, of_two as by_two, of_three as by_three, of_four as by_four, of_five as by_five, command_of, KeepsLimits};
 
+use pdh_answers::Bits;
 use pdh_chain::{Chain, all_chains};
 use pdh_clock::Bias;
 use pdh_ds1::Frame1;
 use pdh_row_text::number;
-
-/// Which file a line is read from.
-#[derive(Clone, Copy, Debug, PartialEq, Eq)]
-pub enum Bits {
-    /// The recorded line.
-    Line,
-    /// The disturbed line.
-    Bent,
-}
 
 /// What the words of a command line ask for.
 #[derive(Clone, Copy, Debug, PartialEq, Eq)]
@@ -112,14 +104,6 @@ pub enum Command {
         /// How many frames each line has.
         frames: u64,
     },
-}
-
-/// What is told of words that are no row of the table.
-pub fn usage() -> &'static str
-    ensures text { result.now ≡ usage_text }
-    ensures short { length result.now ≤ 200 }
-{
-    "usage: pdh mux demux clock inspect show e1pack e1unpack disturb drill muxslip ds1pack ds1unpack smooth duplex"
 }
 
 // The chain that a word names.

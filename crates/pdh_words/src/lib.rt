@@ -4,5 +4,4 @@
 
 mod commands;
 
-pub use commands::{Bits, Command, command_for, usage};
-pub use pdh_text::Text;
+pub use commands::{Command, command_for};

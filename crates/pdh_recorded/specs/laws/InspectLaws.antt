@@ -2,7 +2,7 @@
 use Rattle.std.proofs.Common.{refl, subst, lit<}
 use Rattle.std.proofs.lemmas.Option.{same_Some}
 use Rattle.pdh_chain.specs.declared.chain.Chain.{Chain}
-use Rattle.pdh_words.specs.declared.commands.Bits.{Bits}
+use Rattle.pdh_answers.specs.declared.file.Bits.{Bits}
 use Rattle.pdh_answers.specs.Names.{line_file}
 use Rattle.pdh_recorded.specs.Inspect.{inspected, inspecting}
 use Rattle.pdh_runner.specs.LineSteps.{ReadsLine}

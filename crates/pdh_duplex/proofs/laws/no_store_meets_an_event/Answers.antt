@@ -1,4 +1,4 @@
-use Rattle.pdh_lab.proofs.InTime.{no_event}
+use Rattle.pdh_patterns.proofs.Entered.{no_event}
 use Rattle.pdh_duplex.proofs.laws.no_store_meets_an_event.Goals as goal
 
 pub returns : goal.returns

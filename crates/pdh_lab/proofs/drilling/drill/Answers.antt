@@ -1,7 +1,8 @@
 use Rattle.std.proofs.Common.{length, ap, subst, sym, arith}
 use Rattle.pdh_lab.specs.Drill.{IsInTime}
 use Rattle.pdh_lab.proofs.InTime.{in_time}
-use Rattle.pdh_lab.proofs.Sent.{few_bits, length-line}
+use Rattle.pdh_lab.proofs.Sent.{length-line}
+use Rattle.pdh_patterns.proofs.Entered.{few_bits}
 use Rattle.pdh_lab.proofs.drilling.drill.Goals as goal
 
 pub receive-requires : goal.receive-requires

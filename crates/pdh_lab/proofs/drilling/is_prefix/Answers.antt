@@ -2,7 +2,7 @@ use Rattle.std.proofs.Common.{◌≡◌, ◌≤◌, ◌+◌, Bool, List, length,
 use Rattle.std.proofs.lemmas.List.{length-take-le}
 use Rattle.std.proofs.lemmas.List.{length-drop}
 use Rattle.pdh_bits.specs.Bits.{number_of}
-use Rattle.pdh_lab.specs.Pattern.{pattern_bit}
+use Rattle.pdh_patterns.specs.Pattern.{pattern_bit}
 use Rattle.pdh_lab.proofs.Reported.{too_long, part_agrees, part_differs, all_agree, written_alike}
 use Rattle.pdh_lab.proofs.drilling.is_prefix.Goals as goal
 

@@ -1,5 +1,5 @@
 use Rattle.std.proofs.Common.{◌≡◌, ◌≤◌, ◌-◌, length, take}
-use Rattle.pdh_lab.specs.Pattern.{pattern, HasGiven}
+use Rattle.pdh_patterns.specs.Pattern.{pattern, HasGiven}
 use Rattle.pdh_lab.proofs.drilling.is_prefix.Given as goal
 
 -- the bits before this place are those of the pattern

@@ -2,12 +2,13 @@ use Rattle.std.proofs.Common.{◌≡◌, ◌<◌, length, ap, sym, ◌∙◌, su
 use Rattle.std.specs.Bool.{beq}
 use Rattle.std.specs.List.{starts_with}
 use Rattle.pdh_chain.specs.Chains.{leaves_of}
-use Rattle.pdh_lab.specs.Pattern.{pattern}
-use Rattle.pdh_lab.specs.Drill.{entered_of, output_of, input_of, drill_upto, drill_of}
+use Rattle.pdh_patterns.specs.Pattern.{pattern}
+use Rattle.pdh_lab.specs.Drill.{output_of, drill_upto, drill_of}
+use Rattle.pdh_patterns.specs.Leaves.{entered_of, input_of}
 use Rattle.pdh_lab.specs.Steps.{HasRoom}
 use Rattle.pdh_lab.proofs.InTime.{out_fewer}
 use Rattle.pdh_lab.proofs.Reported.{has_room, came_out, leaf_more}
-use Rattle.pdh_lab.proofs.Sent.{entered_answer, entered_few}
+use Rattle.pdh_patterns.proofs.Entered.{entered_answer, entered_few}
 use Rattle.pdh_lab.proofs.drilling.report.Goals as goal
 
 pub overflow_cast-entered : goal.overflow_cast-entered

@@ -2,10 +2,10 @@ use Rattle.std.proofs.Common.{◌≡◌, ◌<◌, ◌∷◌, [], ◌++◌, ap, �
 use Rattle.pdh_bits.specs.BitOut.{BoundedBits}
 use Rattle.std.proofs.lemmas.Grind.{common_steps}
 use Rattle.pdh_chain.specs.Chains.{leaves_of}
-use Rattle.pdh_lab.specs.Pattern.{pattern}
-use Rattle.pdh_lab.specs.Drill.{entered_of, input_of}
+use Rattle.pdh_patterns.specs.Pattern.{pattern}
+use Rattle.pdh_patterns.specs.Leaves.{entered_of, input_of}
 use Rattle.pdh_lab.proofs.Lists.{each_pushed}
-use Rattle.pdh_lab.proofs.Sent.{entered_answer, entered_few}
+use Rattle.pdh_patterns.proofs.Entered.{entered_answer, entered_few}
 use Rattle.pdh_lab.proofs.leaves.inputs_of.Goals as goal
 
 pub overflow_cast-bits : goal.overflow_cast-bits

@@ -1,6 +1,6 @@
 use Rattle.std.proofs.Common.{◌≡◌, length, ap, ◌∙◌, arith}
 use Rattle.pdh_line.proofs.SentFrames.{length-front}
-use Rattle.pdh_lab.specs.Pattern.{pattern_bit}
+use Rattle.pdh_patterns.specs.Pattern.{pattern_bit}
 use Rattle.pdh_lab.proofs.leaves.pattern_of.Goals as goal
 
 pub append-requires : goal.append-requires

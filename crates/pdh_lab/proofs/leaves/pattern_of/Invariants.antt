@@ -1,5 +1,5 @@
 use Rattle.std.proofs.Common.{◌≡◌, ◌≤◌, ◌-◌}
-use Rattle.pdh_lab.specs.Pattern.{pattern, HasGiven}
+use Rattle.pdh_patterns.specs.Pattern.{pattern, HasGiven}
 use Rattle.pdh_lab.proofs.leaves.pattern_of.Given as goal
 
 abbrev pub invariant-loop-made : goal.invariant-loop-made

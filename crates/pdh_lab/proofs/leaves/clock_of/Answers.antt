@@ -1,7 +1,0 @@
-use Rattle.pdh_lab.proofs.Clocked.{made_clock}
-use Rattle.pdh_lab.proofs.leaves.clock_of.Goals as goal
-
-pub returns : goal.returns
-returns c =
-    let made = c.from_ppm.ensures in
-    made_clock c.args.chain c.args.frames c.levels.result.now c.from_ppm.result c.levels.ensures.value made.levels made.frames made.sound made.top made.enough

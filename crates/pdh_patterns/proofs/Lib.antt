@@ -1,0 +1,6 @@
+pub mod Clocked
+pub mod Entered
+pub mod Giving
+pub mod MadeClear
+pub mod MadeWithin
+pub mod Register
