@@ -116,14 +116,16 @@ fn never_failing(alloc: Global) -> Result<NeverFails, AllocError> {
 #[test]
 fn files_that_never_fail(rt: HostRuntime) -> Result<(), AllocError> {
     let mut shelf = never_failing(rt.alloc())?;
-    assert!(rt; shelf.size("line") == Ok(Some(6)));
-    assert!(rt; shelf.size("script") == Ok(Some(0)));
-    assert!(rt; shelf.size("none") == Ok(None));
-    assert!(rt; shelf.start("out") == Ok(()));
-    assert!(rt; shelf.append("out", b"1234") == Ok(()));
-    assert!(rt; Sink::write(&mut shelf, b"text") == Ok(()));
-    assert!(rt; shelf.append("line", b"56") == Ok(()));
-    assert!(rt; shelf.size("line") == Ok(None));
+    let (line, script, none) = (shelf.size("line"), shelf.size("script"), shelf.size("none"));
+    let writes = [
+        shelf.start("out"),
+        shelf.append("out", b"1234"),
+        Sink::write(&mut shelf, b"text"),
+        shelf.append("line", b"56"),
+    ];
+    assert!(rt; writes == [Ok(()); 4]);
+    let sizes = [line, script, none, shelf.size("line")];
+    assert!(rt; sizes == [Ok(Some(6)), Ok(Some(0)), Ok(None), Ok(None)]);
     assert!(rt; shelf.taken() == 10);
     assert!(rt; (shelf.read_faults(), shelf.write_faults(), shelf.misses()) == (0, 0, 2));
     Ok(())

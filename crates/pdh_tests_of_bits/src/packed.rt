@@ -7,19 +7,25 @@ use std::test::Fail;
 fn bits_of_bytes_at_any_place(rt: HostRuntime) -> Result<(), Fail> {
     let mut list = Packed::open(rt.alloc(), 80)?;
     list.append_bytes(&[0xF4, 0x10, 0x00, 0x00, 0x00, 0x00, 0x00, 0x0F, 0xA5]);
-    assert!(rt; list.len() == 72);
-    assert!(rt; list.read(3, 9).number() == 0b101000001);
-    assert!(rt; list.read(60, 12).number() == 0xFA5);
-    assert!(rt; list.ones(0, 72) == 14);
-    assert!(rt; list.is_odd(0, 61));
     let mut bytes = [0xEE; 3];
-    assert!(rt; list.write_bytes(60, &mut bytes) == 1);
-    assert!(rt; bytes == [0xFA, 0xEE, 0xEE]);
     let mut copy = Packed::open(rt.alloc(), 68)?;
     copy.append_from(&list, 4, 68);
-    assert!(rt; copy.read(4, 64).number() == 0x1000_0000_0000_0FA5);
+    let numbers = [
+        list.read(3, 9).number(),
+        list.read(60, 12).number(),
+        copy.read(4, 64).number(),
+    ];
+    assert!(rt; numbers == [0b101000001, 0xFA5, 0x1000_0000_0000_0FA5]);
     copy.clear();
-    assert!(rt; copy.len() == 0);
+    let counts = [
+        list.len(),
+        list.ones(0, 72),
+        list.write_bytes(60, &mut bytes),
+        copy.len(),
+    ];
+    assert!(rt; counts == [72, 14, 1, 0]);
+    assert!(rt; list.is_odd(0, 61));
+    assert!(rt; bytes == [0xFA, 0xEE, 0xEE]);
     Ok(())
 }
 
@@ -69,19 +75,39 @@ fn bits_move_into_a_ring_and_out(rt: HostRuntime) -> Result<(), Fail> {
 #[test]
 fn words_place_by_place(rt: HostRuntime) -> Result<(), Fail> {
     let (a, b) = (Word::of(0b1100, 4), Word::of(0b1010, 4));
-    assert!(rt; a.and(b).number() == 0b1000);
-    assert!(rt; a.or(b).number() == 0b1110);
-    assert!(rt; a.xor(b).number() == 0b0110);
-    assert!(rt; a.inverted().number() == 0b0011);
-    assert!(rt; Word::of(0b00101, 5).leading_zeros() == 2);
-    assert!(rt; Word::copies(false, 64).leading_zeros() == 64);
-    assert!(rt; Word::copies(true, 9).number() == 0x1FF);
-    assert!(rt; a.placed(2).number() == 0b1100 << 58);
-    assert!(rt; a.shift_in(Word::of(0b011, 3)).number() == 0b0011);
-    assert!(rt; a.shift_in(Word::of(0b100110, 6)).number() == 0b0110);
     let next = Word::of(0xF000_0000_0000_0001, 64);
-    assert!(rt; a.slide(next, 1).number() == 0x9E00_0000_0000_0000);
-    assert!(rt; a.slide(next, 4).number() == 0xF000_0000_0000_0001);
+    let found = [
+        a.and(b).number(),
+        a.or(b).number(),
+        a.xor(b).number(),
+        a.inverted().number(),
+        Word::copies(true, 9).number(),
+        a.placed(2).number(),
+        a.shift_in(Word::of(0b011, 3)).number(),
+        a.shift_in(Word::of(0b100110, 6)).number(),
+        a.slide(next, 1).number(),
+        a.slide(next, 4).number(),
+    ];
+    assert!(rt;
+        found
+            == [
+                0b1000,
+                0b1110,
+                0b0110,
+                0b0011,
+                0x1FF,
+                0b1100 << 58,
+                0b0011,
+                0b0110,
+                0x9E00_0000_0000_0000,
+                0xF000_0000_0000_0001,
+            ]
+    );
+    let zeros = [
+        Word::of(0b00101, 5).leading_zeros(),
+        Word::copies(false, 64).leading_zeros(),
+    ];
+    assert!(rt; zeros == [2, 64]);
     Ok(())
 }
 
@@ -89,18 +115,29 @@ fn words_place_by_place(rt: HostRuntime) -> Result<(), Fail> {
 fn an_array_is_written_and_read_across_words(rt: HostRuntime) -> Result<(), Fail> {
     let mut array = BitArray::open(rt.alloc(), 100)?;
     array.write(60, Word::of(0b1011_0110, 8));
-    assert!(rt; array.read(58, 12).number() == 0b0010_1101_1000);
     assert!(rt; (array.get(60), array.get(61), array.get(66)) == (true, false, true));
     assert!(rt; array.zeros(0, 100) == 60);
     assert!(rt; array.zeros(67, 33) == 33);
     let mut other = BitArray::open(rt.alloc(), 100)?;
     other.fill(true);
     other.write_masked(59, &array, Word::of(0b01_1111_1100, 10));
-    assert!(rt; other.read(57, 14).number() == 0b11_0101_1011_0011);
     let mut bits = Packed::open(rt.alloc(), 72)?;
     bits.append_bytes(&[0xF4, 0x10, 0x00, 0x00, 0x00, 0x00, 0x00, 0x0F, 0xA5]);
-    assert!(rt; bits.read_padded(1, 64).number() == 0xE820_0000_0000_001F);
-    assert!(rt; bits.read_padded(60, 12).first(12).number() == 0xFA5);
+    let numbers = [
+        array.read(58, 12).number(),
+        other.read(57, 14).number(),
+        bits.read_padded(1, 64).number(),
+        bits.read_padded(60, 12).first(12).number(),
+    ];
+    assert!(rt;
+        numbers
+            == [
+                0b0010_1101_1000,
+                0b11_0101_1011_0011,
+                0xE820_0000_0000_001F,
+                0xFA5,
+            ]
+    );
     Ok(())
 }
 
@@ -131,16 +168,17 @@ fn lists_grow_by_bits_and_by_parts(rt: HostRuntime) -> Result<(), Fail> {
 fn bits_are_turned_and_set(rt: HostRuntime) -> Result<(), Fail> {
     let mut list = Packed::of_bytes(rt.alloc(), &[0x0F, 0, 0, 0, 0, 0, 0, 0xFF, 0x3C])?;
     list.invert();
-    assert!(rt; list.len() == 72);
-    assert!(rt; list.read(0, 64).number() == 0xF0FF_FFFF_FFFF_FF00);
-    assert!(rt; list.read(64, 8).number() == 0xC3);
+    let inverted = list.len();
+    let numbers = [
+        list.read(0, 64).number(),
+        list.read(64, 8).number(),
+        Word::copies(true, 64).inverted().number(),
+        Word::copies(false, 3).inverted().number(),
+    ];
+    assert!(rt; numbers == [0xF0FF_FFFF_FFFF_FF00, 0xC3, 0, 7]);
     list.fill(true);
-    assert!(rt; list.len() == 72);
-    assert!(rt; list.ones(0, 72) == 72);
+    let (set, ones) = (list.len(), list.ones(0, 72));
     list.fill(false);
-    assert!(rt; list.len() == 72);
-    assert!(rt; list.ones(0, 72) == 0);
-    assert!(rt; Word::copies(true, 64).inverted().number() == 0);
-    assert!(rt; Word::copies(false, 3).inverted().number() == 7);
+    assert!(rt; [inverted, set, ones, list.len(), list.ones(0, 72)] == [72, 72, 72, 72, 0]);
     Ok(())
 }

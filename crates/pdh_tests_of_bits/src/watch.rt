@@ -112,10 +112,13 @@ fn boxes_show_each_event_to_each(rt: HostRuntime) -> Result<(), Fail> {
     assert!(rt; boxes.count() == 4);
     let list = boxes.into_list();
     assert!(rt; list.len() == 4);
-    assert!(rt; says(&list[0], "aligned+lost: 3"));
-    assert!(rt; says(&list[1], "first lost: /2/3 bit 5935"));
-    assert!(rt; says(&list[2], "alarms open: 1"));
-    assert!(rt; says(&list[3], "!"));
+    let said = [
+        says(&list[0], "aligned+lost: 3"),
+        says(&list[1], "first lost: /2/3 bit 5935"),
+        says(&list[2], "alarms open: 1"),
+        says(&list[3], "!"),
+    ];
+    assert!(rt; said == [true; 4]);
     assert!(rt; list[3].hits() == 2);
     Ok(())
 }

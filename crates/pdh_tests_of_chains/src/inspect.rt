@@ -102,9 +102,8 @@ fn framed_ones(rt: HostRuntime) -> Result<(), Fail> {
         let feed = ones(rt.alloc(), bits, good)?;
         let mut monitors = counters(rt.alloc())?;
         let seen = inspect_framed(rt.alloc(), u64::from(bits), feed, &mut monitors);
-        assert_eq!(rt; seen.result, end, "{bits} {good}");
-        assert_eq!(rt; hits(&monitors), Some(events), "{bits} {good}");
-        assert_eq!(rt; seen.feed.feed_faults(), faults, "{bits} {good}");
+        let found = (seen.result, hits(&monitors), seen.feed.feed_faults());
+        assert!(rt; found == (end, Some(events), faults), "{bits} {good}");
     }
     Ok(())
 }
@@ -125,9 +124,8 @@ fn line_of_ones(rt: HostRuntime) -> Result<(), Fail> {
         let feed = ones(rt.alloc(), bits, good)?;
         let mut monitors = counters(rt.alloc())?;
         let seen = inspect_line(rt.alloc(), Chain::E12, u64::from(bits), feed, &mut monitors);
-        assert_eq!(rt; seen.result, end, "{bits} {good}");
-        assert_eq!(rt; hits(&monitors), Some(events), "{bits} {good}");
-        assert_eq!(rt; seen.feed.feed_faults(), faults, "{bits} {good}");
+        let found = (seen.result, hits(&monitors), seen.feed.feed_faults());
+        assert!(rt; found == (end, Some(events), faults), "{bits} {good}");
     }
     Ok(())
 }

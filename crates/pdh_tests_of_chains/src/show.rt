@@ -99,7 +99,7 @@ fn frame_of_e12(rt: HostRuntime) -> Result<(), Fail> {
     let mut port = port_of(rt.alloc(), &line)?;
     let text = show(rt.alloc(), Chain::E12, 1, &mut port)?;
     assert!(rt; begins_with(&text, &E12_LINES));
-    assert_eq!(rt; text.len(), 398);
+    assert!(rt; text.len() == 398);
     Ok(())
 }
 
@@ -110,8 +110,8 @@ fn frame_of_e12_between_two(rt: HostRuntime) -> Result<(), Fail> {
     let mut port = port_of(rt.alloc(), &line)?;
     let text = show(rt.alloc(), Chain::E12, 1, &mut port)?;
     assert!(rt; begins_with(&text, &E12_LINES));
-    assert_eq!(rt; text.len(), 398);
-    assert_eq!(rt; port.left(0), 848);
+    assert!(rt; text.len() == 398);
+    assert!(rt; port.left(0) == 848);
     Ok(())
 }
 

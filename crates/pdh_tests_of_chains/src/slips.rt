@@ -93,9 +93,9 @@ fn full_store_drops_its_older_half(rt: HostRuntime) -> Result<(), Fail> {
     let alloc = rt.alloc();
     let mut log = KeptSlips::open(alloc, 9)?;
     let (line, stop) = sent(alloc, b"/ 1 300 206 206 206\n", &ONES_AMID_ZEROS, &mut log)?;
-    assert_eq!(rt; line, bits_of(alloc, &bytes_in(alloc, &FRAME_OF_ZEROS)?)?);
-    assert_eq!(rt; stop, Some(TxStop::NoFrame { node: TOP }));
-    assert_eq!(rt; log.slips(), [slip(true, 426)].as_slice());
+    assert!(rt; line == bits_of(alloc, &bytes_in(alloc, &FRAME_OF_ZEROS)?)?);
+    assert!(rt; stop == Some(TxStop::NoFrame { node: TOP }));
+    assert!(rt; log.slips() == [slip(true, 426)].as_slice());
     Ok(())
 }
 
@@ -104,15 +104,15 @@ fn empty_store_is_given_ones(rt: HostRuntime) -> Result<(), Fail> {
     let alloc = rt.alloc();
     let mut log = KeptSlips::open(alloc, 9)?;
     let (line, stop) = sent(alloc, b"/ 1 0 206 206 206\n", &LEAD_OF_ZEROS, &mut log)?;
-    assert_eq!(rt; line, bits_of(alloc, &bytes_in(alloc, &FRAME_OF_ONES)?)?);
-    assert_eq!(rt; stop, Some(TxStop::NoFrame { node: TOP }));
+    assert!(rt; line == bits_of(alloc, &bytes_in(alloc, &FRAME_OF_ONES)?)?);
+    assert!(rt; stop == Some(TxStop::NoFrame { node: TOP }));
     let slips = [
         slip(false, 204),
         slip(false, 400),
         slip(false, 596),
         slip(false, 792),
     ];
-    assert_eq!(rt; log.slips(), slips.as_slice());
+    assert!(rt; log.slips() == slips.as_slice());
     Ok(())
 }
 
@@ -122,11 +122,11 @@ fn log_that_fails_ends_a_line(rt: HostRuntime) -> Result<(), Fail> {
     let alloc = rt.alloc();
     let mut log = KeptSlips::open(alloc, 2)?;
     let (line, stop) = sent(alloc, b"/ 1 0 206 206 206\n", &LEAD_OF_ZEROS, &mut log)?;
-    assert_eq!(rt; line.len(), 596);
-    assert_eq!(rt; stop, Some(TxStop::LogFailed));
+    assert!(rt; line.len() == 596);
+    assert!(rt; stop == Some(TxStop::LogFailed));
     let slips = [slip(false, 204), slip(false, 400)];
-    assert_eq!(rt; log.slips(), slips.as_slice());
-    assert_eq!(rt; log.log_faults(), 1);
+    assert!(rt; log.slips() == slips.as_slice());
+    assert!(rt; log.log_faults() == 1);
     Ok(())
 }
 
@@ -139,7 +139,7 @@ fn event_ends_a_line_without_slips(rt: HostRuntime) -> Result<(), Fail> {
         &ONES_AMID_ZEROS,
         &mut NoSlips,
     )?;
-    assert_eq!(rt; line.len(), 426);
-    assert_eq!(rt; stop, Some(TxStop::Overflow(slip(true, 426).place)));
+    assert!(rt; line.len() == 426);
+    assert!(rt; stop == Some(TxStop::Overflow(slip(true, 426).place)));
     Ok(())
 }

@@ -93,16 +93,16 @@ fn frame_of_zeros(rt: HostRuntime) -> Result<(), Fail> {
     let clock = Schedule::read(alloc, &[E2_LEVEL], b"/ 1 205 205 205 205\n")?;
     let mut feed = zeros(alloc)?;
     let mut node = node(alloc)?;
-    assert_eq!(rt; node.fill(0), 0);
+    assert!(rt; node.fill(0) == 0);
     let (line, stop) = make_bits(alloc, &mut node, &clock, &mut feed, &mut NoSlips, 1000)?;
-    assert_eq!(rt; line.len(), 848);
+    assert!(rt; line.len() == 848);
     let ones = [0, 1, 2, 3, 5, 11];
     for (slot, bit) in line.iter().enumerate() {
-        assert_eq!(rt; *bit, ones.contains(&slot), "slot {slot}");
+        assert!(rt; *bit == ones.contains(&slot), "slot {slot}");
     }
-    assert_eq!(rt; stop, Some(TxStop::NoFrame { node: TOP }));
+    assert!(rt; stop == Some(TxStop::NoFrame { node: TOP }));
     assert!(rt; node.stopped());
-    assert_eq!(rt; node.fill(0), 47);
+    assert!(rt; node.fill(0) == 47);
     Ok(())
 }
 
@@ -116,8 +116,8 @@ fn tells_that_a_frame_meets_nothing(rt: HostRuntime) -> Result<(), Fail> {
     for (most, quiet) in [(1, 1), (848, 848), (849, 0)] {
         let plain = node.quiet::<MemPort, NoSlips>(&clock, &feed, most);
         let slipping = node.quiet::<MemPort, KeptSlips>(&clock, &feed, most);
-        assert_eq!(rt; plain, quiet, "of {most}");
-        assert_eq!(rt; slipping, quiet, "of {most}, where stores slip");
+        assert!(rt; plain == quiet, "of {most}");
+        assert!(rt; slipping == quiet, "of {most}, where stores slip");
     }
     Ok(())
 }

@@ -76,9 +76,7 @@ fn a_turned_payload_bit_is_one_errored_block(rt: HostRuntime) -> Result<(), Fail
     }
     let (counts, payload) = found(rt.alloc(), &line)?;
     assert!(rt; counts == [2, 3, 1]);
-    assert!(rt; payload.len() == 992);
-    assert!(rt; payload.first() == Some(&1));
-    assert!(rt; payload.get(1) == Some(&0));
+    assert!(rt; (payload.len(), payload.first(), payload.get(1)) == (992, Some(&1), Some(&0)));
     Ok(())
 }
 

@@ -10,12 +10,15 @@ fn bits_leave_in_the_order_of_their_arrival(rt: HostRuntime) -> Result<(), Fail>
     let mut store = Store::open(rt.alloc())?;
     assert!(rt; store.leave() == Err(Underflow));
     for place in 0..STORE_SIZE as u32 {
-        assert!(rt; store.fill() == place);
-        assert!(rt; store.carries_more() == (place >= THRESHOLD), "at {place}");
-        assert!(rt; store.arrive(place % 3 == 0) == Ok(()), "at {place}");
+        let before = (store.fill(), store.carries_more());
+        let arrived = store.arrive(place % 3 == 0);
+        assert!(rt;
+            (before, arrived) == ((place, place >= THRESHOLD), Ok(())),
+            "at {place}"
+        );
     }
-    assert!(rt; store.arrive(true) == Err(Overflow));
-    assert!(rt; store.fill() as usize == STORE_SIZE);
+    let refused = store.arrive(true);
+    assert!(rt; (refused, store.fill() as usize) == (Err(Overflow), STORE_SIZE));
     for place in 0..STORE_SIZE as u32 {
         assert!(rt; store.leave() == Ok(place % 3 == 0), "at {place}");
     }

@@ -50,12 +50,11 @@ fn each_chain_is_found(rt: HostRuntime) -> Result<(), Fail> {
     for (chain, frames, word) in cases {
         let line = line_of(alloc, chain, frames)?;
         let found = found(alloc, &line, 3)?;
-        assert_eq!(rt;
-            found.candidate,
-            Candidate { word, order: PLAIN },
+        assert!(rt;
+            found.candidate == Candidate { word, order: PLAIN },
             "{chain:?}"
         );
-        assert_eq!(rt; found.also.len(), 0, "{chain:?}");
+        assert!(rt; found.also.len() == 0, "{chain:?}");
     }
     Ok(())
 }
@@ -89,8 +88,8 @@ fn each_framed_stream_is_found(rt: HostRuntime) -> Result<(), Fail> {
     ];
     for (line, word, others) in cases {
         let found = found(alloc, &line, 5)?;
-        assert_eq!(rt; found.candidate, Candidate { word, order: PLAIN });
-        assert_eq!(rt; found.also.len(), others, "{word:?}");
+        assert!(rt; found.candidate == Candidate { word, order: PLAIN });
+        assert!(rt; found.also.len() == others, "{word:?}");
     }
     Ok(())
 }
@@ -125,7 +124,7 @@ fn bits_are_read_in_their_order(rt: HostRuntime) -> Result<(), Fail> {
         word: Word::E12,
         order,
     };
-    assert_eq!(rt; found(alloc, &line, 0)?.candidate, candidate);
+    assert!(rt; found(alloc, &line, 0)?.candidate == candidate);
     match look(alloc, &line, 0, 1 << 20, &[PLAIN])? {
         Looked::Found(_) => Err(Fail::new("found in another order")),
         Looked::Nothing(_) => Ok(()),
@@ -138,7 +137,7 @@ fn frames_of_each_level_are_told(rt: HostRuntime) -> Result<(), Fail> {
     let alloc = rt.alloc();
     let line = line_of(alloc, Chain::E13, 40)?;
     let found = found(alloc, &line, 0)?;
-    assert_eq!(rt; found.levels.len(), 2);
+    assert!(rt; found.levels.len() == 2);
     let top = LevelFound {
         level: Level::E3,
         nodes: 1,
@@ -146,8 +145,8 @@ fn frames_of_each_level_are_told(rt: HostRuntime) -> Result<(), Fail> {
         judged: 37,
         right: 37,
     };
-    assert_eq!(rt; found.levels[0], top);
-    assert_eq!(rt; (found.levels[1].nodes, found.levels[1].stand), (4, 4));
+    assert!(rt; found.levels[0] == top);
+    assert!(rt; (found.levels[1].nodes, found.levels[1].stand) == (4, 4));
     assert!(rt; !found.alike);
     Ok(())
 }
@@ -166,7 +165,7 @@ fn nothing_is_found_in_too_few_frames(rt: HostRuntime) -> Result<(), Fail> {
             right: 4,
         },
     };
-    assert_eq!(rt; list[0], first);
+    assert!(rt; list[0] == first);
     Ok(())
 }
 
@@ -175,7 +174,7 @@ fn nothing_is_near_to_constant_bits(rt: HostRuntime) -> Result<(), Fail> {
     let alloc = rt.alloc();
     for byte in [0x00, 0xFF] {
         let line = vec![in alloc; byte; 20_000]?;
-        assert_eq!(rt; nearest(alloc, &line)?.len(), 0);
+        assert!(rt; nearest(alloc, &line)?.len() == 0);
     }
     Ok(())
 }
@@ -185,7 +184,7 @@ fn a_top_stands_or_falls(rt: HostRuntime) -> Result<(), Fail> {
     let alloc = rt.alloc();
     let line = line_of(alloc, Chain::E12, 12)?;
     for (word, stands) in [(Word::E12, true), (Word::E13, false)] {
-        assert_eq!(rt; top_stands(alloc, &line, 0, 1 << 20, word, PLAIN)?, stands);
+        assert!(rt; top_stands(alloc, &line, 0, 1 << 20, word, PLAIN)? == stands);
     }
     Ok(())
 }
