@@ -1,0 +1,3 @@
+-- What the answers of several claims say.
+pub mod Lines
+pub mod Schedules

@@ -1,0 +1,3 @@
+mod Pictures
+mod Apart
+mod Found

@@ -1,0 +1,5 @@
+use Rattle.std.proofs.Common.{ap, lit<}
+use Rattle.pdh_claims_of_health.proofs.seconds.severe_counted_as_errored.Goals as goal
+
+pub returns : goal.returns
+returns c = ap (λ t. t.errored) (c.tally.ensures _ (c.note.ensures _ c.new-seconds.ensures (lit< tt)) (lit< tt))

@@ -1,0 +1,6 @@
+use Rattle.std.specs.Fmt.{digits}
+use Rattle.pdh_claims_of_reports.proofs.report_text.hundredths_for_tenths.Goals as goal
+
+pub returns : goal.returns
+unfolding digits
+returns c = c.duration.ensures
