@@ -1,7 +1,7 @@
 -- The command that the words of a command line are.
 use Rattle.std.specs.Prelude.{◌≡◌, ℕ, ◌<◌, ◌≤◌, ⊤, nat_le, ◌==◌, ◌&&◌, List, [], ◌∷◌, length, codes, Option, Some, None, find, if◌then◌else◌}
 use Rattle.std.specs.Str.{bytes_eq}
-use Rattle.pdh_row_text.specs.Text.{number_of}
+use Rattle.pdh_row_text.specs.Text.{◌>>=◌, number_of}
 use Rattle.pdh_clock.specs.declared.bias.Bias.{Bias}
 use Rattle.pdh_clock.specs.declared.bias.Bias.TheVariants.{Nominal, Fast, Slow, Mixed}
 use Rattle.pdh_ds1.specs.declared.form.Frame1.{Frame1}
