@@ -626,3 +626,9 @@ turn_ready s (Tracking a b c part) bit =
 
 pub turns_ready : (s : FrameShape) (before after : Held) (bit : Bool) (step : Step) → Turns s before after bit step → length after.ready ≡ frames_gained step
 turns_ready s before after bit step t = ap length t.ready ∙ turn_ready s before.phase bit ∙ ap frames_gained (sym t.step_is)
+
+-- ---- ready frames that are taken out
+
+-- an aligner stands for the same line, whatever frames are ready
+pub stands_on : (s : FrameShape) (held now : Held) (line : List Bool) → now ≡ record held { ready = now.ready } → StandsFor s held line → StandsFor s now line
+stands_on s held now line is h = subst (λ (x : Held). StandsFor s x line) (sym is) (record { follows = h.follows; searches = h.searches })

@@ -11,6 +11,7 @@ use Rattle.pdh_align.specs.Aligning.{Held, Follows, StandsFor, Waits}
 use Rattle.pdh_align.specs.Aligning.Phase.{Searching, Tracking}
 use Rattle.pdh_align.specs.View.{held_of, HoldsEnough}
 use Rattle.pdh_align.proofs.AligningLaws.{Began, search_waits, alignment_waits}
+use Rattle.pdh_align.proofs.ReadyFrames.{joins_ring, joins_list, ring_alone, list_alone}
 
 no : {X : Type 0} → false ≡ true → X
 no h = cc
@@ -61,73 +62,81 @@ part_short k held bits =
 
 -- ---- the fields
 
--- what is added to the fields: bits none of which ends a frame
-pub record Added (len : ℕ) (searching fresh : Bool) (items now more : List Bool) (end : ℕ) : Type 0 where
+-- what is added to the bits that are held: bits none of which ends a frame
+pub record Added (len : ℕ) (searching fresh : Bool) (items now more : List Bool) : Type 0 where
   pub idle : searching ≡ true → fresh ≡ false
-  pub end_is : end ≡ cond searching (3 * len) len
   pub now_is : now ≡ cond fresh [] items ++ more
-  pub less : length now < end
+  pub less : length now < cond searching (3 * len) len
 
-part_waits : (s : FrameShape) (len : ℕ) (searching fresh : Bool) (before : List Marks) (items now more : List Bool) (end : ℕ) (search after : Sought) (line : List Bool) → IsFrame s → s.len ≡ len
-    → Added len searching fresh items now more end → (searching ≡ true → Takes s search after more)
+part_waits : (s : FrameShape) (len : ℕ) (searching fresh : Bool) (before : List Marks) (items now more : List Bool) (search after : Sought) (line : List Bool) → IsFrame s → s.len ≡ len
+    → Added len searching fresh items now more → (searching ≡ true → Takes s search after more)
     → StandsFor s (held_of len searching fresh before items search) line → Waits s (held_of len searching false before now after) more line
-part_waits s len true false before items now more end search after line shape same added takes h =
+part_waits s len true false before items now more search after line shape same added takes h =
     let now_is : now ≡ items ++ more = added.now_is in
-    let short : length (items ++ more) < 3 * s.len = rw (same, ← now_is) (omega (arith, added.less, added.end_is)) in
+    let short : length (items ++ more) < 3 * s.len = rw (same, ← now_is) added.less in
     let facts = search_waits_all s items line more shape h.follows short in
     let began = subst (λ x. Began s x (h.follows.since ++ more) (line ++ more)) (sym now_is) facts.0 in
     let kept : Searches s after now (h.follows.since ++ more) = subst (λ x. Searches s after x (h.follows.since ++ more)) (sym now_is) (takes refl items h.follows.since h.searches) in
     record { stands = record { follows = began.0; searches = subst (λ x. Searches s after now x) (sym began.1) kept }; same = facts.1; each = λ k. (search_waits_all s items line (take k more) shape h.follows (omega (arith, short, part_short k items more))).1 }
-part_waits s len true true before items now more end search after line shape same added takes h = no (sym (added.idle refl))
-part_waits s len false fresh before items now more end search after line shape same added takes h =
+part_waits s len true true before items now more search after line shape same added takes h = no (sym (added.idle refl))
+part_waits s len false fresh before items now more search after line shape same added takes h =
     let a : Marks = get_or before 0 clean in
     let b : Marks = get_or before 1 clean in
     let c : Marks = get_or before 2 clean in
     let now_is : now ≡ cond fresh [] items ++ more = added.now_is in
-    let short : length (cond fresh [] items ++ more) < s.len = rw (same, ← now_is) (omega (arith, added.less, added.end_is)) in
+    let short : length (cond fresh [] items ++ more) < s.len = rw (same, ← now_is) added.less in
     let facts = alignment_waits_all s a b c (cond fresh [] items) line more shape h.follows short in
     record { stands = record { follows = subst (λ x. Follows s (Tracking a b c x) (line ++ more)) (sym now_is) facts.0; searches = tt }; same = facts.1; each = λ k. (alignment_waits_all s a b c (cond fresh [] items) line (take k more) shape h.follows (omega (arith, short, part_short k (cond fresh [] items) more))).1 }
 
 -- once bits were added, none of which ends a frame
-pub takes_wait : (s : FrameShape) (len : ℕ) (searching fresh fresh' : Bool) (before : List Marks) (items now more : List Bool) (end : ℕ) (search after : Sought) (old : Held) (line : List Bool) → IsFrame s → s.len ≡ len
-    → held_of len searching fresh before items search ≡ old → fresh' ≡ false → Added len searching fresh items now more end → (searching ≡ true → Takes s search after more)
+pub takes_wait : (s : FrameShape) (len : ℕ) (searching fresh fresh' : Bool) (before : List Marks) (items now more : List Bool) (search after : Sought) (old : Held) (line : List Bool) → IsFrame s → s.len ≡ len
+    → held_of len searching fresh before items search ≡ old → fresh' ≡ false → Added len searching fresh items now more → (searching ≡ true → Takes s search after more)
     → StandsFor s old line → Waits s (held_of len searching fresh' before now after) more line
-takes_wait s len searching fresh fresh' before items now more end search after old line shape same view none added takes h =
+takes_wait s len searching fresh fresh' before items now more search after old line shape same view none added takes h =
     subst (λ f. Waits s (held_of len searching f before now after) more line) (sym none)
-    (part_waits s len searching fresh before items now more end search after line shape same added takes (subst (λ (x : Held). StandsFor s x line) (sym view) h))
+    (part_waits s len searching fresh before items now more search after line shape same added takes (subst (λ (x : Held). StandsFor s x line) (sym view) h))
 
--- what isn't ready of the bits that are held ends no frame
-pub below_end : (s : FrameShape) (len : ℕ) (searching fresh : Bool) (signals : Signals) (before : List Marks) (held : BoundedBits) (search : Sought) (end : ℕ) → 0 < len
-    → HoldsEnough s len searching fresh signals held search before → end ≡ cond searching (3 * len) len → length (cond fresh [] held.bits) < end
-below_end s len true false signals before held search end some h e = omega (arith, h.short refl, e)
-below_end s len true true signals before held search end some h e = no (sym (h.idle refl))
-below_end s len false false signals before held search end some h e = omega (arith, h.part refl refl, e)
-below_end s len false true signals before held search end some h e = omega (arith, some, e)
+-- in a search bits are added to the ring
+pub record InRing (s : FrameShape) (len : ℕ) (searching fresh : Bool) (held frame ring list more : List Bool) (after : Sought) : Type 0 where
+  pub short : length ring < 3 * len
+  pub empty : list ≡ []
+  pub added : Added len searching fresh (held ++ frame) (ring ++ list) more
+  pub begun : (since : List Bool) × Searches s after ring since
 
--- so bits are added for which there is room before it
-pub adds : (s : FrameShape) (len : ℕ) (searching fresh : Bool) (signals : Signals) (before : List Marks) (held cleared now : BoundedBits) (rest : List Bool) (search : Sought) (n end : ℕ) → 0 < len → HoldsEnough s len searching fresh signals held search before
-    → end ≡ cond searching (3 * len) len → cleared.bits ≡ cond fresh [] held.bits → now.bits ≡ cleared.bits ++ take n rest → n ≤ length rest → (length cleared.bits < end → length cleared.bits + n < end)
-    → Added len searching fresh held.bits now.bits (take n rest) end
-adds s len searching fresh signals before held cleared now rest search n end some holds end_is was is few room =
-    let fits : length cleared.bits + n < end = room (omega (arith, below_end s len searching fresh signals before held search end some holds end_is, ap length was)) in
-    record { idle = holds.idle; end_is = end_is; now_is = is ∙ ap (λ x. x ++ take n rest) was; less = omega (arith, fits, ap length is, length-append cleared.bits (take n rest), length-take-le n rest few) }
+pub adds_ring : (s : FrameShape) (len : ℕ) (searching fresh : Bool) (signals : Signals) (before : List Marks) (held frame : BoundedBits) (cleared ring list rest : List Bool) (search after : Sought) (n : ℕ)
+    → HoldsEnough s len searching fresh signals held frame search before → searching ≡ true → cleared ≡ cond fresh [] held.bits → list ≡ cond fresh [] frame.bits → ring ≡ cleared ++ take n rest → n ≤ length rest
+    → (length cleared < 3 * len → length cleared + n < 3 * len) → Takes s search after (take n rest) → InRing s len searching fresh held.bits frame.bits ring list (take n rest) after
+adds_ring s len false fresh signals before held frame cleared ring list rest search after n h is clear l r few room takes = no is
+adds_ring s len true true signals before held frame cleared ring list rest search after n h is clear l r few room takes = no (sym (h.idle refl))
+adds_ring s len true false signals before held frame cleared ring list rest search after n h is clear l r few room takes =
+    let more : List Bool = take n rest in
+    let ring_is : ring ≡ held.bits ++ more = r ∙ ap (λ x. x ++ more) clear in
+    let joined = joins_ring false held.bits frame.bits ring list more (h.unlisted refl) ring_is l in
+    let (since, kept) = h.begun refl in
+    let short : length ring < 3 * len = omega (arith, room (omega (arith, h.short refl, ap length clear)), ap length r, length-append cleared more, length-take-le n rest few) in
+    record {
+      short = short;
+      empty = joined.0;
+      added = record { idle = λ k. refl; now_is = joined.1; less = omega (arith, short, ap length (ring_alone ring list joined.0)) };
+      begun = (since ++ more, subst (λ x. Searches s after x (since ++ more)) (sym ring_is) (takes held.bits since kept));
+    }
 
--- the fields, once bits were added, none of which ends a frame
-pub holds_wait : (s : FrameShape) (len : ℕ) (searching fresh fresh' : Bool) (signals : Signals) (before : List Marks) (held now : BoundedBits) (more : List Bool) (end : ℕ) (search after : Sought) → fresh' ≡ false
-    → HoldsEnough s len searching fresh signals held search before → now.capacity ≡ held.capacity → Added len searching fresh held.bits now.bits more end
-    → (searching ≡ true → Takes s search after more) → HoldsEnough s len searching fresh' signals now after before
-holds_wait s len searching fresh true signals before held now more end search after none h room added takes = no (sym none)
-holds_wait s len searching fresh false signals before held now more end search after none h room added takes = record {
-  judges = h.judges;
-  room = rw room h.room;
-  three = h.three;
-  short = λ k. omega (arith, added.less, added.end_is ∙ ap (λ b. cond b (3 * len) len) k);
-  begun = λ k.
-      let (since, kept) = h.begun k in
-      let now_is : now.bits ≡ held.bits ++ more = added.now_is ∙ ap (λ f. cond f [] held.bits ++ more) (added.idle k) in
-      (since ++ more, subst (λ x. Searches s after x (since ++ more)) (sym now_is) (takes k held.bits since kept));
-  idle = λ k. refl;
-  part = λ k k'. omega (arith, added.less, added.end_is ∙ ap (λ b. cond b (3 * len) len) k);
-  whole = λ k. no k;
-  newest = λ k. no k;
-}
+-- in an alignment bits are added to the list
+pub record InList (len : ℕ) (searching fresh : Bool) (held frame ring list more : List Bool) : Type 0 where
+  pub short : length list < len
+  pub empty : ring ≡ []
+  pub added : Added len searching fresh (held ++ frame) (ring ++ list) more
+
+pub adds_list : (s : FrameShape) (len : ℕ) (searching fresh : Bool) (signals : Signals) (before : List Marks) (held frame : BoundedBits) (cleared ring list rest : List Bool) (search : Sought) (n : ℕ) → 0 < len
+    → HoldsEnough s len searching fresh signals held frame search before → searching ≡ false → ring ≡ cond fresh [] held.bits → cleared ≡ cond fresh [] frame.bits → list ≡ cleared ++ take n rest → n ≤ length rest
+    → (length cleared < len → length cleared + n < len) → InList len searching fresh held.bits frame.bits ring list (take n rest)
+adds_list s len true fresh signals before held frame cleared ring list rest search n some h is r clear l few room = no (sym is)
+adds_list s len false fresh signals before held frame cleared ring list rest search n some h is r clear l few room =
+    let more : List Bool = take n rest in
+    let joined = joins_list fresh held.bits frame.bits ring list more (h.listed refl) r (l ∙ ap (λ x. x ++ more) clear) in
+    let short : length list < len = omega (arith, room (below fresh frame.bits cleared some (h.part refl) clear), ap length l, length-append cleared more, length-take-le n rest few) in
+    record { short = short; empty = joined.0; added = record { idle = λ k. no k; now_is = joined.1; less = omega (arith, short, ap length (list_alone ring list joined.0)) } }
+  where
+    below : (fresh : Bool) (part cleared : List Bool) → 0 < len → (fresh ≡ false → length part < len) → cleared ≡ cond fresh [] part → length cleared < len
+    below true part cleared some h e = omega (arith, some, ap length e)
+    below false part cleared some h e = omega (arith, h refl, ap length e)

@@ -6,7 +6,6 @@ ghost use Rattle.std.specs.List.{slice_index_or};
 ghost use Rattle.pdh_shape.specs.Frame.{wrong as wrong_in};
 ghost use Rattle.pdh_phases.specs.Keeping.{StandsFor as PhasesStandFor};
 ghost use Rattle.pdh_align.specs.Aligning.{Held, Turns, Tracks, Waits, Passes, StandsFor, frame_back, frames_gained};
-ghost use Rattle.pdh_align.specs.Searching.{Takes};
 ghost use Rattle.pdh_align.specs.OpenGap.{EndsInGap};
 
 use crate::Step;
@@ -17,68 +16,47 @@ use pdh_phases::Phases;
 use pdh_shape::{Marks, Shape};
 use std::alloc::{AllocError, Global};
 use std::marker::{Model, PhantomData};
+use std::mem;
 
 /// Finds frame alignment in a line, and loses it (ITU-T G.742, 4). Only `open` takes memory.
 #[derive(Drop)]
 pub struct Aligner<S: Shape> {
     searching: bool,
-    // the bits that are held are the frames that the last step made ready
+    // the bits that it holds are the frames that the last step made ready
     fresh: bool,
     // what was wrong in the last three frames
     before: [Marks; 3],
     signals: Signals,
+    // while it searches, and as it ends a search, the bits from the oldest position on
     held: BitRing,
+    // else those since the last frame
+    frame: Packed,
     search: Search<S>,
     of: PhantomData<S>,
 }
 
 impl<S: Shape> Model for Aligner<S> {
-    ghost use Rattle.std.specs.Prelude.{◌≡◌};
+    ghost use Rattle.std.specs.Prelude.{◌++◌};
     ghost use Rattle.pdh_align.specs.Aligning.{Held};
     ghost use Rattle.pdh_align.specs.View.{held_of, HoldsEnough};
 
     ghost Value = { Held };
 
-    ghost view = { λ a. held_of S.LEN a.searching a.fresh a.before a.held.bits a.search };
+    ghost view = { λ a. held_of S.LEN a.searching a.fresh a.before (a.held.bits ++ a.frame.bits) a.search };
 
-    ghost invariant = { λ a. HoldsEnough S.shape S.LEN a.searching a.fresh a.signals a.held a.search a.before };
+    ghost invariant = { λ a. HoldsEnough S.shape S.LEN a.searching a.fresh a.signals a.held a.frame a.search a.before };
 }
 
 // Forgets the frames that the last step made ready.
-fn clear_ready(held: &mut BitRing, fresh: &mut bool)
+fn clear_ready(held: &mut BitRing, frame: &mut Packed, fresh: &mut bool)
     ensures held { held.new ≡ record held.old { bits = cond fresh.old [] held.old.bits } }
+    ensures frame { frame.new ≡ record frame.old { bits = cond fresh.old [] frame.old.bits } }
     ensures fresh { fresh.new ≡ false }
 {
     if *fresh {
         held.clear();
+        frame.clear();
         *fresh = false;
-    }
-}
-
-// How many bits end a search's three frames, or an alignment's frame.
-fn frame_end<S: Shape>(searching: bool) -> u32
-    ensures { result ≡ cond searching (3 * S.LEN) S.LEN }
-{
-    if searching {
-        return 3 * S::LEN;
-    }
-    S::LEN
-}
-
-// Lets a search take bits of a list, so many from a place on.
-fn search_all<S: Shape>(
-    searching: bool,
-    search: &mut Search<S>,
-    bits: &Packed,
-    from: usize,
-    count: usize,
-)
-    requires { from + count ≤ length bits.now.bits }
-    ensures idle { searching ≡ false → search.new ≡ search.old }
-    ensures taken { searching ≡ true → Takes S.shape search.old search.new (take count (drop from bits.now.bits)) }
-{
-    if searching {
-        search.push_all(bits, from, count);
     }
 }
 
@@ -101,6 +79,7 @@ impl<S: Shape> Aligner<S> {
     {
         let signals = Signals::of::<S>(alloc)?;
         let held = BitRing::open(alloc, (3 * S::LEN + 63) / 64 * 64)?;
+        let frame = Packed::open(alloc, S::LEN as usize)?;
         let search = Search::open(alloc)?;
         Ok(Aligner {
             searching: true,
@@ -108,6 +87,7 @@ impl<S: Shape> Aligner<S> {
             before: [clean(), clean(), clean()],
             signals,
             held,
+            frame,
             search,
             of: PhantomData,
         })
@@ -118,9 +98,9 @@ impl<S: Shape> Aligner<S> {
     fn end_turn(&mut self, bit: bool) -> Step
         ensures { Turns S.shape self.old self.new bit result }
     {
-        clear_ready(&mut self.held, &mut self.fresh);
-        self.held.append_bit(bit);
+        clear_ready(&mut self.held, &mut self.frame, &mut self.fresh);
         if self.searching {
+            self.held.append_bit(bit);
             self.search.push(bit);
             if self.held.held() < 3 * S::LEN {
                 return Step::Nothing;
@@ -135,13 +115,16 @@ impl<S: Shape> Aligner<S> {
             self.held.drop_oldest(1);
             return Step::Rejected;
         }
-        if self.held.held() < S::LEN {
+        self.frame.push(bit);
+        if self.frame.len() < S::LEN as usize {
             return Step::Nothing;
         }
         let [a, b, c] = self.before;
-        let d = wrong::<S>(&self.signals, &self.held);
+        let d = wrong::<S>(&self.signals, &self.frame);
         if completes_loss::<S>(&a, &b, &c, &d) {
             self.searching = true;
+            self.held.append_from(&self.frame, 0, S::LEN as usize);
+            self.frame.clear();
             self.search.restart(&self.held);
             return Step::Lost;
         }
@@ -154,11 +137,11 @@ impl<S: Shape> Aligner<S> {
     fn turn(&mut self, bit: bool) -> Step
         ensures { Turns S.shape self.old self.new bit result }
     {
-        let whole = self.held.held() + 1 >= S::LEN;
+        let whole = self.frame.len() + 1 >= S::LEN as usize;
         if whole || self.fresh || self.searching {
             return self.end_turn(bit);
         }
-        self.held.append_bit(bit);
+        self.frame.push(bit);
         Step::Nothing
     }
 
@@ -178,10 +161,15 @@ impl<S: Shape> Aligner<S> {
         ensures waits { (line : List Bool) → StandsFor S.shape self.old line → Waits S.shape self.new (take result (drop from bits.now.bits)) line }
         ensures ready { self.new.ready ≡ [] }
     {
-        clear_ready(&mut self.held, &mut self.fresh);
-        let room = frame_end::<S>(self.searching) - 1 - self.held.held();
+        clear_ready(&mut self.held, &mut self.frame, &mut self.fresh);
+        if !self.searching {
+            let count = most.min(S::LEN as usize - 1 - self.frame.len());
+            self.frame.append_from(bits, from, count);
+            return count;
+        }
+        let room = 3 * S::LEN - 1 - self.held.held();
         let count = most.min(room as usize);
-        search_all::<S>(self.searching, &mut self.search, bits, from, count);
+        self.search.push_all(bits, from, count);
         self.held.append_from(bits, from, count);
         count
     }
@@ -224,8 +212,11 @@ impl<S: Shape> Aligner<S> {
         if self.fresh {
             return S::LEN - 1;
         }
-        let left = frame_end::<S>(self.searching) - 1 - self.held.held();
-        if self.searching && left == 0 {
+        if !self.searching {
+            return S::LEN - 1 - self.frame.len() as u32;
+        }
+        let left = 3 * S::LEN - 1 - self.held.held();
+        if left == 0 {
             return S::LEN - 1 - gap;
         }
         left
@@ -239,8 +230,30 @@ impl<S: Shape> Aligner<S> {
         ensures appended { into.new ≡ record into.old { bits = into.old.bits ++ frame_back self.now.ready back } }
         ensures whole { length (frame_back self.now.ready back) ≡ S.LEN }
     {
+        if self.frame.len() > 0 {
+            into.append_all(&self.frame);
+            return;
+        }
         let after = (u32::from(back) + 1) * S::LEN;
         self.held.append_to(self.held.held() - after, S::LEN, into);
+    }
+
+    /// Exchanges the ready frame, where there is one alone, for the bits of a list that has room for it and no more, and
+    /// answers whether there was. Then it is ready no longer.
+    pub fn exchange_frame(&mut self, list: &mut Packed) -> bool
+        requires { list.old.capacity ≡ S.LEN }
+        ensures one { result ≡ true ↔ (length self.old.ready ≡ 1) }
+        ensures exchanged { result ≡ true → (list.new ≡ record list.old { bits = frame_back self.old.ready 0 }) × (self.new ≡ record self.old { ready = [] }) }
+        ensures none { result ≡ false → (list.new ≡ list.old) × (self.new ≡ self.old) }
+        ensures whole { result ≡ true → length list.new.bits ≡ S.LEN }
+    {
+        if !self.fresh || self.frame.len() == 0 {
+            return false;
+        }
+        list.clear();
+        mem::swap(&mut self.frame, list);
+        self.fresh = false;
+        true
     }
 
     /// A bit of the frame that stands `back` frames before the newest of the ready ones.
@@ -249,6 +262,9 @@ impl<S: Shape> Aligner<S> {
         requires in_frame { slot < S.LEN }
         ensures { result ≡ slice_index_or (frame_back self.now.ready back) slot false }
     {
+        if self.frame.len() > 0 {
+            return self.frame.get(slot as usize);
+        }
         let after = (u32::from(back) + 1) * S::LEN;
         self.held.bit(self.held.held() - after + slot)
     }

@@ -7,7 +7,7 @@ ghost use Rattle.pdh_shape.specs.declared.role.Mark.TheVariants.{Framing};
 ghost use Rattle.pdh_line.specs.Tracking.{is_confirmed as is_confirmed_in};
 ghost use Rattle.pdh_align.specs.Signals.{AreSignals, Judges};
 
-use pdh_packed::BitRing;
+use pdh_packed::{BitRing, Packed};
 use pdh_phases::signal_number;
 use pdh_shape::{Mark, Marks, Role, Shape};
 use std::alloc::{AllocError, Global};
@@ -85,6 +85,32 @@ fn has_bits<S: Shape>(slots: &[Signal], held: &BitRing, start: u32) -> bool
     true
 }
 
+// Whether a frame has its alignment signal, by which it is judged as `is_right` judges one of those that are held.
+fn frame_is_right<S: Shape>(signals: &Signals, frame: &Packed) -> bool
+    requires judges { Judges S.shape signals.now }
+    requires whole { length frame.now.bits ≡ S.LEN }
+    ensures { result ≡ is_right_in S.shape frame.now.bits }
+{
+    if S::SIGNAL > 0 {
+        return frame.read(0, S::SIGNAL).number() == signals.number;
+    }
+    frame_has_bits::<S>(&signals.slots, frame)
+}
+
+// The same by the alignment slots one by one.
+fn frame_has_bits<S: Shape>(slots: &[Signal], frame: &Packed) -> bool
+    requires signals { AreSignals S.shape slots.now }
+    requires whole { length frame.now.bits ≡ S.LEN }
+    ensures { result ≡ is_right_in S.shape frame.now.bits }
+{
+    for signal in slots {
+        if frame.get(signal.slot as usize) != signal.bit {
+            return false;
+        }
+    }
+    true
+}
+
 /// Whether three right frames are held. A frame is judged only where those before it are right.
 pub fn three_right<S: Shape>(signals: &Signals, held: &BitRing) -> bool
     requires judges { Judges S.shape signals.now }
@@ -151,16 +177,16 @@ fn multi_bit(before: bool, mark: Mark, broken: bool) -> bool
     }
 }
 
-// What is wrong in the frame that is held, by its alignment slots.
-fn wrong_slots<S: Shape>(slots: &[Signal], held: &BitRing) -> Marks
+// What is wrong in a frame, by its alignment slots.
+fn wrong_slots<S: Shape>(slots: &[Signal], frame: &Packed) -> Marks
     requires signals { AreSignals S.shape slots.now }
-    requires whole { length held.now.bits ≡ S.LEN }
-    ensures { result ≡ wrong_in S.shape held.now.bits }
+    requires whole { length frame.now.bits ≡ S.LEN }
+    ensures { result ≡ wrong_in S.shape frame.now.bits }
 {
     let mut framing = 0u64;
     let mut multi = false;
     for signal in slots {
-        let broken = held.bit(signal.slot) != signal.bit;
+        let broken = frame.get(signal.slot as usize) != signal.bit;
         let mark = S::mark(signal.slot);
         framing += framing_bit(mark, broken);
         multi = multi_bit(multi, mark, broken);
@@ -168,14 +194,14 @@ fn wrong_slots<S: Shape>(slots: &[Signal], held: &BitRing) -> Marks
     Marks { framing, multi }
 }
 
-/// What is wrong in the frame that is held. Its slots are looked at only where it isn't right.
-pub fn wrong<S: Shape>(signals: &Signals, held: &BitRing) -> Marks
+/// What is wrong in a frame. Its slots are looked at only where it isn't right.
+pub fn wrong<S: Shape>(signals: &Signals, frame: &Packed) -> Marks
     requires judges { Judges S.shape signals.now }
-    requires whole { length held.now.bits ≡ S.LEN }
-    ensures { result ≡ wrong_in S.shape held.now.bits }
+    requires whole { length frame.now.bits ≡ S.LEN }
+    ensures { result ≡ wrong_in S.shape frame.now.bits }
 {
-    if is_right::<S>(signals, held, 0) {
+    if frame_is_right::<S>(signals, frame) {
         return clean();
     }
-    wrong_slots::<S>(&signals.slots, held)
+    wrong_slots::<S>(&signals.slots, frame)
 }

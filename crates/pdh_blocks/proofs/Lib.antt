@@ -16,3 +16,4 @@ pub mod Giving
 pub mod Beginning
 pub mod FileLaws
 pub mod FailedLaws
+pub mod InBlock

@@ -70,6 +70,7 @@ module _ (a : PortState) (k : ℕ) (old : Output) (more : List Bool) (port : Hol
       ready = λ ready. ready;
     };
     inputs = refl;
+    leaves = refl;
     feed_faults = refl;
   }
 
@@ -153,5 +154,6 @@ module _ (a : PortState) where
       ready = λ ready. ready;
     };
     inputs = refl;
+    leaves = refl;
     feed_faults = refl;
   }

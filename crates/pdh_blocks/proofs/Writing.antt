@@ -106,6 +106,7 @@ module _ (a : PortState) (s : ShelfState) (k : ℕ) (name : List ℕ) (port : Ho
         ready = λ ready. ready;
       };
       inputs = inputs_same;
+      leaves = refl;
       feed_faults = refl;
     }
 

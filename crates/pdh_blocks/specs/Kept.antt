@@ -59,6 +59,7 @@ pub record Feeds (old new : PortState) : Type 0 where
 pub record Drains (old new : PortState) : Type 0 where
   pub keeps : Keeps old new
   pub inputs : inputs_of new ≡ inputs_of old
+  pub leaves : new.leaves ≡ old.leaves
   pub feed_faults : new.feed_faults ≡ old.feed_faults
 
 -- the `start` of a port has answered Ok, and so has that of each of its outputs

@@ -30,6 +30,17 @@ inputs_of port = record {
   told = λ k. option_and_then (rest_in port) (slice_get port.leaves k);
 }
 
+-- how many bits wait of these leaves
+abbrev pub waiting_of : Leaf → ℕ
+waiting_of leaf = length leaf.waiting
+
+abbrev pub waits_in : List Leaf → ℕ → ℕ
+waits_in leaves k = option_map_or waiting_of (slice_get leaves k) 0
+
+-- how many bits of leaf k's list are in the block that was read last
+abbrev pub waits_of : PortState → ℕ → ℕ
+waits_of port = waits_in port.leaves
+
 -- ---- what it takes
 
 -- the bits of a file that is told and held

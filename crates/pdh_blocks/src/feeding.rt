@@ -1,16 +1,16 @@
 //! Making a bit of a leaf wait, before it is given: where its block is used up, the next one is
 //! read.
 
-ghost use Rattle.std.specs.Prelude.{◌≡◌, ◌<◌, length, OnOk, IsErrOf};
+ghost use Rattle.std.specs.Prelude.{◌≡◌, ◌<◌, length, IsOk, OnOk, IsErrOf};
 ghost use Rattle.pdh_edge.specs.declared.port.FeedStop.TheVariants.{Ended, Failed as FeedFailed};
-ghost use Rattle.pdh_edge.specs.Ports.{HasFeedCause};
+ghost use Rattle.pdh_edge.specs.Ports.{HasFeedCause, GivesWaiting};
 
 use crate::blocks::Blocks;
 use pdh_edge::{FeedStop, Shelf};
 
 impl Blocks {
     ghost use Rattle.pdh_blocks.specs.State.{over};
-    ghost use Rattle.pdh_blocks.specs.Lists.{inputs_of};
+    ghost use Rattle.pdh_blocks.specs.Lists.{inputs_of, waits_in};
     ghost use Rattle.pdh_blocks.specs.Held.{IsPort};
     ghost use Rattle.pdh_blocks.specs.Done.{ReadsAtMost, HasWaiting, IsUnread};
 
@@ -22,6 +22,8 @@ impl Blocks {
         ensures done { ReadsAtMost (over (S.state shelf.old) self.old) (over (S.state shelf.new) self.new) }
         ensures cause { HasFeedCause self.old.feed_faults self.new.feed_faults result }
         ensures ok { OnOk result (HasWaiting leaf (over (S.state shelf.new) self.new)) }
+        ensures sure { 0 < waits_in self.old.leaves.items leaf → IsOk result }
+        ensures waits { GivesWaiting leaf 0 (waits_in self.old.leaves.items) (waits_in self.new.leaves.items) }
         ensures ended { IsErrOf result Ended
             → (inputs_of (over (S.state shelf.old) self.old)).left leaf ≡ 0 }
         ensures unread { IsErrOf result FeedFailed
@@ -42,6 +44,8 @@ impl Blocks {
         ensures done { ReadsAtMost (over (S.state shelf.old) self.old) (over (S.state shelf.new) self.new) }
         ensures cause { HasFeedCause self.old.feed_faults self.new.feed_faults result }
         ensures ok { OnOk result (HasWaiting leaf (over (S.state shelf.new) self.new)) }
+        ensures sure { 0 < waits_in self.old.leaves.items leaf → IsOk result }
+        ensures waits { GivesWaiting leaf 0 (waits_in self.old.leaves.items) (waits_in self.new.leaves.items) }
         ensures ended { IsErrOf result Ended
             → (inputs_of (over (S.state shelf.old) self.old)).left leaf ≡ 0 }
         ensures unread { IsErrOf result FeedFailed

@@ -65,6 +65,13 @@ impl LeafBlock {
         self.bits - self.given
     }
 
+    /// How many bits wait.
+    pub(crate) fn waiting(&self) -> usize
+        ensures { result ≡ length self.now.waiting }
+    {
+        self.end - self.taken
+    }
+
     /// Whether a bit waits.
     pub(crate) fn waits(&self) -> bool
         ensures { result ≡ nat_lt 0 (length self.now.waiting) }

@@ -1,10 +1,10 @@
 //! The calls of a port, over its blocks and its shelf.
 
-ghost use Rattle.std.proofs.Common.{◌∙◌};
+ghost use Rattle.std.proofs.Common.{◌∙◌, ap};
 ghost use Rattle.std.specs.Prelude.{◌≡◌, IfOk, IfErr, OnOk, OnErr};
 ghost use Rattle.pdh_edge.specs.Ports.{PutsPart, HasCause, nothing};
 ghost use Rattle.pdh_blocks.specs.State.{over};
-ghost use Rattle.pdh_blocks.specs.Lists.{inputs_of, outputs_of, room_in};
+ghost use Rattle.pdh_blocks.specs.Lists.{inputs_of, waits_in, outputs_of, room_in};
 ghost use Rattle.pdh_blocks.specs.Held.{IsPort, NamesFailed, AreWritten};
 ghost use Rattle.pdh_blocks.specs.Kept.{Keeps, Feeds, Drains, IsReady, IsRefused};
 ghost use Rattle.pdh_blocks.specs.Opened.{CanOpen, opened, IsWritten};
@@ -95,11 +95,13 @@ impl<S: Shelf> ShelfPort<S> {
 
 impl<S: Shelf> Feed for ShelfPort<S> {
     ghost use Rattle.pdh_blocks.specs.Done.{IsUnread};
-    ghost use Rattle.pdh_blocks.specs.laws.PortLaws.{feeds_same, feeds_join, feeds_holds, left_is, feed_faults_later};
+    ghost use Rattle.pdh_blocks.specs.laws.PortLaws.{feeds_same, feeds_join, feeds_holds, left_is, waits_left, feed_faults_later};
 
     ghost inputs = { λ p. inputs_of (over (S.state p.shelf) p.blocks) };
 
     ghost feed_faults = { λ p. p.blocks.feed_faults };
+
+    ghost waits = { λ p. waits_in p.blocks.leaves.items };
 
     ghost fed = { λ a b. Feeds (over (S.state a.shelf) a.blocks) (over (S.state b.shelf) b.blocks) };
 
@@ -114,6 +116,8 @@ impl<S: Shelf> Feed for ShelfPort<S> {
     ghost fed_counts = { λ a b p. feed_faults_later p.keeps };
 
     ghost left_told = { λ a k bits h. left_is (over (S.state a.shelf) a.blocks) k bits a.port h };
+
+    ghost waits_left = { λ a k. waits_left (over (S.state a.shelf) a.blocks) k a.port };
 
     fn feed_faults(&self) -> u64 {
         self.blocks.feed_faults
@@ -133,6 +137,10 @@ impl<S: Shelf> Feed for ShelfPort<S> {
 
     fn left(&self, leaf: u32) -> u64 {
         self.blocks.leaves[leaf as usize].left()
+    }
+
+    fn waiting(&self, leaf: u32) -> u64 {
+        self.blocks.leaves[leaf as usize].waiting() as u64
     }
 }
 
@@ -167,6 +175,10 @@ impl<S: Shelf> Drain for ShelfPort<S> {
     fn put_all(&mut self, leaf: u32, bits: &Packed) -> Result<(), Failed> {
         self.blocks.fresh = false;
         self.blocks.put_all(&mut self.shelf, leaf, bits)
+    }
+
+    fn is_deaf(&self) -> bool {
+        false
     }
 
     #[inline(always)]
@@ -212,6 +224,8 @@ impl<S: Shelf> Port for ShelfPort<S> {
     ghost fed_keeps_outputs = { λ a b p. (p.outputs, p.drain_faults) };
 
     ghost drained_keeps_inputs = { λ a b p. (p.inputs, p.feed_faults) };
+
+    ghost drained_keeps_waiting = { λ a b p k. ap (λ leaves. waits_in leaves k) p.leaves };
 
     fn start(&mut self) -> Result<(), Failed> {
         self.blocks.fresh = false;

@@ -1,5 +1,5 @@
 -- What one thing more makes of what a fine cell holds.
-use Rattle.std.proofs.Common.{◌≡◌, ℕ, ◌+◌, ◌≤◌, Bool, true, false, cond, ◌&&◌, ◌||◌, Option, Some, None, List, [], ◌∷◌, ◌++◌, inl, inr, refl, sym, ap, ◌∙◌, arith}
+use Rattle.std.proofs.Common.{◌≡◌, ℕ, ◌+◌, Bool, true, false, cond, ◌&&◌, ◌||◌, Option, Some, None, List, [], ◌∷◌, ◌++◌, inl, inr, refl, sym, ap, ◌∙◌, arith}
 use Rattle.std.specs.Prelude.{min, nat_le, ◌==◌, count_by, if◌then◌else◌}
 use Rattle.std.specs.List.{list_any, find}
 use Rattle.std.specs.Option.{option_or}
@@ -17,14 +17,14 @@ use Rattle.pdh_cells.proofs.Halves.{one_if}
 
 -- ---- lanes to which nothing comes
 
-same_flag : (b : Bool) → b ≡ (b || false)
+pub same_flag : (b : Bool) → b ≡ (b || false)
 same_flag true = refl
 same_flag false = refl
 
 same_count : (n : ℕ) → min n most ≡ min (min n most + 0) most
 same_count n = omega arith
 
-same_code : (code : Option Code) → code ≡ option_or code None
+pub same_code : (code : Option Code) → code ≡ option_or code None
 same_code None = refl
 same_code (Some code) = refl
 

@@ -1,6 +1,6 @@
 -- What is kept of a line's cells.
-use Rattle.std.proofs.Common.{◌≡◌, ℕ, zero, suc, ◌+◌, ◌*◌, ◌/◌, ◌^◌, ◌<◌, ◌≤◌, Bool, ◌&&◌, List, [], ◌∷◌, ◌++◌, get_or, replicate, inl, inr, refl, sym, ap, ◌∙◌, subst, arith, add-one}
-use Rattle.std.specs.Prelude.{max, nat_le, if◌then◌else◌}
+use Rattle.std.proofs.Common.{◌≡◌, ℕ, suc, ◌+◌, ◌*◌, ◌^◌, ◌≤◌, ◌&&◌, List, [], ◌∷◌, ◌++◌, get_or, replicate, inl, inr, refl, sym, ap, ◌∙◌, subst, arith, add-one}
+use Rattle.std.specs.Prelude.{nat_le, if◌then◌else◌}
 use Rattle.std.proofs.lemmas.Bool.{cases_lt}
 use Rattle.std.proofs.lemmas.List.{get_or-replicate, length-replicate, get_or_past}
 use Rattle.pdh_spans.specs.Times.{Span}
@@ -10,7 +10,7 @@ use Rattle.pdh_cells.specs.declared.cell.Cell.{Cell}
 use Rattle.pdh_cells.specs.declared.cell.Code.{Code}
 use Rattle.pdh_cells.specs.declared.cells.Cells.{Cells}
 use Rattle.pdh_cells.specs.Lanes.{Lanes, no_marks, with_time, with_block, with_far, with_code}
-use Rattle.pdh_cells.specs.Contents.{fine_cell, last_bit, contents, blank, joined, cell_of_state, cell_of_block, cell_of_far, cell_of_code}
+use Rattle.pdh_cells.specs.Contents.{last_bit, contents, blank, joined, cell_of_state, cell_of_block, cell_of_far, cell_of_code}
 use Rattle.pdh_cells.specs.Standing.{AreFrom, AreInOrder, StandsFor, Puts}
 use Rattle.pdh_cells.proofs.Halves.{contents_half}
 use Rattle.pdh_cells.proofs.Adding.{time_added, block_added, far_added, code_added}

@@ -1,5 +1,5 @@
 -- What a cell holds.
-use Rattle.std.specs.Prelude.{ℕ, ◌+◌, ◌-◌, ◌/◌, ◌^◌, min, max, Bool, true, false, nat_le, ◌==◌, ◌&&◌, ◌||◌, Option, Some, None, count_by}
+use Rattle.std.specs.Prelude.{ℕ, ◌+◌, ◌-◌, ◌/◌, ◌^◌, min, max, Bool, true, false, nat_le, ◌==◌, ◌&&◌, ◌||◌, Some, None, count_by}
 use Rattle.std.specs.List.{list_any, find}
 use Rattle.std.specs.Option.{option_or}
 use Rattle.pdh_spans.specs.Times.{Span}

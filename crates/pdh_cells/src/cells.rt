@@ -33,8 +33,12 @@ pub struct Cells {
     // a fine cell has 2 to this of bits
     shift: u32,
     cells: Vec<Cell>,
+    // how many of the cells are in use, the first ones; nothing has come in those behind them
+    used: usize,
     ghost small: { shift ≤ 52 },
     ghost count: { length cells.items ≡ 4096 },
+    ghost within: { used ≤ 4096 },
+    ghost unused: { (cell : ℕ) → used ≤ cell → get_or cells.items cell blank ≡ blank },
 }
 
 impl Cells {
@@ -45,29 +49,34 @@ impl Cells {
         ensures { IfOk result (λ cells. StandsFor cells no_marks 0) }
     {
         let cells = vec![in alloc; Cell::blank(); FINE_CELLS]?;
-        Ok(Cells { shift: 0, cells })
+        Ok(Cells {
+            shift: 0,
+            cells,
+            used: 0,
+        })
     }
 
-    // What two neighbours hold, counted in pairs; behind the last there is nothing.
+    // What two neighbours hold, counted in pairs; behind those in use there is nothing.
     fn pair(&self, index: usize) -> Cell
         ensures { result ≡ joined (get_or self.now.cells.items (2 * index) blank) (get_or self.now.cells.items (2 * index + 1) blank) }
     {
-        if index >= FINE_CELLS / 2 {
+        if index >= self.used.div_ceil(2) {
             return Cell::blank();
         }
         self.cells[2 * index].join(self.cells[2 * index + 1])
     }
 
-    // Makes one of each two neighbours.
+    // Makes one of each two neighbours that are in use.
     fn join_pairs(&mut self)
         ensures each { (cell : ℕ) → get_or self.new.cells.items cell blank
             ≡ joined (get_or self.old.cells.items (2 * cell) blank) (get_or self.old.cells.items (2 * cell + 1) blank) }
         ensures shift { self.new.shift ≡ self.old.shift }
     {
-        for index in 0..FINE_CELLS {
+        for index in 0..self.used {
             let joined = self.pair(index);
             self.cells[index] = joined;
         }
+        self.used = self.used.div_ceil(2);
     }
 
     // Makes the fine cells so wide that a bit is in one of them.
@@ -91,6 +100,7 @@ impl Cells {
     {
         let first = (from >> self.shift) as usize;
         let end = (last >> self.shift) as usize + 1;
+        self.used = self.used.max(end);
         for index in first..end {
             let cell = self.cells[index].join(more);
             self.cells[index] = cell;
@@ -142,7 +152,7 @@ impl Cells {
         self.widen_to(bits - 1);
         let count = ((bits - 1) >> self.shift) as usize + 1;
         let mut drawn = [Cell::blank(); CELLS];
-        for fine in 0..count {
+        for fine in 0..count.min(self.used) {
             let cell = fine * CELLS / count;
             let joined = drawn[cell].join(self.cells[fine]);
             drawn[cell] = joined;

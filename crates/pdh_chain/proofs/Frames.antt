@@ -1,5 +1,6 @@
 -- Bits of a line that are made and put, one frame after another.
-use Rattle.std.proofs.Common.{◌≡◌, ℕ, suc, ◌+◌, ◌-◌, ◌*◌, ◌^◌, ◌<◌, ◌≤◌, min, Bool, true, false, List, [], ◌∷◌, ◌++◌, length, map, refl, sym, ap, subst, ◌∙◌, arith, inl, inr, Some}
+use Rattle.std.proofs.Common.{◌≡◌, ℕ, suc, ◌+◌, ◌-◌, ◌*◌, ◌^◌, ◌<◌, ◌≤◌, min, cond, Bool, true, false, List, [], ◌∷◌, ◌++◌, length, map, refl, sym, ap, subst, ◌∙◌, arith, inl, inr, Option, Some, None}
+use Rattle.std.specs.Prelude.{IfSome}
 use Rattle.std.specs.List.{range_with_len}
 use Rattle.std.proofs.Math.ListN.{get_or-append}
 use Rattle.std.proofs.Math.Nat.{suc-mul, add-mul, mul-le-mul_right}
@@ -7,7 +8,7 @@ use Rattle.std.proofs.lemmas.Bool.{cases_lt}
 use Rattle.std.proofs.lemmas.List.{append-nil, length-append, map-append, get_or-append-add}
 use Rattle.pdh_edge.specs.Counts.{one_more}
 use Rattle.pdh_edge.specs.Files.{Rose}
-use Rattle.pdh_edge.specs.Ports.{Inputs, Outputs, Puts, PutsPart, nothing}
+use Rattle.pdh_edge.specs.Ports.{Inputs, Outputs, Puts, PutsPart, nothing, only_waiting}
 use Rattle.pdh_edge.proofs.Progress.{both_counts}
 use Rattle.pdh_edge.proofs.Runs.{rose_of}
 use Rattle.pdh_shape.specs.declared.role.Service.{Service}
@@ -17,10 +18,12 @@ use Rattle.pdh_line.proofs.Ranges.{range_append}
 use Rattle.pdh_tx.specs.declared.tx.Tx as tx
 use Rattle.pdh_tx.specs.declared.tx.TxStop.{TxStop}
 use Rattle.pdh_tx.specs.declared.tx.TxStop.TheVariants.{Failed, LogFailed}
-use Rattle.pdh_tx.specs.Meaning.{Plan, Supply, Meaning, Fits, Agrees, Makes, Stops, faults_met}
+use Rattle.pdh_tx.specs.Meaning.{Plan, Supply, Meaning, StaysFree, Fits, Agrees, Makes, Stops, faults_met}
 use Rattle.pdh_tx.specs.Held.{IsPart, Halts}
 use Rattle.pdh_tx.specs.Making.{Gives, IsClear, IsFree, IsUneventful, MakesAll}
 use Rattle.pdh_chain.specs.Muxing.{as_line, Stood, HasFrames, SayInFrames, StopsAt, MakesBits, StopsMaking, Sends, StopsSending, FailsToSend, FailsToTake, IsSendStop}
+use Rattle.pdh_cbit.specs.Channel.{Sending as Channel}
+use Rattle.pdh_chain.specs.Saying.{says_of, HasSaid}
 use Rattle.pdh_chain.specs.Calls.{StopsFrame}
 use Rattle.pdh_chain.specs.Faults.{counted_at_send_stop}
 use Rattle.pdh_chain.specs.declared.sending.SendStop.{SendStop}
@@ -253,33 +256,38 @@ sending_stops m m' says placed old mid plan len frames n stop x y z o o' o'' fau
       (sending_puts m says placed old mid plan (n * len) x y o o' p supply (stood_first m says old plan 0 p.makes.given s.given supply st));
 })
 
--- a bit of a frame can't be put
-pub sending_fails : (m m' : Meaning) (says : ℕ → Service) (placed placed' : ℕ → Type 0) (old mid new : Supply → ℕ → Type 0) (plan : Plan) (len frames n : ℕ) (more more' : List Bool) (x y z w : Inputs) (o o' o'' p : Outputs) (faults later now : ℕ) → m' ≡ m → more' ≡ more
-    → w ≡ z → o'' ≡ o' → n < frames → faults ≤ later → Sending m says placed old mid plan (n * len) x y o o' → MakesBits m' says placed' mid new plan (n * len) (n * len + len) more y z → PutsPart (as_line more') o'' p → Rose later now
+-- a bit of the next frames, so many, can't be put
+pub sending_fails : (m m' : Meaning) (says : ℕ → Service) (placed placed' : ℕ → Type 0) (old mid new : Supply → ℕ → Type 0) (plan : Plan) (len frames n count last : ℕ) (more more' : List Bool) (x y z w : Inputs) (o o' o'' p : Outputs) (faults later now : ℕ) → m' ≡ m → more' ≡ more
+    → w ≡ z → o'' ≡ o' → suc last ≡ n + count → last < frames → faults ≤ later → Sending m says placed old mid plan (n * len) x y o o' → MakesBits m' says placed' mid new plan (n * len) (n * len + count * len) more y z → PutsPart (as_line more') o'' p → Rose later now
     → FailsToSend m says old plan len frames x w o p faults now
-sending_fails m m' says placed placed' old mid new plan len frames n more more' x y z w o o' o'' p faults later now same bits rest left lt le s makes puts rose =
-    let step : MakesBits m says placed' mid new plan (n * len) (n * len + len) more y z = subst (λ m. MakesBits m says placed' mid new plan (n * len) (n * len + len) more y z) same makes in
-    let whole : MakesBits m says placed' old new plan 0 (n * len + len) (s.bits ++ more) x z = makes_then m says placed placed' old mid new plan 0 (n * len) (n * len + len) s.bits more x y z s.makes step in
-    let all : MakesBits m says placed' old new plan 0 (suc n * len) (s.bits ++ more) x w =
-    subst (λ to. MakesBits m says placed' old new plan 0 to (s.bits ++ more) x w) (sym (suc-mul n len)) (subst (λ w. MakesBits m says placed' old new plan 0 (n * len + len) (s.bits ++ more) x w) (sym rest) whole) in
+sending_fails m m' says placed placed' old mid new plan len frames n count last more more' x y z w o o' o'' p faults later now same bits rest left ends lt le s makes puts rose =
+    let end : suc last * len ≡ n * len + count * len = ap (λ v. v * len) ends ∙ add-mul n count len in
+    let step : MakesBits m says placed' mid new plan (n * len) (n * len + count * len) more y z = subst (λ m. MakesBits m says placed' mid new plan (n * len) (n * len + count * len) more y z) same makes in
+    let whole : MakesBits m says placed' old new plan 0 (n * len + count * len) (s.bits ++ more) x z = makes_then m says placed placed' old mid new plan 0 (n * len) (n * len + count * len) s.bits more x y z s.makes step in
+    let all : MakesBits m says placed' old new plan 0 (suc last * len) (s.bits ++ more) x w =
+    subst (λ to. MakesBits m says placed' old new plan 0 to (s.bits ++ more) x w) (sym end) (subst (λ w. MakesBits m says placed' old new plan 0 (n * len + count * len) (s.bits ++ more) x w) (sym rest) whole) in
     let here : PutsPart (as_line more) o' p = subst (λ o. PutsPart (as_line more) o p) left (subst (λ bits. PutsPart (as_line bits) o'' p) bits puts) in
     let part : PutsPart (as_line (s.bits ++ more)) o p = puts_part s.bits more (s.bits ++ more) o o' p s.puts here ([], sym (append-nil (s.bits ++ more))) in
     record {
-      whole = n;
+      whole = last;
       fewer = lt;
       given = all.given;
       gives = all.gives;
       free = all.free;
       rose = rose_since faults later now le rose;
-      puts = λ supply st. subst (λ bits. PutsPart (as_line bits) o p) (front_is (m.line supply) (s.bits ++ more) (suc n * len) all.count (all.onward supply st).0) part;
+      puts = λ supply st. subst (λ bits. PutsPart (as_line bits) o p) (front_is (m.line supply) (s.bits ++ more) (suc last * len) all.count (all.onward supply st).0) part;
     }
 
-pub frame_end : (n len : ℕ) → n * len + len ≡ (n + 1) * len
-frame_end n len = omega (arith, add-mul n 1 len)
+pub frames_end : (n count len : ℕ) → n * len + count * len ≡ (n + count) * len
+frames_end n count len = sym (add-mul n count len)
 
 -- a frame before the end of so many ends by then
 pub frames_upto : (n frames len : ℕ) → n < frames → n * len + len ≤ frames * len
 frames_upto n frames len h = omega (arith, mul-le-mul_right len h, suc-mul n len)
+
+-- and so many frames before it do
+pub frames_within : (n count frames len : ℕ) → n + count ≤ frames → n * len + count * len ≤ frames * len
+frames_within n count frames len h = omega (arith, mul-le-mul_right len h, add-mul n count len)
 
 -- ---- frames in whose way nothing stands
 
@@ -304,6 +312,34 @@ pub free_none : (m : Meaning) (plan : Plan) (a b : ℕ) (x : Inputs) → b ≤ a
 free_none m plan a b x none = record {
   free = λ size fits y l h. absurd (omega (arith, none, l, h));
   no_slip = λ y l h. absurd (omega (arith, none, l, h));
+}
+
+-- what is free is so by lists that hold as many bits
+pub free_same : (m : Meaning) (plan : Plan) (a b : ℕ) (x y : Inputs) → ((k : ℕ) → y.left k ≡ x.left k) → IsUneventful m plan a b x → IsUneventful m plan a b y
+free_same m plan a b x y same free = record {
+  free = λ size fits. free.free size (λ k leaf. omega (arith, fits k leaf, same k));
+  no_slip = free.no_slip;
+}
+
+-- and by lists of which only some bits are known to be enough
+pub free_more : (m : Meaning) (plan : Plan) (a b : ℕ) (x : Inputs) (waits : ℕ → ℕ) → StaysFree m → ((k : ℕ) → waits k ≤ x.left k) → IsUneventful m plan a b (only_waiting x waits) → IsUneventful m plan a b x
+free_more m plan a b x waits longer within free = record {
+  free = λ size fits y l h.
+      let few : ℕ → ℕ = λ k. cond (m.leaves k) (m.given plan a k + waits k) (size k) in
+      let fewer : (k : ℕ) → few k ≤ size k = λ k. less (m.leaves k) k (λ leaf. omega (arith, fits k leaf, within k)) in
+      longer plan few size y fewer (free.free few (λ k leaf. ap (λ b. cond b (m.given plan a k + waits k) (size k)) leaf) y l h);
+  no_slip = free.no_slip;
+}
+  where
+    less : {size few : ℕ} (leaf : Bool) (k : ℕ) → (leaf ≡ true → few ≤ size) → cond leaf few size ≤ size
+    less true k few = few refl
+    less false k few = omega arith
+
+-- behind bits that took some of what waits, what was free in it is so still
+pub free_behind : (m : Meaning) (now : Service) (placed : ℕ → Type 0) (old new : Supply → ℕ → Type 0) (plan : Plan) (a b to : ℕ) (bits : List Bool) (x y : Inputs) → a ≤ b → MakesAll m now placed old new plan a b bits x y → IsUneventful m plan a to x → IsUneventful m plan b to y
+free_behind m now placed old new plan a b to bits x y le makes free = record {
+  free = free_rest m plan a b to to makes.given x y makes.gives le (omega arith) free.free;
+  no_slip = λ i l h. free.no_slip i (omega (arith, l, le)) h;
 }
 
 -- behind a frame that was made, what was free is so still
@@ -332,35 +368,75 @@ makes_next m m' says now placed old new plan a len l bits x y same long told fre
           p.onward supply (record { plan_is = s.plan_is; said = λ y l h n e. s.said n ∙ told y n l h e; stands = s.stands; agrees = s.agrees });
     }
 
--- the frame that begins at such a place is the only one that does before its end
-says_in_frame : (m : Meaning) (says : ℕ → Service) (now : Service) (len whole l : ℕ) → HasFrames m len → l ≡ len → says whole ≡ now → SayInFrames m says now (whole * len) (whole * len + l)
-says_in_frame m says now len whole l frames long is y n le lt begins =
+-- the frames that begin at such a place and before their end say what so many frames from there on say
+says_in_frames : (m : Meaning) (says : ℕ → Service) (now : Service) (len whole count : ℕ) → HasFrames m len → ((n : ℕ) → whole ≤ n → n < whole + count → says n ≡ now) → SayInFrames m says now (whole * len) (whole * len + count * len)
+says_in_frames m says now len whole count frames alike y n le lt begins =
     let at : y ≡ n * len = frames y n begins in
-    let here : n ≡ whole = between (omega (arith, at, le)) (omega (arith, at, lt, long)) in
-    ap says here ∙ is
+    alike n (from (omega (arith, at, le)) (omega (arith, at, lt))) (upto (omega (arith, at, lt)))
   where
-    between : whole * len ≤ n * len → n * len < whole * len + len → n ≡ whole
-    between l h = elim (cases_lt n whole) [
-      | inl less ↦ absurd (omega (arith, l, h, mul-le-mul_right len less, suc-mul n len))
-      | inr more ↦ elim (cases_lt whole n) [
-        | inl less ↦ absurd (omega (arith, h, mul-le-mul_right len less, suc-mul whole len))
-        | inr other ↦ omega arith
-      ]
+    from : whole * len ≤ n * len → n * len < whole * len + count * len → whole ≤ n
+    from l h = elim (cases_lt n whole) [
+      | inl less ↦ absurd (omega (arith, l, h, mul-le-mul_right len less, suc-mul n len, some))
+      | inr more ↦ more
+    ]
+      where
+        some : len ≡ 0 → ⊥
+        some empty = absurd (omega (arith, h, ap (λ v. n * v) empty, ap (λ v. whole * v) empty, ap (λ v. count * v) empty))
+
+    upto : n * len < whole * len + count * len → n < whole + count
+    upto h = elim (cases_lt n (whole + count)) [
+      | inl less ↦ less
+      | inr more ↦ absurd (omega (arith, h, mul-le-mul_right len more, add-mul whole count len))
     ]
 
--- the sender was told what its next frame says
-pub record IsTold {T : Type 0} (sender : tx.Ghosts T) (t now : T) (plan : Plan) (says : ℕ → Service) (len whole : ℕ) (x y : Inputs) (o o' : Outputs) : Type 0 where
+-- frames that are made one by one where there is a code
+pub alone_of : (feac : Option ℕ) (most count : ℕ) → IfSome feac (λ code. most ≡ 1) → 0 < count → count ≤ most → IfSome feac (λ code. count ≡ 1)
+alone_of None most count is some few = tt
+alone_of (Some code) most count is some few = omega (arith, is, some, few)
+
+-- so many frames of those that wait are enough bits
+pub enough_for : (waiting count len clear : ℕ) → count ≤ waiting → waiting * len ≤ clear → count * len ≤ clear
+enough_for waiting count len clear few h = omega (arith, h, mul-le-mul_right len few)
+
+-- those left behind them are
+pub rest_enough : (waiting count len clear : ℕ) → waiting * len ≤ clear → (waiting - count) * len ≤ clear - count * len
+rest_enough waiting count len clear h = elim (cases_lt waiting count) [
+  | inl less ↦ let none : waiting - count ≡ 0 = omega (arith, less) in omega (arith, ap (λ v. v * len) none)
+  | inr more ↦
+      let all : waiting ≡ (waiting - count) + count = omega (arith, more) in
+      omega (arith, h, ap (λ v. v * len) all ∙ add-mul (waiting - count) count len)
+]
+
+-- and end where all did
+pub rest_ends : (n waiting count len : ℕ) → count ≤ waiting → n * len + waiting * len ≡ (n + count) * len + (waiting - count) * len
+rest_ends n waiting count len few =
+    let all : waiting ≡ count + (waiting - count) = omega (arith, few) in
+    omega (arith, ap (λ v. v * len) all ∙ add-mul count (waiting - count) len, add-mul n count len)
+
+-- what one frame says of a code, or any number of frames of none, is the same
+pub said_alike : (feac : Option ℕ) (whole count : ℕ) (now : Service) → now ≡ says_of feac whole → IfSome feac (λ code. count ≡ 1) → (n : ℕ) → whole ≤ n → n < whole + count → says_of feac n ≡ now
+said_alike None whole count now is alone n l h = sym is
+said_alike (Some code) whole count now is alone n l h = (let here : n ≡ whole = omega (arith, l, h, alone) in ap (says_of (Some code)) here ∙ sym is)
+
+pub said_upto : (channel : Option Channel) (feac : Option ℕ) (n count : ℕ) → IfSome feac (λ code. count ≡ 1) → HasSaid channel feac (n + 1) → HasSaid channel feac (n + count)
+said_upto None None n count alone said = tt
+said_upto None (Some code) n count alone said = absurd said
+said_upto (Some sender) None n count alone said = absurd said
+said_upto (Some sender) (Some code) n count alone said = subst (λ (v : ℕ). HasSaid (Some sender) (Some code) (n + v)) (sym alone) said
+
+-- the sender was told what its next frames say, so many
+pub record IsTold {T : Type 0} (sender : tx.Ghosts T) (t now : T) (plan : Plan) (says : ℕ → Service) (len whole count : ℕ) (x y : Inputs) (o o' : Outputs) : Type 0 where
   pub same : sender.meaning now ≡ sender.meaning t
   pub sending : Sending (sender.meaning t) says (sender.stands_at now plan) (sender.stands_for t) (sender.stands_for now) plan (whole * len) x y o o'
-  pub told : (m : Meaning) → m ≡ sender.meaning t → SayInFrames m says (sender.says now) (whole * len) (whole * len + len)
+  pub told : (m : Meaning) → m ≡ sender.meaning t → SayInFrames m says (sender.says now) (whole * len) (whole * len + count * len)
 
-pub is_told : {T : Type 0} (sender : tx.Ghosts T) (t last now : T) (plan : Plan) (says : ℕ → Service) (len whole : ℕ) (x y : Inputs) (o o' : Outputs) → HasFrames (sender.meaning t) len → sender.meaning last ≡ sender.meaning t → sender.meaning now ≡ sender.meaning last
-    → ((n : ℕ) → sender.stands_at last plan n → sender.stands_at now plan n) → ((supply : Supply) (n : ℕ) → sender.stands_for last supply n → sender.stands_for now supply n) → sender.says now ≡ says whole
-    → Sending (sender.meaning t) says (sender.stands_at last plan) (sender.stands_for t) (sender.stands_for last) plan (whole * len) x y o o' → IsTold sender t now plan says len whole x y o o'
-is_told sender t last now plan says len whole x y o o' frames same set placed held is sending = record {
+pub is_told : {T : Type 0} (sender : tx.Ghosts T) (t last now : T) (plan : Plan) (says : ℕ → Service) (len whole count : ℕ) (x y : Inputs) (o o' : Outputs) → HasFrames (sender.meaning t) len → sender.meaning last ≡ sender.meaning t → sender.meaning now ≡ sender.meaning last
+    → ((n : ℕ) → sender.stands_at last plan n → sender.stands_at now plan n) → ((supply : Supply) (n : ℕ) → sender.stands_for last supply n → sender.stands_for now supply n) → ((n : ℕ) → whole ≤ n → n < whole + count → says n ≡ sender.says now)
+    → Sending (sender.meaning t) says (sender.stands_at last plan) (sender.stands_for t) (sender.stands_for last) plan (whole * len) x y o o' → IsTold sender t now plan says len whole count x y o o'
+is_told sender t last now plan says len whole count x y o o' frames same set placed held alike sending = record {
   same = set ∙ same;
   sending = sending_set (sender.meaning t) says (sender.stands_at last plan) (sender.stands_at now plan) (sender.stands_for t) (sender.stands_for last) (sender.stands_for now) plan (whole * len) x y o o' placed held sending;
-  told = λ m means. says_in_frame m says (sender.says now) len whole len (subst (λ (m : Meaning). HasFrames m len) (sym means) frames) refl (sym is);
+  told = λ m means. says_in_frames m says (sender.says now) len whole count (subst (λ (m : Meaning). HasFrames m len) (sym means) frames) alike;
 }
 
 -- a call for bits failed in a frame, and left the outputs

@@ -23,3 +23,4 @@ pub mod Scheduled
 pub mod Clear
 pub mod FarGrows
 pub mod Recovered
+pub mod Waiting

@@ -149,6 +149,11 @@ abbrev pub KeepsFree : {T : Type 0} → tx.Ghosts T → T → Plan → ℕ → �
 KeepsFree sender t plan clear now inputs =
     (x : ℕ) → sender.stands_at t plan x → IsUneventful (sender.meaning t) plan x (x + clear) inputs → IsUneventful (sender.meaning t) plan x (x + now) inputs
 
+-- its next bits, so many, took some of what waits, and what was free in it behind them is so still
+abbrev pub KeepsWaiting : {T : Type 0} → tx.Ghosts T → T → Plan → ℕ → Inputs → Inputs → Type 0
+KeepsWaiting sender t plan len before after =
+    (x to : ℕ) → sender.stands_at t plan x → IsUneventful (sender.meaning t) plan x to before → IsUneventful (sender.meaning t) plan (x + len) to after
+
 -- it made the bits of a frame, so many, as above, where nothing stands in the way of so many
 abbrev pub MakesFrameFree : {T : Type 0} → tx.Ghosts T → T → T → Plan → ℕ → ℕ → List Bool → Inputs → Inputs → Type 0
 MakesFrameFree sender old new plan len clear bits before after =

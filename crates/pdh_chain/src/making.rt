@@ -35,6 +35,14 @@ fn stop_of(stop: TxStop) -> MuxStop
     }
 }
 
+// How many frames of the top are made at once, at most: that saves calls where its tributaries have frames of their own.
+fn frames_at_once(over_leaves: bool) -> usize
+    ensures some { 0 < result }
+    ensures few { result ≤ 16 }
+{
+    if over_leaves { 1 } else { 16 }
+}
+
 /// Makes so many frames of the line of a chain with such a top, as `mux` does, or where the log takes slips as `mux_slips` does.
 pub fn mux_with<T: ChainTop, P: Port, G: SlipLog>(
     alloc: Global,
@@ -59,7 +67,7 @@ pub fn mux_with<T: ChainTop, P: Port, G: SlipLog>(
 {
     let mut top: T = open_sender(alloc)?;
     let len = T::LEN;
-    let mut frame = Packed::open(alloc, len as usize)?;
+    let mut frame = Packed::open(alloc, frames_at_once(T::IS_OVER_LEAVES) * len as usize)?;
     if let Err(Failed) = port.start() {
         return Err(MuxStop::WriteFailed);
     }

@@ -33,6 +33,9 @@ pub trait ChainTop: ChainTx + Multiplexer {
     /// Slots in a frame of its own, which is bits on the line.
     const LEN: u32;
 
+    /// Its tributaries are leaves.
+    const IS_OVER_LEAVES: bool;
+
     /// They are those of the first of its levels.
     ghost len_is: { top_len Self.ChainTx.shapes ≡ LEN };
 }
@@ -42,6 +45,8 @@ impl<S: Shape, C: ChainTx> ChainTop for Node<S, C> {
 
     const LEN: u32 = S::LEN;
 
+    const IS_OVER_LEAVES: bool = C::IS_LEAF;
+
     ghost len_is = { S.len_is };
 }
 
@@ -49,6 +54,8 @@ impl<S: Shape, C: ChainTx> ChainTop for Locked<S, C> {
     ghost LEN = { S.LEN };
 
     const LEN: u32 = S::LEN;
+
+    const IS_OVER_LEAVES: bool = C::IS_LEAF;
 
     ghost len_is = { S.len_is };
 }

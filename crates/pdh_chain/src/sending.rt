@@ -1,17 +1,20 @@
 //! Sending a line: its whole frames, up to what stands in the way. A frame that surely meets nothing, and so brings no slip either,
-//! is made at once, and any other bit by bit.
+//! is made at once, with those behind it whose bits wait, and any other bit by bit.
 
-ghost use Rattle.std.specs.Prelude.{◌≡◌, ◌*◌, ◌≤◌, ◌<◌, false, OnOk, IfErr, IfSome};
+ghost use Rattle.std.specs.Prelude.{◌≡◌, ◌+◌, ◌*◌, ◌≤◌, ◌<◌, true, false, length, IsOk, OnOk, IfErr, IfSome};
+ghost use Rattle.pdh_packed.specs.Gaining.{gained, IsGrown};
+ghost use Rattle.pdh_edge.specs.Ports.{only_waiting, TakesWaiting};
 ghost use Rattle.pdh_tx.specs.Meaning.{plan_in};
-ghost use Rattle.pdh_tx.specs.Calls.{Draws, IsFed, IsKept, StandsBy};
-ghost use Rattle.pdh_chain.specs.Calls.{IsAtStart, IsLinked, RunsOn, StandsFree, MakesFrame, MakesFrameFree, StopsInFrame, StopsFrame, SendsFrames};
+ghost use Rattle.pdh_tx.specs.Calls.{Draws, IsFed, IsKept, StandsBy, StandsClear, MakesNextAll};
+ghost use Rattle.pdh_tx.specs.Telling.{TellsNone};
+ghost use Rattle.pdh_chain.specs.Calls.{IsAtStart, IsLinked, RunsOn, StandsFree, MakesFrame, MakesFrameFree, KeepsWaiting, StopsInFrame, StopsFrame, SendsFrames};
 ghost use Rattle.pdh_chain.specs.Slipping.{TellsInFrame, TellsFrame, TellsFrames};
 
 use crate::ahead::Ahead;
 use crate::multiplexer::Multiplexer;
 use crate::saying::{channel_of, next_service};
 use pdh_clock::Schedule;
-use pdh_edge::{Drain, Failed, Feed, Port};
+use pdh_edge::{Drain, Failed, Feed, Port, Waiting};
 use pdh_packed::Packed;
 use pdh_slips::SlipLog;
 use pdh_tx::{Tx, TxStop};
@@ -32,7 +35,7 @@ pub enum SendStop {
 fn make_bits<T: Tx, F: Feed, G: SlipLog>(
     sender: &mut T,
     clock: &Schedule,
-    len: u32,
+    len: usize,
     frame: &mut Packed,
     feed: &mut F,
     log: &mut G,
@@ -59,13 +62,46 @@ fn make_bits<T: Tx, F: Feed, G: SlipLog>(
     Ok(())
 }
 
-// Makes the next bits of the line, so many, and keeps them in the buffer in place of what it held: at once where no fewer, `clear`
-// of them, surely meet nothing. Bits made at once bring no slip, so the log is then told of nothing.
-fn make_frame<T: Tx, F: Feed, G: SlipLog>(
+// Appends the next bits of the line, so many, which surely meet nothing and take bits that wait alone.
+fn make_waiting<T: Tx, F: Feed, G: SlipLog>(
     sender: &mut T,
     clock: &Schedule,
-    len: u32,
+    len: usize,
+    frame: &mut Packed,
+    feed: &mut F,
+    log: &mut G,
+)
+    requires running { T.is_stopped sender.old ≡ false }
+    requires fed { IsFed (T.meaning sender.old) clock.now (F.inputs feed.old) }
+    requires clear { StandsClear T.meaning T.stands_at sender.old (plan_in clock.now G.takes) len (only_waiting (F.inputs feed.old) (F.waits feed.old)) }
+    requires room { length frame.old.bits + len ≤ frame.old.capacity }
+    ensures grown { IsGrown frame.old frame.new len }
+    ensures takes { TakesWaiting (F.inputs feed.old) (F.inputs feed.new) (F.waits feed.old) (F.waits feed.new) }
+    ensures waiting { MakesNextAll T.meaning T.says T.stands_at T.stands_for sender.old sender.new (plan_in clock.now G.takes) len
+        (gained frame.old frame.new) (only_waiting (F.inputs feed.old) (F.waits feed.old)) (only_waiting (F.inputs feed.new) (F.waits feed.new)) }
+    ensures told { TellsNone G.SlipLog log.old log.new }
+    ensures running { T.is_stopped sender.new ≡ false }
+    ensures fed { F.fed feed.old feed.new }
+    ensures unfailed { F.feed_faults feed.new ≡ F.feed_faults feed.old }
+    ensures kept { IsKept T.meaning T.says sender.old sender.new }
+{
+    let mut waiting = Waiting::of(feed);
+    match sender.make_clear(clock, &mut waiting, log, len, frame) {
+        Ok(()) => {}
+        // No call for a bit that waits fails.
+        Err(Failed) => unreachable!(),
+    }
+}
+
+// Makes the next bits of the line, so many, and keeps them in the buffer in place of what it held: at once where no fewer, `clear` of
+// them, surely meet nothing, and of bits that wait alone where these are surely enough. Bits made at once bring no slip, so the log is
+// then told of nothing.
+fn make_frames<T: Tx, F: Feed, G: SlipLog>(
+    sender: &mut T,
+    clock: &Schedule,
+    len: usize,
     clear: usize,
+    waits: bool,
     frame: &mut Packed,
     feed: &mut F,
     log: &mut G,
@@ -73,9 +109,13 @@ fn make_frame<T: Tx, F: Feed, G: SlipLog>(
     requires running { T.is_stopped sender.old ≡ false }
     requires fed { IsFed (T.meaning sender.old) clock.now (F.inputs feed.old) }
     requires free { StandsFree T.Tx sender.old (plan_in clock.now G.takes) clear (F.inputs feed.old) }
+    requires waiting { waits ≡ true → StandsFree T.Tx sender.old (plan_in clock.now G.takes) len (only_waiting (F.inputs feed.old) (F.waits feed.old)) }
     requires room { len ≤ frame.old.capacity }
     ensures made { OnOk result (MakesFrameFree T.Tx sender.old sender.new (plan_in clock.now G.takes) len clear frame.new.bits
         (F.inputs feed.old) (F.inputs feed.new)) }
+    ensures waiting { waits ≡ true → len ≤ clear → OnOk result (KeepsWaiting T.Tx sender.old (plan_in clock.now G.takes) len
+        (only_waiting (F.inputs feed.old) (F.waits feed.old)) (only_waiting (F.inputs feed.new) (F.waits feed.new))) }
+    ensures sure { waits ≡ true → len ≤ clear → IsOk result }
     ensures stops { IfErr result (StopsFrame T.Tx sender.old (plan_in clock.now G.takes) len
         (F.inputs feed.old) (F.inputs feed.new) (F.feed_faults feed.old) (F.feed_faults feed.new)) }
     ensures told { TellsFrame T.Tx sender.old (plan_in clock.now G.takes) len clear (F.inputs feed.old) G.SlipLog log.old log.new result }
@@ -84,21 +124,39 @@ fn make_frame<T: Tx, F: Feed, G: SlipLog>(
     ensures fed { Draws F.Feed feed.old feed.new result }
     ensures kept { IsKept T.meaning T.says sender.old sender.new }
 {
-    if clear < len as usize {
+    if clear < len {
         return match make_bits(sender, clock, len, frame, feed, log) {
             Ok(()) => Ok(()),
             Err(stop) => Err(SendStop::Sender(stop)),
         };
     }
     frame.clear();
-    match sender.make_clear(clock, feed, log, len as usize, frame) {
+    if waits {
+        make_waiting(sender, clock, len, frame, feed, log);
+        return Ok(());
+    }
+    match sender.make_clear(clock, feed, log, len, frame) {
         Ok(()) => Ok(()),
         Err(Failed) => Err(SendStop::TakeFailed),
     }
 }
 
+// How many frames of so many bits are made at once, at most: as many as the buffer has room for, and one where each says another bit of
+// a code.
+fn at_once(feac: Option<u8>, room: usize, len: u32) -> u64
+    ensures some { 0 < result }
+    ensures room { len ≤ room → result * len ≤ room }
+    ensures alone { IfSome feac (λ code. result ≡ 1) }
+{
+    match (feac, room.checked_div(len as usize)) {
+        (None, Some(frames)) if frames > 0 => frames as u64,
+        _ => 1,
+    }
+}
+
 /// Makes so many frames of a multiplexer's line from its first bit on, and puts their bits to output
-/// 0 of the port, whole frames only: the bits of a frame are put once all of them are made. The
+/// 0 of the port, whole frames only: the bits of a frame are put once all of them are made, and those of as many frames as the buffer
+/// has room for are put by one call where they surely meet nothing and take bits that wait alone. The
 /// frames say what `feac` asks for. Where the log takes slips, it is told of each when it comes.
 pub fn send_frames<T: Multiplexer, P: Port, G: SlipLog>(
     sender: &mut T,
@@ -121,16 +179,22 @@ pub fn send_frames<T: Multiplexer, P: Port, G: SlipLog>(
 {
     let mut channel = channel_of(feac);
     let mut ahead = Ahead::unknown();
-    for whole in 0..frames {
+    let most = at_once(feac, frame.capacity(), len);
+    let mut whole = 0;
+    while whole < frames {
         sender.set(next_service(&mut channel));
-        let known = ahead.look::<T, P, G>(sender, clock, len, frames - whole, port);
-        if let Err(stop) = make_frame(sender, clock, len, known.clear, frame, port, log) {
+        let known = ahead.look::<T, P, G>(sender, clock, len, frames - whole, most, port);
+        let count = known.waiting.min(most).min(frames - whole).max(1);
+        let bits = count as usize * len as usize;
+        let waits = known.waiting > 0;
+        if let Err(stop) = make_frames(sender, clock, bits, known.clear, waits, frame, port, log) {
             return Err(stop);
         }
         if let Err(Failed) = port.put_all(0, frame) {
             return Err(SendStop::WriteFailed);
         }
-        ahead = known.after(len);
+        ahead = known.after(count, bits);
+        whole += count;
     }
     Ok(())
 }

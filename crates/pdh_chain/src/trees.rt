@@ -60,6 +60,9 @@ pub trait ChainTx: Tx {
     /// Its nodes are of the kind of their frames: with stores where the frame has control copies, and else without.
     ghost fits: { Type 0 };
 
+    /// It is a leaf.
+    const IS_LEAF: bool;
+
     /// The layouts of its levels' frames, which all nodes of a level share.
     type Tables: Drop;
 
@@ -143,6 +146,8 @@ impl ChainTx for Leaf {
 
     ghost are_frames = { tt };
 
+    const IS_LEAF: bool = true;
+
     type Tables = ();
 
     fn tables(_alloc: Global) -> Result<(), AllocError> {
@@ -162,6 +167,8 @@ impl<S: Shape, C: ChainTx> ChainTx for Node<S, C> {
     ghost fits = { HasStores S.shape × C.fits };
 
     ghost are_frames = { (S.is_frame, S.has_tributaries, C.are_frames) };
+
+    const IS_LEAF: bool = false;
 
     type Tables = LevelLayouts<S, C::Tables>;
 
@@ -186,6 +193,8 @@ impl<S: Shape, C: ChainTx> ChainTx for Locked<S, C> {
     ghost fits = { HasNoStores S.shape × C.fits };
 
     ghost are_frames = { (S.is_frame, S.has_tributaries, C.are_frames) };
+
+    const IS_LEAF: bool = false;
 
     type Tables = LevelLayouts<S, C::Tables>;
 

@@ -1,6 +1,6 @@
 //! Claims of the alignment machine.
 
-ghost use Rattle.std.specs.Prelude.{◌≡◌, ◌<◌, ◌≤◌, ◌+◌, ◌&&◌, ℕ, Bool, List, [], ◌∷◌, ◌++◌, length, map, take, drop};
+ghost use Rattle.std.specs.Prelude.{◌≡◌, ◌<◌, ◌≤◌, ◌+◌, ◌&&◌, ℕ, Bool, List, [], ◌∷◌, ◌++◌, length, map, take, drop, true};
 ghost use Rattle.std.specs.List.{list_any};
 ghost use Rattle.pdh_shape.specs.Frame.{slots, is_multi, breaks_at};
 ghost use Rattle.pdh_line.specs.Tracking.{Piece, track};
@@ -108,6 +108,37 @@ pub fn lost_frame_is_not_pushed_again<S: Shape>(
         Some(phases) => phases.run_at(phase),
         None => 0,
     }
+}
+
+/// A frame that is exchanged is the one by which the tracking grew at the last bit.
+pub fn part_of_a_frame_exchanged<S: Shape>(
+    aligner: &mut Aligner<S>,
+    bit: bool,
+    list: &mut Packed,
+) -> bool
+    requires { list.old.capacity ≡ S.LEN }
+    ensures { result ≡ true → (line : List Bool) → StandsFor S.shape aligner.old line
+        → track S.shape (line ++ bit ∷ []) ≡ track S.shape line ++ Delivered list.new.bits ∷ [] }
+{
+    aligner.push(bit);
+    aligner.exchange_frame(list)
+}
+
+/// Behind a frame that is exchanged the line goes on as before: none of the list's bits is one of it.
+pub fn bits_of_the_list_are_held<S: Shape>(
+    aligner: &mut Aligner<S>,
+    list: &mut Packed,
+    bits: &Packed,
+    from: usize,
+    most: usize,
+) -> usize
+    requires room { list.old.capacity ≡ S.LEN }
+    requires begun { from + most ≤ length bits.now.bits }
+    ensures { (line : List Bool) → StandsFor S.shape aligner.old line
+        → track S.shape (line ++ take result (drop from bits.now.bits)) ≡ track S.shape line }
+{
+    aligner.exchange_frame(list);
+    aligner.take(bits, from, most)
 }
 
 /// The marks tell whether a multiframe slot of the newest frame is wrong.

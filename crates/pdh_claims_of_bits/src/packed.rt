@@ -1,6 +1,7 @@
 //! Claims on `pdh_packed`.
 
 ghost use Rattle.std.specs.Prelude.{◌≡◌, ◌+◌, ◌<◌, ◌≤◌, false, true, [], ◌∷◌, ◌++◌, length, replicate, OnOk};
+ghost use Rattle.pdh_packed.specs.Words.{low_bits};
 
 use pdh_packed::{BitArray, BitRing, Packed, Word};
 use std::alloc::AllocError;
@@ -56,12 +57,28 @@ pub fn inverted_bits_one_place_late(list: &mut Packed)
     list.invert();
 }
 
+/// Where the first of 65 bits is removed, the last of them stays.
+pub fn inverts_the_bit_behind_the_words(list: &mut Packed)
+    requires { list.old.bits ≡ replicate 64 false ++ true ∷ [] }
+    ensures { list.new.bits ≡ replicate 63 false ++ true ∷ [] }
+{
+    list.remove(0);
+}
+
 /// The first bit is that bit.
 pub fn reads_on_past_the_first_bits(word: &Word) -> Word
     requires { word.now ≡ false ∷ true ∷ [] }
     ensures { result ≡ false ∷ [] }
 {
     word.first(1)
+}
+
+/// What is read from the last bit on begins with it.
+pub fn reads_zeros_before_the_last_bits(list: &Packed) -> u64
+    requires { list.now.bits ≡ true ∷ [] }
+    ensures { low_bits 64 result ≡ true ∷ replicate 63 false }
+{
+    list.read_filled(0)
 }
 
 /// After room was made for a bit more, a full list has room for one.

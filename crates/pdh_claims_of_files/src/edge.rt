@@ -30,6 +30,14 @@ pub fn default_puts_other_bits<D: Drain>(drain: &mut D, bits: &Packed) -> Result
     drain.put_all(0, bits)
 }
 
+/// A drain that tells what one of its lists holds isn't deaf.
+pub fn deaf_though_it_tells<D: Drain>(drain: &D) -> bool
+    requires { (D.outputs drain.now).told 0 ≡ Some [] }
+    ensures { result ≡ false }
+{
+    drain.is_deaf()
+}
+
 /// A put that fails is counted once.
 pub fn failed_put_counted_twice(port: &mut MemPort, bits: &Packed) -> Result<(), Failed>
     requires held { IsTrue ((⟦<MemPort as Drain>⟧.outputs port.old).holds 0) }

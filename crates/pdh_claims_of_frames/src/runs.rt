@@ -65,6 +65,19 @@ pub fn empty_turn_takes_a_queue_bit<S: Shape>(
     layout.fill_column(trib, false, first, len, queue, column);
 }
 
+/// A frame that is given in exchange for one that was read is read itself from then on.
+#[tactic(auto, unfolding(pdh_shape::specs::Tributary::stripped))]
+pub fn frame_read_as_the_one_before<S: Shape>(parts: &mut Parts<S>, frame: &mut Packed, trib: u8)
+    requires known { trib < S.TRIBS }
+    requires whole { length frame.old.bits ≡ S.LEN }
+    requires room { frame.old.capacity ≡ S.LEN }
+    ensures { parts.new.bits ≡ bits_read S.shape trib (carries_more S.shape trib frame.old.bits) frame.old.bits }
+{
+    parts.read(trib);
+    parts.exchange(frame);
+    parts.read(trib);
+}
+
 /// A justifiable slot is a payload slot of its run.
 pub fn justifiable_slot_as_overhead<S: Shape>(alloc: Global) -> Result<Vec<Run>, AllocError>
     ensures { IfOk result (λ runs. (slot j : ℕ) → slot < S.LEN → S.shape.role slot ≡ Just j → slice_index_or (flat_map run_classes runs.items) slot false ≡ true) }
@@ -91,6 +104,14 @@ pub fn one_control_copy_decides<S: Shape>(layout: &Layout<S>, trib: u8, frame: &
     ensures { result ≡ true }
 {
     layout.carries_more(trib, frame)
+}
+
+/// The parity of a frame is even where no payload slot is a one, whatever its other slots are.
+pub fn parity_counts_the_overhead<S: Shape>(parts: &Parts<S>) -> bool
+    requires { (slot : ℕ) → (slice_index_or parts.now.frame slot false && is_payload (S.shape.role (0 + slot))) ≡ false }
+    ensures { result ≡ false }
+{
+    parts.is_odd()
 }
 
 /// The parity of a frame counts the ones of all its payload slots.

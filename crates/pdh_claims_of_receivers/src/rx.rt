@@ -1,6 +1,6 @@
 //! Claims of the demultiplexer.
 
-ghost use Rattle.std.specs.Prelude.{◌≡◌, ◌<◌, ◌≤◌, ◌*◌, ◌-◌, ◌^◌, min, Bool, List, [], ◌∷◌, ◌++◌, length, take, drop, IfOk, OnOk};
+ghost use Rattle.std.specs.Prelude.{◌≡◌, ◌<◌, ◌≤◌, ◌*◌, ◌-◌, ◌^◌, min, Bool, false, List, [], ◌∷◌, ◌++◌, length, take, drop, Some, IfOk, OnOk};
 ghost use Rattle.pdh_shape.specs.declared.place.Path.{Path};
 ghost use Rattle.pdh_shape.specs.Tributary.{stripped};
 ghost use Rattle.pdh_line.specs.Tracking.{frames_delivered};
@@ -13,7 +13,7 @@ ghost use Rattle.pdh_rx.specs.Node.{node_meaning, child_notes, received_lines, g
 use pdh_align::{Aligner, Step};
 use pdh_edge::{Drain, Failed};
 use pdh_packed::Packed;
-use pdh_rx::{NodeCounts, Rx, RxNode, Strip, gap_after, take_watched};
+use pdh_rx::{NodeCounts, Rx, RxNode, Strip, Tail, gap_after, take_watched};
 use pdh_shape::Shape;
 use pdh_watch::Watch;
 use std::alloc::AllocError;
@@ -37,13 +37,13 @@ pub fn gap_gives_one_one_too_few<S: Shape>(strip: &mut Strip<S>) -> usize
 /// The bits that are read of a ready frame are those of the tributary.
 pub fn bits_of_another_tributary<S: Shape>(
     strip: &mut Strip<S>,
-    aligner: &Aligner<S>,
+    aligner: &mut Aligner<S>,
     back: u8,
     trib: u8,
 )
-    requires ready { back < length aligner.now.ready }
+    requires ready { back < length aligner.old.ready }
     requires known { trib < S.TRIBS }
-    ensures { strip.new.bits ≡ stripped S.shape trib (frame_back aligner.now.ready back) }
+    ensures { strip.new.bits ≡ stripped S.shape trib (frame_back aligner.old.ready back) }
 {
     strip.load(aligner, back);
     strip.read(trib);
@@ -120,6 +120,25 @@ pub fn due_bit_given_twice<S: Shape, C: Rx, D: Drain, W: Watch>(
 {
     node.push(bit, drain, watch)?;
     Ok(())
+}
+
+/// A leaf whose list is told isn't spared its bits.
+pub fn leaf_spared_though_its_list_is_told<D: Drain>(leaf: u32, drain: &D) -> bool
+    requires { (D.outputs drain.now).told leaf ≡ Some [] }
+    ensures { result ≡ false }
+{
+    Tail::new(leaf).is_deaf(drain)
+}
+
+/// A node isn't spared a bit that brings an event.
+pub fn node_spared_though_an_event_comes<S: Shape, C: Rx, D: Drain>(
+    node: &RxNode<S, C>,
+    drain: &D,
+) -> bool
+    requires { (line : List Bool) × (bit : Bool) × ⟦<RxNode<S, C> as Rx>⟧.stands node.now line × ((⟦<RxNode<S, C> as Rx>⟧.meaning node.now).notes line bit ≡ [] → ⊥) }
+    ensures { result ≡ false }
+{
+    node.is_deaf(drain)
 }
 
 /// Bits that are glided over bring no event, of the node or below it.

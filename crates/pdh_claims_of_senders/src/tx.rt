@@ -1,10 +1,13 @@
 //! Claims on multiplexers with stores.
 
-ghost use Rattle.std.specs.Prelude.{◌≡◌, ◌<◌, ◌≤◌, ◌+◌, ◌*◌, ℕ, suc, false, true, None, Some, [], ◌∷◌, ◌++◌, flat_map, if◌then◌else◌, length, nat_le, slice_get, IfErr, IfOk, IsErr, OnOk};
-ghost use Rattle.std.specs.List.{range_with_len};
-ghost use Rattle.pdh_shape.specs.declared.role.Role.TheVariants.{Info, Just};
+ghost use Rattle.std.specs.Prelude.{◌≡◌, ◌<◌, ◌≤◌, ◌+◌, ◌-◌, ◌*◌, ℕ, suc, Bool, false, true, None, Some, [], ◌∷◌, ◌++◌, flat_map, if◌then◌else◌, length, nat_le, slice_get, IfErr, IfOk, IsErr, OnOk};
+ghost use Rattle.std.specs.List.{range_with_len, slice_index_or};
+ghost use Rattle.pdh_shape.specs.declared.role.Role.TheVariants.{Align, Info, Just};
 ghost use Rattle.pdh_shape.specs.OwnNumbers.{lead};
-ghost use Rattle.pdh_shape.specs.Tributary.{reads_below, turned};
+ghost use Rattle.pdh_shape.specs.Tributary.{reads_below, reads_from, turned};
+ghost use Rattle.pdh_runs.specs.Pieces.{overhead_before, row};
+ghost use Rattle.pdh_tx.specs.Passing.{carried_in};
+ghost use Rattle.pdh_tx.specs.Gathered.{IsLeftOver};
 ghost use Rattle.pdh_line.specs.Edits.{edited};
 ghost use Rattle.pdh_line.specs.Progress.{arrived};
 ghost use Rattle.pdh_line.specs.Sending.{arrived_in, arrives_at, carriage, carriage_of, came_before, odd_before};
@@ -21,9 +24,13 @@ ghost use Rattle.pdh_tx.specs.Tributaries.{AreFed, HaveArrived, HaveDecided, Hol
 use pdh_clock::Schedule;
 use pdh_edge::{Failed, Feed};
 use pdh_packed::Packed;
+use pdh_runs::Layout;
 use pdh_shape::{Path, Service, Shape};
 use pdh_slips::SlipLog;
-use pdh_tx::{Body, Decisions, Piece, Sender, Tributaries, Tx, TxStop, carried, overhead_of};
+use pdh_tx::{
+    Body, Decisions, Piece, Queue, Sender, Tributaries, Tx, TxStop, carried, overhead_of,
+    write_overhead,
+};
 
 /// In a piece of a frame each child makes as many bits as arrive in it.
 pub fn arrivals_of_a_piece_from_the_frames_start<S: Shape, C: Tx, F: Feed, G: SlipLog>(
@@ -151,6 +158,15 @@ pub fn left_over_bits_not_put_back<S: Shape, C: Tx, F: Feed, G: SlipLog>(
     ts.piece(at, say, odd, clock, feed, log, into)
 }
 
+/// Of all bits that were gathered of a tributary those that aren't carried stand in its store behind the last piece.
+pub fn left_over_queue_not_put_back<S: Shape, C: Tx>(ts: &mut Tributaries<S, C>)
+    requires left { (j : ℕ) → IsLeftOver ts.old j }
+    ensures { (j : ℕ) (w queue : _) → slice_get ts.new.list.items j ≡ Some w → slice_get ts.new.queues.items j ≡ Some queue
+        → queue.gone + length (store_in w) ≡ length queue.bits.bits }
+{
+    ts.scatter_all()
+}
+
 /// The bit of an information slot is the next one of its tributary, with what slips did to it, and turned where the line has it
 /// so: it is nothing that the store tells by its fill.
 pub fn line_bits_not_turned<S: Shape, C: Tx, G: SlipLog>(
@@ -250,6 +266,29 @@ pub fn quiet_one_bit_too_far<S: Shape, C: Tx, F: Feed, G: SlipLog>(
     ts.quiet::<F, G>(path, frame, slot, clock, feed, most)
 }
 
+/// A slot that carries a bit of a tributary has the next one that isn't carried yet of those that stand in its queue.
+pub fn queue_read_from_its_start<S: Shape>(
+    queue: &mut Queue,
+    trib: u8,
+    more: bool,
+    arriving: usize,
+    layout: &Layout<S>,
+    first: u32,
+    len: usize,
+    column: &mut Packed,
+)
+    requires trib { trib < S.TRIBS }
+    requires inside { first + len ≤ S.LEN }
+    requires held { queue.old.gone + queue.old.fill + arriving ≤ length queue.old.bits.bits }
+    requires enough { carried_in S.shape trib more first len ≤ queue.old.fill + arriving }
+    requires room { S.LOW + 1 ≤ column.old.capacity }
+    ensures { (v i : ℕ) → v < len → reads_from trib more (S.shape.role (first + v)) ≡ true
+        → reads_below S.shape trib more first + i ≡ reads_below S.shape trib more (first + v)
+        → slice_index_or column.new.bits (row S.shape first v) false ≡ turned (S.shape.inverted trib) (slice_index_or queue.old.bits.bits (queue.old.gone + i) false) }
+{
+    queue.pass(trib, more, arriving, layout, first, len, column)
+}
+
 /// What is given for the next frame doesn't change what is said in the frame in progress.
 pub fn service_bits_at_once<S: Shape, B: Body<S>>(sender: &mut Sender<S, B>, say: Service)
     ensures next { ⟦<Sender<S, B> as Tx>⟧.says sender.new ≡ say }
@@ -313,7 +352,24 @@ pub fn stuffed_slot_inverted<S: Shape, D: Decisions>(
     requires { slot < S.LEN }
     ensures { (j : ℕ) → S.shape.role slot ≡ Just j → result ≡ true }
 {
-    overhead_of::<S, D>(slot, say, odd, decisions)
+    overhead_of::<S, D>(S::role(slot), say, odd, decisions)
+}
+
+/// A slot of the alignment signal has the bit that its own role names, whatever the next such slot has.
+pub fn role_of_the_neighbouring_slot<S: Shape, D: Decisions>(
+    layout: &Layout<S>,
+    at: Piece,
+    say: &Service,
+    odd: bool,
+    decisions: &D,
+    into: &mut Packed,
+)
+    requires inside { at.slot + at.len ≤ S.LEN }
+    requires room { S.LEN ≤ into.old.capacity }
+    ensures { (v : ℕ) (signal : Bool) → v < at.len → S.shape.role (at.slot + v) ≡ Align signal
+        → slice_index_or into.new.bits (overhead_before S.shape (at.slot + v) - overhead_before S.shape at.slot) false ≡ signal }
+{
+    write_overhead::<S, D>(layout, at, say, odd, decisions, into);
 }
 
 /// An information slot carries a bit of the tributary that its role names.

@@ -4,6 +4,7 @@ pub mod Growing
 pub mod Judging
 pub mod Served
 pub mod Begins
+pub mod Arriving
 pub mod WrittenRows
 pub mod WrittenNodes
 pub mod ReadBack

@@ -1,6 +1,6 @@
 //! How many frames each node begins while the top makes a number of frames.
 
-ghost use Rattle.std.specs.Prelude.{◌≡◌, ◌≤◌, ◌<◌, ◌*◌, ◌+◌, ◌^◌, IsNone, IsSome, IfSome, Some, option_map};
+ghost use Rattle.std.specs.Prelude.{◌≡◌, ◌≤◌, ◌<◌, ◌*◌, ◌+◌, ◌/◌, ◌%◌, ◌==◌, ◌^◌, if◌then◌else◌, IsNone, IsSome, IfSome, Some, option_map};
 ghost use Rattle.pdh_line.specs.Nodes.{width};
 ghost use Rattle.pdh_line.specs.Paths.{path_of};
 ghost use Rattle.pdh_shape.specs.declared.place.Level.{Level};
@@ -8,11 +8,14 @@ ghost use Rattle.pdh_levels.specs.Levels.{level_at, place_of, numbers_of};
 ghost use Rattle.pdh_line.specs.Paths.{steps_of};
 ghost use Rattle.pdh_clock.specs.Contents.{counts, frame_count};
 ghost use Rattle.pdh_clock.specs.Begun.{taken as bits_taken, bits_made, bits_entered, frames_begun, NoneShort, shortage, shortage_of};
-ghost use Rattle.pdh_line.specs.Progress.{begun_by};
+ghost use Rattle.pdh_line.specs.Progress.{begun_by, came_by};
+ghost use Rattle.pdh_rows.specs.Rows.{node_frame_count, node_counts};
+ghost use Rattle.pdh_rows.specs.Stored.{IsTable, rows_of};
 ghost use Rattle.pdh_clock.specs.Stored.{IsTree, contents_of, rows_in};
 
 use crate::tree::Tree;
 use pdh_levels::leaf_place;
+use pdh_rows::Table;
 use pdh_shape::{Path, TOP};
 
 /// A node that has fewer frames than it is to begin.
@@ -29,6 +32,31 @@ pub struct Short {
 // The lead, as a summand of the bits that are taken.
 const LEAD: u128 = pdh_shape::LEAD as u128;
 
+/// How many bits have come into the store of a tributary, counted from 0, where its node made so many bits of its line in frames
+/// of that length; none before the first of them.
+pub fn came_in(table: &Table, len: u32, trib: u8, bits: u128) -> u128
+    requires table { IsTable table.now }
+    requires in_range { trib < table.now.tribs }
+    requires some { 0 < len }
+    requires enough { begun_by len bits ≤ node_frame_count (rows_of table.now) }
+    requires few { bits ≤ 18446744073709551615 * len }
+    ensures came { result ≡ (if bits == 0 then 0 else came_by len (node_counts (rows_of table.now) trib) (bits / len) (bits % len)) }
+    ensures few { result ≤ 2 ^ 70 }
+{
+    if bits == 0 {
+        return 0;
+    }
+    let trib = usize::from(trib);
+    let frames = (bits / u128::from(len)) as u64;
+    let begun = (bits % u128::from(len)) as u64;
+    if begun == 0 {
+        return LEAD + u128::from(table.total(frames, trib));
+    }
+    let (before, count) = table.total_and_count(frames, trib);
+    let so_far = begun * u64::from(count) / u64::from(len);
+    LEAD + u128::from(before) + u128::from(so_far)
+}
+
 impl Tree {
     /// How many bits of a tributary, counted from 0, a node has taken when it made so many bits of its line; where it has no
     /// stores, those of its whole frames.
@@ -44,21 +72,10 @@ impl Tree {
         ensures few { result ≤ 2 ^ 70 }
     {
         let level = self.level_of(node);
-        let len = u128::from(level.len);
         if level.locked {
-            return bits / len * u128::from(level.low);
+            return bits / u128::from(level.len) * u128::from(level.low);
         }
-        if bits == 0 {
-            return 0;
-        }
-        let table = self.table_of(node);
-        let frames = (bits / len) as u64;
-        let begun = bits % len;
-        let before = LEAD + u128::from(table.total(frames, usize::from(trib)));
-        if begun == 0 {
-            return before;
-        }
-        before + begun * u128::from(table.count(frames, usize::from(trib))) / len
+        came_in(self.table_of(node), level.len, trib, bits)
     }
 
     /// How many bits a node makes while the top makes so many frames.

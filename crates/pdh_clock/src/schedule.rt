@@ -1,6 +1,6 @@
 //! Schedules.
 
-use crate::beginning::Short;
+use crate::beginning::{Short, came_in};
 use crate::bias::Bias;
 use crate::fault::ScheduleFault;
 use crate::made::made_tree;
@@ -31,7 +31,7 @@ impl Model for Schedule {
 }
 
 impl Schedule {
-    ghost use Rattle.std.specs.Prelude.{◌≡◌, ℕ, ◌<◌, ◌≤◌, ◌-◌, ◌*◌, true, List, [], All, IsNone, IsSome, IfSome, IfOk, Ok, Some, option_map, length, slice_index};
+    ghost use Rattle.std.specs.Prelude.{◌≡◌, ℕ, ◌<◌, ◌≤◌, ◌+◌, ◌-◌, ◌*◌, true, List, [], All, IsNone, IsSome, IfSome, IfOk, Ok, Some, option_map, length, slice_index};
     ghost use Rattle.pdh_shape.specs.Frame.{FrameShape};
     ghost use Rattle.pdh_shape.specs.declared.place.Level.{Level};
     ghost use Rattle.pdh_line.specs.Progress.{arrived};
@@ -97,6 +97,13 @@ impl Schedule {
         counts_in(self.tree.table_of(node), frame)
     }
 
+    /// A frame of a node brings no tributary more bits than the frame has. The function does nothing: what it ensures is the law.
+    pub fn counts_fit(&self)
+        ensures { (path : List ℕ) (trib frame : ℕ) → counts self.now.rows path trib frame ≤ len_at self.now.levels path }
+    {
+        let _tree = &self.tree;
+    }
+
     /// How many bits of a tributary, counted from 0, arrive in the first frames.
     pub fn total(&self, node: &Path, frames: u64, trib: u8) -> u64
         requires scheduled { frames ≤ frame_count self.now.rows (steps_of node.now) }
@@ -132,15 +139,18 @@ impl Schedule {
         stays_inside(table, usize::from(trib), low, fill, first, end)
     }
 
-    /// How many bits of a tributary, counted from 0, have come into its store where its node made so many bits of its line; none
-    /// before the first of them.
-    pub fn taken(&self, node: &Path, trib: u8, bits: u128) -> u128
+    /// How many bits of a tributary, counted from 0, come into its store while its node's line goes from so many bits to so many.
+    pub fn arriving(&self, node: &Path, trib: u8, from: u128, to: u128) -> u128
         requires in_range { trib < stores_at self.now.levels (steps_of node.now) }
-        requires scheduled { bits ≤ frame_count self.now.rows (steps_of node.now) * len_at self.now.levels (steps_of node.now) }
+        requires later { from ≤ to }
+        requires scheduled { to ≤ frame_count self.now.rows (steps_of node.now) * len_at self.now.levels (steps_of node.now) }
         ensures { (level : Level) → level_at self.now.levels (steps_of node.now) ≡ Some level
-            → result ≡ bits_taken level trib (counts self.now.rows (steps_of node.now) trib) bits }
+            → result + bits_taken level trib (counts self.now.rows (steps_of node.now) trib) from
+            ≡ bits_taken level trib (counts self.now.rows (steps_of node.now) trib) to }
     {
-        self.tree.taken(node, trib, bits)
+        let len = self.tree.level_of(node).len;
+        let table = self.tree.table_of(node);
+        came_in(table, len, trib, to) - came_in(table, len, trib, from)
     }
 
     /// The first node that has fewer frames than it begins while the top makes so many. A node comes before those

@@ -45,9 +45,7 @@ pub fn counts_in(table: &Table, frame: u64) -> [u32; MOST_TRIBUTARIES]
         → slice_index result trib ≡ node_counts (rows_of table.now) trib frame }
 {
     let mut counts = [0; MOST_TRIBUTARIES];
-    for trib in 0..table.tribs {
-        counts[trib] = table.count(frame, trib);
-    }
+    table.counts(frame, &mut counts);
     counts
 }
 

@@ -19,7 +19,7 @@ use Rattle.pdh_align.specs.Aligning.{Held as AlignerHeld, StandsFor, Tracks, Wai
 use Rattle.pdh_rx.specs.Meaning.{Meaning, Gains, GainsPart, TakesBits}
 use Rattle.pdh_rx.specs.Node.{got_by, gap_after, frames_after, step_bits, Gives, NodeTracks}
 use Rattle.pdh_rx.proofs.Gains.{gains_nothing}
-use Rattle.pdh_rx.proofs.NodeSteps.{node_tracks, node_waits, node_passed, track_none, opened}
+use Rattle.pdh_rx.proofs.NodeSteps.{node_tracks, tracks_taken, node_waits, node_passed, track_none, opened}
 use Rattle.pdh_desync.specs.declared.leaves.Leaves.{Leaves}
 use Rattle.pdh_desync.specs.FarStore.{FarPiece, far_pieces, pieces_of, reads_more, smooth, marks}
 use Rattle.pdh_desync.specs.FarStore.FarPiece.{Ones}
@@ -151,6 +151,11 @@ module _ (s : FrameShape) (shape : IsFrame s) (state : FarState) (held' : Aligne
   pub push_part : (o p : Outputs) → FarGivesPart s (λ j. far_steps step held'.ready gap') state.stores o p
       → GainsPart ((far_meaning s state).got line) ((far_meaning s state).got (line ++ bit ∷ [])) o p
   push_part o p g = part_of s state line (line ++ bit ∷ []) (far_steps step held'.ready gap') o p pieces_more (g.gains (λ j. pieces_of s line) st.each)
+
+-- an aligner of which ready frames were taken is what it was
+pub smooth_taken : (s : FrameShape) (state : FarState) (now : AlignerHeld) (line : List Bool) → now ≡ record state.aligner { ready = now.ready } → SmoothStands s state line → SmoothStands s (record state { aligner = now }) line
+smooth_taken s state now line is st =
+    record { node = tracks_taken (λ (c : Unit {0}) line. Unit {0}) (λ c. mute_meaning) s (quiet s) state.aligner now state.gap state.frames line is st.node; each = st.each }
 
 -- ---- bits by which no leaf gains anything
 

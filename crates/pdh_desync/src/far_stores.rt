@@ -119,16 +119,17 @@ impl<S: Shape> FarStores<S> {
     fn give_frames<D: Drain>(
         &mut self,
         strip: &mut Strip<S>,
-        aligner: &Aligner<S>,
+        aligner: &mut Aligner<S>,
         frames: u8,
         drain: &mut D,
     ) -> Result<(), Failed>
-        requires frames { length aligner.now.ready ≡ frames }
+        requires frames { length aligner.old.ready ≡ frames }
         requires ready { AreReady S.shape self.old (D.outputs drain.old) }
-        ensures given { OnOk result (FarGives S.shape (λ j. map Frame aligner.now.ready)
+        ensures given { OnOk result (FarGives S.shape (λ j. map Frame aligner.old.ready)
             self.old self.new (D.outputs drain.old) (D.outputs drain.new)) }
-        ensures part { OnErr result (FarGivesPart S.shape (λ j. map Frame aligner.now.ready)
+        ensures part { OnErr result (FarGivesPart S.shape (λ j. map Frame aligner.old.ready)
             self.old (D.outputs drain.old) (D.outputs drain.new)) }
+        ensures aligner { aligner.new ≡ record aligner.old { ready = aligner.new.ready } }
         ensures same { self.new.leaves ≡ self.old.leaves }
         ensures cause { HasCause (D.drain_faults drain.old) (D.drain_faults drain.new) result }
         ensures drained { D.drained drain.old drain.new }
@@ -146,17 +147,18 @@ impl<S: Shape> FarStores<S> {
     pub fn give_step<D: Drain>(
         &mut self,
         strip: &mut Strip<S>,
-        aligner: &Aligner<S>,
+        aligner: &mut Aligner<S>,
         step: Step,
         gap: u32,
         drain: &mut D,
     ) -> Result<(), Failed>
-        requires frames { length aligner.now.ready ≡ frames_gained step }
+        requires frames { length aligner.old.ready ≡ frames_gained step }
         requires ready { AreReady S.shape self.old (D.outputs drain.old) }
-        ensures given { OnOk result (FarGives S.shape (λ j. far_steps step aligner.now.ready gap)
+        ensures given { OnOk result (FarGives S.shape (λ j. far_steps step aligner.old.ready gap)
             self.old self.new (D.outputs drain.old) (D.outputs drain.new)) }
-        ensures part { OnErr result (FarGivesPart S.shape (λ j. far_steps step aligner.now.ready gap)
+        ensures part { OnErr result (FarGivesPart S.shape (λ j. far_steps step aligner.old.ready gap)
             self.old (D.outputs drain.old) (D.outputs drain.new)) }
+        ensures aligner { aligner.new ≡ record aligner.old { ready = aligner.new.ready } }
         ensures same { self.new.leaves ≡ self.old.leaves }
         ensures cause { HasCause (D.drain_faults drain.old) (D.drain_faults drain.new) result }
         ensures drained { D.drained drain.old drain.new }

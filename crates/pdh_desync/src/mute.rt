@@ -67,6 +67,11 @@ impl Rx for Mute {
     }
 
     #[inline(always)]
+    fn is_deaf<D: Drain>(&self, _drain: &D) -> bool {
+        false
+    }
+
+    #[inline(always)]
     fn has_room<D: Drain>(&self, _drain: &D, _bits: usize) -> bool {
         true
     }

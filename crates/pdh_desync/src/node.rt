@@ -123,6 +123,11 @@ impl<S: Shape> Rx for SmoothNode<S> {
     }
 
     #[inline(always)]
+    fn is_deaf<D: Drain>(&self, _drain: &D) -> bool {
+        false
+    }
+
+    #[inline(always)]
     fn has_room<D: Drain>(&self, _drain: &D, _bits: usize) -> bool {
         false
     }

@@ -99,7 +99,7 @@ impl<S: Shape> Unwatched<S> {
         self.gap = gap_after::<S>(step, self.gap);
         self.frames = frames_after(step, self.frames);
         self.stores
-            .give_step(&mut self.strip, &self.aligner, step, self.gap, drain)
+            .give_step(&mut self.strip, &mut self.aligner, step, self.gap, drain)
     }
 
     // Takes bits from a place on, none or more and so many at most, by which no leaf gains anything, and answers how many:

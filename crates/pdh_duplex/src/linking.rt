@@ -1,7 +1,9 @@
 //! Two terminals from one number and two scripts.
 
-ghost use Rattle.std.specs.Prelude.{◌≡◌, IfOk, OnErr};
+ghost use Rattle.std.specs.Prelude.{◌≡◌, ◌∷◌, IfOk, OnErr};
+ghost use Rattle.pdh_line.specs.Sending.{HasStores};
 ghost use Rattle.pdh_chain.specs.Calls.{AreOfChain};
+ghost use Rattle.pdh_chain.specs.Trees.{HasNoStores};
 ghost use Rattle.pdh_chain.specs.declared.chain.Chain.{Chain};
 ghost use Rattle.pdh_duplex.specs.Session.{IsSetting, ends_of, events_of, session_of, setting_with};
 
@@ -9,15 +11,19 @@ use crate::link::Link;
 use crate::session::Duplex;
 use crate::unwatched::Unwatched;
 use pdh_chain::{
-    C13Receiver, C13Sender, Chain, ChainRx, ChainTop, E12Receiver, E12Sender, E13Receiver,
-    E13Sender, E14Receiver, E14Sender, E23Receiver, E23Sender, E24Receiver, E24Sender, E34Receiver,
-    E34Sender, M12Receiver, M12Sender, M13Receiver, M13Sender, M23Receiver, M23Sender, Multiplexer,
+    Chain, ChainRx, ChainTop, ChainTx, E12Receiver, E12Sender, E13Receiver, E13Sender, E23Receiver,
+    E23Sender, M12Receiver, M12Sender, Multiplexer,
 };
 use pdh_clock::Schedule;
+use pdh_ds::{Ds2, Ds3, Ds3C};
+use pdh_eframes::{E2, E3, E4};
+use pdh_locked::Locked;
 use pdh_packed::Packed;
 use pdh_patterns::clock_of;
-use pdh_rx::Rx;
+use pdh_rx::{Rx, RxNode, Tail};
 use pdh_script::Script;
+use pdh_shape::Shape;
+use pdh_tx::{Leaf, Node};
 use pdh_watch::Watch;
 use std::alloc::{AllocError, Global};
 
@@ -109,22 +115,40 @@ impl<'a, W: Watch, E: Watch> Terminals<'a, W, E> {
         }
     }
 
+    // The session, by the frame of the chain's top, which has stores, and the types of what is below it.
+    fn session_stored<S: Shape, C: ChainTx, D: ChainRx>(self, chain: Chain) -> Duplex<W, E>
+        requires types { AreOfChain chain (S.shape ∷ C.shapes) (S.shape ∷ D.shapes) (HasStores S.shape × C.fits) }
+        requires setting { IsSetting (setting_of chain self) }
+        ensures { Answers W.Watch E.Watch (setting_of chain self.entry) self.entry.west self.entry.east result }
+    {
+        self.session_with::<Node<S, C>, RxNode<S, D>>(chain)
+    }
+
+    // The same, where the top has none.
+    fn session_locked<S: Shape, C: ChainTx, D: ChainRx>(self, chain: Chain) -> Duplex<W, E>
+        requires types { AreOfChain chain (S.shape ∷ C.shapes) (S.shape ∷ D.shapes) (HasNoStores S.shape × C.fits) }
+        requires setting { IsSetting (setting_of chain self) }
+        ensures { Answers W.Watch E.Watch (setting_of chain self.entry) self.entry.west self.entry.east result }
+    {
+        self.session_with::<Locked<S, C>, RxNode<S, D>>(chain)
+    }
+
     // The session of a chain.
     fn session(self, chain: Chain) -> Duplex<W, E>
         requires { IsSetting (setting_of chain self) }
         ensures { Answers W.Watch E.Watch (setting_of chain self.entry) self.entry.west self.entry.east result }
     {
         match chain {
-            Chain::E12 => self.session_with::<E12Sender, E12Receiver>(chain),
-            Chain::E23 => self.session_with::<E23Sender, E23Receiver>(chain),
-            Chain::E34 => self.session_with::<E34Sender, E34Receiver>(chain),
-            Chain::E13 => self.session_with::<E13Sender, E13Receiver>(chain),
-            Chain::E24 => self.session_with::<E24Sender, E24Receiver>(chain),
-            Chain::E14 => self.session_with::<E14Sender, E14Receiver>(chain),
-            Chain::M12 => self.session_with::<M12Sender, M12Receiver>(chain),
-            Chain::M23 => self.session_with::<M23Sender, M23Receiver>(chain),
-            Chain::M13 => self.session_with::<M13Sender, M13Receiver>(chain),
-            Chain::C13 => self.session_with::<C13Sender, C13Receiver>(chain),
+            Chain::E12 => self.session_stored::<E2, Leaf, Tail>(chain),
+            Chain::E23 => self.session_stored::<E3, Leaf, Tail>(chain),
+            Chain::E34 => self.session_stored::<E4, Leaf, Tail>(chain),
+            Chain::E13 => self.session_stored::<E3, E12Sender, E12Receiver>(chain),
+            Chain::E24 => self.session_stored::<E4, E23Sender, E23Receiver>(chain),
+            Chain::E14 => self.session_stored::<E4, E13Sender, E13Receiver>(chain),
+            Chain::M12 => self.session_stored::<Ds2, Leaf, Tail>(chain),
+            Chain::M23 => self.session_stored::<Ds3, Leaf, Tail>(chain),
+            Chain::M13 => self.session_stored::<Ds3, M12Sender, M12Receiver>(chain),
+            Chain::C13 => self.session_locked::<Ds3C, M12Sender, M12Receiver>(chain),
         }
     }
 }

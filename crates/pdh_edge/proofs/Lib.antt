@@ -6,3 +6,4 @@ pub mod Holding
 pub mod InRoom
 pub mod InputsHeld
 pub mod Taken
+pub mod Waits

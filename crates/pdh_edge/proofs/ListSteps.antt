@@ -31,15 +31,15 @@ get_or_found (y ∷ ys) zero x h = let same : y ≡ x = cc in same
 get_or_found (y ∷ ys) (suc i) x h = get_or_found ys i x h
 
 -- a list that is set to itself
-set_found : {X : Type 0} (xs : List X) (i : ℕ) (x : X) → slice_get xs i ≡ Some x → slice_set xs i x ≡ xs
+pub set_found : {X : Type 0} (xs : List X) (i : ℕ) (x : X) → slice_get xs i ≡ Some x → slice_set xs i x ≡ xs
 set_found [] i x h = absurd (cc)
 set_found (y ∷ ys) zero x h = let same : y ≡ x = cc in ap (λ z. z ∷ ys) (sym same)
 set_found (y ∷ ys) (suc i) x h = ap (λ zs. y ∷ zs) (set_found ys i x h)
 
-for_leaf_same : (t : ℕ) (bits : List Bool) → for_leaf t bits t ≡ bits
+pub for_leaf_same : (t : ℕ) (bits : List Bool) → for_leaf t bits t ≡ bits
 for_leaf_same t bits = ap (λ v. cond v bits []) (eq-eqb t t refl)
 
-for_leaf_other : (t : ℕ) (bits : List Bool) (k : ℕ) → (k ≡ t → ⊥) → for_leaf t bits k ≡ []
+pub for_leaf_other : (t : ℕ) (bits : List Bool) (k : ℕ) → (k ≡ t → ⊥) → for_leaf t bits k ≡ []
 for_leaf_other t bits k ne = ap (λ v. cond v bits []) (ne_eqb k t ne)
 
 before_none : (o : Option (List Bool)) → before [] o ≡ o

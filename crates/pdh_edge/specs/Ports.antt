@@ -1,7 +1,8 @@
 -- Lists of bits, one for each leaf, and what calls take of them and put to them.
-use Rattle.std.specs.Prelude.{◌≡◌, ℕ, ◌+◌, Bool, ◌==◌, if◌then◌else◌, List, [], ◌∷◌, ◌++◌, length, Option, Some, None, Result, Ok, Err}
+use Rattle.std.specs.Prelude.{◌≡◌, ℕ, ◌+◌, Bool, true, ◌==◌, if◌then◌else◌, List, [], ◌∷◌, ◌++◌, length, Option, Some, None, Result, Ok, Err, ◌<◌, take}
 use Rattle.pdh_edge.specs.declared.port.FeedStop.{FeedStop}
 use Rattle.pdh_edge.specs.declared.port.FeedStop.TheVariants.{Failed, Ended}
+use Rattle.std.specs.Option.{option_map}
 use Rattle.pdh_edge.specs.Counts.{one_more}
 
 -- the lists that give bits
@@ -19,6 +20,10 @@ pub record Outputs : Type 0 where
   pub holds : ℕ → Bool
   -- the bits of a leaf's list, where they are told
   pub told : ℕ → Option (List Bool)
+
+-- each leaf has a list, of which no bits are told
+abbrev pub all_lists : Outputs
+all_lists = record { holds = λ k. true; told = λ k. None }
 
 -- ---- bits for each leaf
 
@@ -45,6 +50,23 @@ before bits (Some rest) = Some (bits ++ rest)
 pub record Takes (given : ℕ → List Bool) (old new : Inputs) : Type 0 where
   pub counts : (k : ℕ) → old.left k ≡ length (given k) + new.left k
   pub bits : (k : ℕ) → old.told k ≡ before (given k) (new.told k)
+
+-- ---- what waits: the bits of each leaf's list that come before the first call that may fail
+
+-- a call gave so many bits of this leaf's list: where any waited, they were of those; and of the other lists the same wait
+pub record GivesWaiting (leaf count : ℕ) (old new : ℕ → ℕ) : Type 0 where
+  pub fewer : 0 < old leaf → old leaf ≡ count + new leaf
+  pub others : (k : ℕ) → (k ≡ leaf → ⊥) → new k ≡ old k
+
+-- of these lists only what waits
+abbrev pub only_waiting : Inputs → (ℕ → ℕ) → Inputs
+only_waiting all waits = record { holds = all.holds; left = waits; told = λ k. option_map (take (waits k)) (all.told k) }
+
+-- bits were taken of what waits, and of nothing else
+pub record TakesWaiting (old new : Inputs) (waited waits : ℕ → ℕ) : Type 0 where
+  pub given : ℕ → List Bool
+  pub takes : Takes given old new
+  pub fewer : (k : ℕ) → waited k ≡ length (given k) + waits k
 
 -- ---- what a call puts
 

@@ -14,6 +14,7 @@ mod port;
 mod shelf;
 mod sink;
 mod taking;
+mod waiting;
 
 pub use laws::no_put_into_room_fails;
 pub use mem_port::MemPort;
@@ -24,3 +25,4 @@ pub use port::{Drain, Feed, FeedStop, Port};
 pub use shelf::{Call, Failed, Shelf};
 pub use sink::Sink;
 pub use taking::take_bits;
+pub use waiting::Waiting;

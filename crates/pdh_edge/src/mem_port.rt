@@ -103,6 +103,8 @@ impl Feed for MemPort {
 
     ghost feed_faults = { λ p. 0 };
 
+    ghost waits = { λ p. (mem_inputs p.inputs.items).left };
+
     ghost fed = { λ a b. (b.outputs ≡ a.outputs) × (b.faults ≡ a.faults)
         × ((mem_inputs b.inputs.items).holds ≡ (mem_inputs a.inputs.items).holds)
         × (b.ready ≡ a.ready) × (b.fresh ≡ a.fresh) };
@@ -118,6 +120,8 @@ impl Feed for MemPort {
     ghost fed_counts = { λ a b p. Prim.omega arith };
 
     ghost left_told = { λ a k bits h. ap length_of h };
+
+    ghost waits_left = { λ a k. Prim.omega arith };
 
     fn feed_faults(&self) -> u64 {
         0
@@ -146,6 +150,11 @@ impl Feed for MemPort {
     }
 
     fn left(&self, leaf: u32) -> u64 {
+        let list = &self.inputs[leaf as usize];
+        list.bits.len().saturating_sub(list.given) as u64
+    }
+
+    fn waiting(&self, leaf: u32) -> u64 {
         let list = &self.inputs[leaf as usize];
         list.bits.len().saturating_sub(list.given) as u64
     }
@@ -225,6 +234,10 @@ impl Drain for MemPort {
         Ok(())
     }
 
+    fn is_deaf(&self) -> bool {
+        false
+    }
+
     fn has_room(&self, leaf: u32, bits: usize) -> bool {
         let list = &self.outputs[leaf as usize];
         bits <= list.capacity() - list.len()
@@ -278,6 +291,8 @@ impl Port for MemPort {
     ghost fed_keeps_outputs = { λ a b p. (ap (λ v. mem_outputs v.items) p.0, p.1) };
 
     ghost drained_keeps_inputs = { λ a b p. (ap (λ v. mem_inputs v.items) p.0, refl) };
+
+    ghost drained_keeps_waiting = { λ a b p k. ap (λ v. (mem_inputs v.items).left k) p.0 };
 
     fn start(&mut self) -> Result<(), Failed> {
         self.fresh = false;

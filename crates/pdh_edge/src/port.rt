@@ -1,9 +1,9 @@
 //! Lists of bits as traits: a feed gives them, a drain takes them, and a port does both.
 
-ghost use Rattle.std.specs.Prelude.{◌≡◌, ◌≤◌, ◌<◌, ◌+◌, ◌-◌, ◌^◌, ℕ, Bool, true, List, length, min, Some, IsTrue, IfOk, OnOk, OnErr, IsErrOf};
+ghost use Rattle.std.specs.Prelude.{◌≡◌, ◌≤◌, ◌<◌, ◌+◌, ◌-◌, ◌^◌, ℕ, Bool, true, List, length, min, Some, IsTrue, IfOk, IsOk, OnOk, OnErr, IsErrOf};
 ghost use Rattle.pdh_packed.specs.Gaining.{gained, IsGrown};
 ghost use Rattle.pdh_edge.specs.declared.port.FeedStop.TheVariants.{Ended, Failed as FeedFailed};
-ghost use Rattle.pdh_edge.specs.Ports.{Inputs, Outputs, Takes, Puts, PutsPart, HasCause, HasFeedCause, only, for_leaf, nothing};
+ghost use Rattle.pdh_edge.specs.Ports.{Inputs, Outputs, Takes, Puts, PutsPart, HasCause, HasFeedCause, all_lists, only, for_leaf, nothing, GivesWaiting};
 
 use crate::Failed;
 use pdh_packed::Packed;
@@ -30,6 +30,9 @@ pub trait Feed: Drop {
     /// What calls that only take bits may change.
     ghost fed: { Self → Self → Type 0 };
 
+    /// How many bits a leaf's list surely gives before the first call that may fail.
+    ghost waits: { Self → ℕ → ℕ };
+
     /// A call for bits of this leaf's list has failed, and no call came since.
     ghost unread: { Self → ℕ → Type 0 };
 
@@ -43,6 +46,8 @@ pub trait Feed: Drop {
         requires { IsTrue ((inputs self.old).holds leaf) }
         ensures ok { IfOk result (λ b. Takes (only leaf b) (inputs self.old) (inputs self.new)) }
         ensures err { OnErr result (Takes nothing (inputs self.old) (inputs self.new)) }
+        ensures sure { 0 < waits self.old leaf → IsOk result }
+        ensures waits { GivesWaiting leaf 1 (waits self.old) (waits self.new) }
         ensures cause { HasFeedCause (feed_faults self.old) (feed_faults self.new) result }
         ensures ended { IsErrOf result Ended → (inputs self.old).left leaf ≡ 0 }
         ensures unread { IsErrOf result FeedFailed → unread self.new leaf }
@@ -61,6 +66,8 @@ pub trait Feed: Drop {
             (inputs self.old) (inputs self.new)) }
         ensures err { OnErr result (Takes nothing (inputs self.old) (inputs self.new)) }
         ensures same { OnErr result (into.new ≡ into.old) }
+        ensures sure { 0 < waits self.old leaf → IsOk result }
+        ensures waits { GivesWaiting leaf (length (gained into.old into.new)) (waits self.old) (waits self.new) }
         ensures cause { HasFeedCause (feed_faults self.old) (feed_faults self.new) result }
         ensures ended { IsErrOf result Ended → (inputs self.old).left leaf ≡ 0 }
         ensures unread { IsErrOf result FeedFailed → unread self.new leaf }
@@ -75,6 +82,11 @@ pub trait Feed: Drop {
         requires { IsTrue ((inputs self.now).holds leaf) }
         ensures { result ≡ min ((inputs self.now).left leaf) (2 ^ 64 - 1) };
 
+    /// How many bits a leaf's list surely gives before the first call that may fail, or `u64::MAX` where these are more.
+    fn waiting(&self, leaf: u32) -> u64
+        requires { IsTrue ((inputs self.now).holds leaf) }
+        ensures { result ≡ min (waits self.now leaf) (2 ^ 64 - 1) };
+
     ghost fed_same: { (a : Self) → fed a a };
 
     ghost fed_join: { (a b c : Self) → fed a b → fed b c → fed a c };
@@ -88,6 +100,9 @@ pub trait Feed: Drop {
     /// A list that is told has as many bits as are left.
     ghost left_told: { (a : Self) (k : ℕ) (bits : List Bool)
         → (inputs a).told k ≡ Some bits → (inputs a).left k ≡ length bits };
+
+    /// What waits is left.
+    ghost waits_left: { (a : Self) (k : ℕ) → waits a k ≤ (inputs a).left k };
 }
 
 /// Takes bits: appends them to a list for each of its leaves. The bits are told where an
@@ -135,6 +150,10 @@ pub trait Drain: Drop {
         }
         Ok(())
     }
+
+    /// Whether it takes bits for any leaf and tells nothing of them, so that it may be spared them.
+    fn is_deaf(&self) -> bool
+        ensures { result ≡ true → outputs self.now ≡ all_lists };
 
     /// Whether a leaf's list takes so many bits without a call that may fail.
     fn has_room(&self, leaf: u32, bits: usize) -> bool
@@ -216,4 +235,7 @@ pub trait Port: Feed + Drain {
 
     ghost drained_keeps_inputs: { (a b : Self) → Self.drained a b
         → (Self.inputs b ≡ Self.inputs a) × (Self.feed_faults b ≡ Self.feed_faults a) };
+
+    /// Nor does putting bits change what waits.
+    ghost drained_keeps_waiting: { (a b : Self) → Self.drained a b → (k : ℕ) → Self.waits b k ≡ Self.waits a k };
 }

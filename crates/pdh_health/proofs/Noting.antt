@@ -12,33 +12,42 @@ Noted placed old new =
     (rate : ℕ) (plan : NodePlan) (events : List Placed) → StandsFor old rate plan (own_events plan events) → AreInOrder (events ++ placed ∷ [])
     → StandsFor new rate plan (own_events plan (events ++ placed ∷ []))
 
+-- ---- elements of a list, one after another
+
+module _ {X : Type 0} (Step : X → X → Type 0) where
+  -- the first n of some elements went a step, and the others are as before
+  abbrev pub SteppedFirst : ℕ → List X → List X → Type 0
+  SteppedFirst zero olds news = news ≡ olds
+  SteppedFirst (suc n) [] [] = Unit {0}
+  SteppedFirst (suc n) (old ∷ olds) (new ∷ news) = Step old new × SteppedFirst n olds news
+  SteppedFirst (suc n) _ _ = ⊥
+
+  -- the next one
+  one_more : (n : ℕ) (olds news : List X) (s s' : X) → SteppedFirst n olds news → slice_get news n ≡ Some s → Step s s' → SteppedFirst (suc n) olds (slice_set news n s')
+  one_more zero [] [] s s' f e g = absurd (no e)
+    where
+      no : slice_get {X = X} [] zero ≡ Some s → ⊥
+      no h = cc
+  one_more zero [] (x ∷ xs) s s' f e g = cc
+  one_more zero (o ∷ os) [] s s' f e g = cc
+  one_more zero (o ∷ os) (x ∷ xs) s s' f e g =
+      let here : s ≡ o = cc in
+      let others : xs ≡ os = cc in
+      let P : X → Type 0 = λ v. Step v s' in
+      (subst P here g, others)
+  one_more (suc n) [] [] s s' f e g = tt
+  one_more (suc n) [] (x ∷ xs) s s' f e g = absurd f
+  one_more (suc n) (o ∷ os) [] s s' f e g = absurd f
+  one_more (suc n) (o ∷ os) (x ∷ xs) s s' f e g = (f.0, one_more n os xs s s' f.1 e g)
+
+-- ---- nodes
+
 -- the first n of some nodes were, and the others are as before
 abbrev pub NotedFirst : ℕ → List Node → Placed → List Node → Type 0
-NotedFirst zero olds placed news = news ≡ olds
-NotedFirst (suc n) [] placed [] = Unit {0}
-NotedFirst (suc n) (old ∷ olds) placed (new ∷ news) = Noted placed old new × NotedFirst n olds placed news
-NotedFirst (suc n) _ placed _ = ⊥
-
--- the next one
-one_more : (n : ℕ) (olds news : List Node) (placed : Placed) (s s' : Node) → NotedFirst n olds placed news → slice_get news n ≡ Some s → Noted placed s s' → NotedFirst (suc n) olds placed (slice_set news n s')
-one_more zero [] [] placed s s' f e g = absurd (no e)
-  where
-    no : slice_get {X = Node} [] zero ≡ Some s → ⊥
-    no h = cc
-one_more zero [] (x ∷ xs) placed s s' f e g = cc
-one_more zero (o ∷ os) [] placed s s' f e g = cc
-one_more zero (o ∷ os) (x ∷ xs) placed s s' f e g =
-    let here : s ≡ o = cc in
-    let others : xs ≡ os = cc in
-    let P : Node → Type 0 = λ v. Noted placed v s' in
-    (subst P here g, others)
-one_more (suc n) [] [] placed s s' f e g = tt
-one_more (suc n) [] (x ∷ xs) placed s s' f e g = absurd f
-one_more (suc n) (o ∷ os) [] placed s s' f e g = absurd f
-one_more (suc n) (o ∷ os) (x ∷ xs) placed s s' f e g = (f.0, one_more n os xs placed s s' f.1 e g)
+NotedFirst n olds placed news = SteppedFirst (Noted placed) n olds news
 
 pub one_more_noted : (i : ℕ) (olds news : List Node) (placed : Placed) (s s' : Node) → NotedFirst i olds placed news → slice_get news i ≡ Some s → Noted placed s s' → NotedFirst (i + 1) olds placed (slice_set news i s')
-one_more_noted i olds news placed s s' f e g = subst (λ n. NotedFirst n olds placed (slice_set news i s')) (sym (add-one i)) (one_more i olds news placed s s' f e g)
+one_more_noted i olds news placed s s' f e g = subst (λ n. NotedFirst n olds placed (slice_set news i s')) (sym (add-one i)) (one_more (Noted placed) i olds news s s' f e g)
 
 -- all of them
 pub all_noted : (n : ℕ) (olds news : List Node) (placed : Placed) → NotedFirst n olds placed news → length olds ≤ n → (rate : ℕ) (plans : List NodePlan) (events : List Placed)

@@ -2,7 +2,7 @@
 
 ghost use Rattle.std.specs.Prelude.{◌≡◌, ◌^◌, true};
 ghost use Rattle.std.proofs.Common.{refl, sym, ◌∙◌, arith, ap, subst};
-ghost use Rattle.pdh_inspect.specs.Ports.{all_lists};
+ghost use Rattle.pdh_edge.specs.Ports.{all_lists};
 
 use pdh_edge::{Drain, Failed, Feed, FeedStop, Port};
 use pdh_packed::Packed;
@@ -48,6 +48,8 @@ impl<F: Feed> Feed for LinePort<F> {
 
     ghost feed_faults = { λ p. F.feed_faults p.feed };
 
+    ghost waits = { λ p. F.waits p.feed };
+
     ghost fed = { λ a b. F.fed a.feed b.feed × (b.ready ≡ a.ready) × (b.fresh ≡ a.fresh) };
 
     ghost unread = { λ p k. F.unread p.feed k };
@@ -61,6 +63,8 @@ impl<F: Feed> Feed for LinePort<F> {
     ghost fed_counts = { λ a b p. F.fed_counts a.feed b.feed p.0 };
 
     ghost left_told = { λ a k bits h. F.left_told a.feed k bits h };
+
+    ghost waits_left = { λ a k. F.waits_left a.feed k };
 
     fn feed_faults(&self) -> u64 {
         self.feed.feed_faults()
@@ -76,6 +80,10 @@ impl<F: Feed> Feed for LinePort<F> {
 
     fn left(&self, leaf: u32) -> u64 {
         self.feed.left(leaf)
+    }
+
+    fn waiting(&self, leaf: u32) -> u64 {
+        self.feed.waiting(leaf)
     }
 }
 
@@ -108,6 +116,10 @@ impl<F: Feed> Drain for LinePort<F> {
     fn put_all(&mut self, _leaf: u32, _bits: &Packed) -> Result<(), Failed> {
         self.fresh = false;
         Ok(())
+    }
+
+    fn is_deaf(&self) -> bool {
+        true
     }
 
     fn has_room(&self, _leaf: u32, _bits: usize) -> bool {
@@ -147,6 +159,8 @@ impl<F: Feed> Port for LinePort<F> {
     ghost fed_keeps_outputs = { λ a b p. (refl, refl) };
 
     ghost drained_keeps_inputs = { λ a b p. (ap F.inputs p.0, ap F.feed_faults p.0) };
+
+    ghost drained_keeps_waiting = { λ a b p k. ap (λ feed. F.waits feed k) p.0 };
 
     fn start(&mut self) -> Result<(), Failed> {
         self.fresh = false;

@@ -1,11 +1,11 @@
 -- Lists that bits are dealt out to.
-use Rattle.std.proofs.Common.{◌≡◌, ℕ, zero, suc, ◌+◌, ◌-◌, ◌*◌, ◌<◌, ◌≤◌, Bool, List, [], ◌∷◌, ◌++◌, length, take, drop, set, get_or, append_assoc, All, refl, sym, ◌∙◌, ap, arith, length-append, length-take}
-use Rattle.std.proofs.lemmas.List.{append-nil, drop_more, take_more, set_at, get_or-append_right, get_or-drop, take_all, drop_all}
+use Rattle.std.proofs.Common.{◌≡◌, ℕ, zero, suc, ◌+◌, ◌-◌, ◌*◌, ◌<◌, ◌≤◌, Bool, false, List, [], ◌∷◌, ◌++◌, length, map, take, drop, set, get_or, append_assoc, All, refl, sym, ◌∙◌, ap, arith, length-append, length-take}
+use Rattle.std.proofs.lemmas.List.{append-nil, drop_more, take_more, set_at, get_or-append_right, get_or-drop, get_or-map, take_all, drop_all}
 use Rattle.std.proofs.lemmas.List.Elements.{All-nil, All-cons, All-head, All-tail}
 use Rattle.pdh_bits.specs.BitOut.{BoundedBits}
 use Rattle.pdh_packed.specs.Words.{bounded}
 use Rattle.pdh_interleaving.specs.Interleaving.{column, appended_to_each, dealt}
-use Rattle.pdh_interleaving.proofs.TurnLaws.{length-column, more_column}
+use Rattle.pdh_interleaving.proofs.TurnLaws.{length-column, get_or-column, more_column}
 
 pub length-appended_to_each : (more : ℕ → List Bool) (j : ℕ) (lists : List BoundedBits) → length (appended_to_each more j lists) ≡ length lists
 length-appended_to_each more j [] = refl
@@ -97,3 +97,19 @@ not_yet_written new old i d within =
 pub all_written : (new old : List BoundedBits) (i : ℕ) → length new ≤ i → length old ≤ i → take i new ++ drop i old ≡ new
 all_written new old i all rest =
     ap (λ (lists : List BoundedBits). lists ++ drop i old) (take_all i new all) ∙ ap (λ (lists : List BoundedBits). new ++ lists) (drop_all i old rest) ∙ append-nil new
+
+-- the bit that a list has got that had none
+pub get_or-dealt : (count : ℕ) (line : List Bool) (lists : List BoundedBits) (i j : ℕ) → ((k : ℕ) → get_or (map (λ (t : BoundedBits). t.bits) lists) k [] ≡ []) → i < count → j < length lists
+    → get_or (get_or (map (λ (t : BoundedBits). t.bits) (dealt count line lists)) j []) i false ≡ get_or line (i * length lists + j) false
+get_or-dealt count line lists i j none among within =
+    let bits : BoundedBits → List Bool = λ (t : BoundedBits). t.bits in
+    let empty : BoundedBits = bounded 0 [] in
+    let more : ℕ → List Bool = column (length lists) count line in
+    let long : length (dealt count line lists) ≡ length lists = length-dealt count line lists in
+    let one : (get_or (dealt count line lists) j empty).bits ≡ (get_or lists j empty).bits ++ more (j + 0) =
+    ap (λ (ts : List BoundedBits). (get_or ts j empty).bits) (dealt_is count line lists) ∙ ap bits (get_or-appended_to_each more 0 lists j empty within) in
+    let old : (get_or lists j empty).bits ≡ [] = sym (get_or-map bits lists j empty [] within) ∙ none j in
+    let has : get_or (map bits (dealt count line lists)) j [] ≡ more (j + 0) =
+    get_or-map bits (dealt count line lists) j empty [] (omega (arith, within, long)) ∙ one ∙ ap (λ (front : List Bool). front ++ more (j + 0)) old in
+    ap (λ (list : List Bool). get_or list i false) has ∙ get_or-column (length lists) count line (j + 0) i false among
+    ∙ ap (λ (place : ℕ). get_or line place false) (omega arith)

@@ -2,4 +2,7 @@ pub mod InterleavingLaws
 pub mod TurnLaws
 pub mod DealtLaws
 pub mod RowLaws
-pub mod LaneLaws
+pub mod BitLaws
+pub mod SwapLaws
+pub mod GatherLaws
+pub mod EightLaws

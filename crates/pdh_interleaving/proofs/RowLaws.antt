@@ -1,14 +1,10 @@
 -- Rows of bits of four or of seven tributaries, from bytes and words.
-use Rattle.std.proofs.Common.{◌≡◌, ℕ, zero, suc, ◌+◌, ◌-◌, ◌*◌, ◌/◌, ◌%◌, ◌^◌, ◌<◌, ◌≤◌, Bool, false, List, [], ◌∷◌, ◌++◌, length, map, take, drop, min, inl, inr, get_or, append_assoc, refl, sym, ◌∙◌, ap, arith}
-use Rattle.std.proofs.lemmas.Bool.{cases_lt}
-use Rattle.std.proofs.lemmas.List.{get_or-take, get_or-map, length-map, nil_from_length, append-nil, drop-drop, take_all, take-append-le}
-use Rattle.pdh_bits.specs.Bits.{bits_of_byte}
+use Rattle.std.proofs.Common.{◌≡◌, ℕ, zero, suc, ◌+◌, ◌-◌, ◌*◌, ◌<◌, ◌≤◌, Bool, false, List, [], ◌∷◌, ◌++◌, length, map, take, drop, get_or, append_assoc, refl, sym, ◌∙◌, ap, arith}
+use Rattle.std.proofs.lemmas.List.{get_or-take, get_or-map, length-map, nil_from_length, append-nil, drop-drop}
 use Rattle.pdh_bits.specs.BitOut.{BoundedBits}
 use Rattle.pdh_packed.specs.Words.{low_bits, bounded}
-use Rattle.pdh_interleaving.specs.Interleaving.{interleaved, column}
-use Rattle.pdh_interleaving.proofs.TurnLaws.{same_turns, length-interleaved, more_turns, first_turns, column_of_turns, more_column, take-column, same_column}
-use Rattle.pdh_packed.specs.WordLaws.{drop_low, low_bits-mod, low_bits-above, low_bits-join}
-use Rattle.pdh_packed.proofs.PackedLaws.{take_past}
+use Rattle.pdh_interleaving.specs.Interleaving.{interleaved}
+use Rattle.pdh_interleaving.proofs.TurnLaws.{same_turns, length-interleaved, more_turns, first_turns}
 
 -- lists made of one another's members, which begin alike
 pub made_alike : {X Y : Type 0} (f : X → List Bool) (g : Y → List Bool) (xs : List X) (ys : List Y) (n : ℕ) (x : X) (y : Y) → length xs ≡ length ys
@@ -72,73 +68,3 @@ pub first_rows : (all : ℕ) (rows word : List Bool) (lists : List (List Bool)) 
 first_rows all rows word lists n t few many are is =
     let whole : all ≡ n + (all - n) = omega arith in
     is ∙ ap (λ (k : ℕ). take (n * k) rows) many ∙ ap (take (n * length lists)) (are ∙ ap (interleaved lists) whole) ∙ first_turns lists n (all - n)
-
--- bytes whose rows begin a line are its columns
-pub bytes_are_columns : (bytes : List ℕ) (line rows : List Bool) (t j : ℕ) → length bytes ≡ t → j < t → interleaved (map bits_of_byte bytes) 8 ≡ rows → rows ≡ take (8 * t) line → bits_of_byte (get_or bytes j 0) ≡ column t 8 line j
-bytes_are_columns bytes line rows t j many who are begin =
-    let made : List (List Bool) = map bits_of_byte bytes in
-    let long : length made ≡ t = length-map bytes bits_of_byte ∙ many in
-    let all : length (interleaved made 8) ≡ 8 * t = length-interleaved made 8 ∙ ap (λ (k : ℕ). 8 * k) long in
-    let same : take (8 * length made) (interleaved made 8) ≡ take (8 * length made) line =
-    ap (λ (k : ℕ). take (8 * k) (interleaved made 8)) long ∙ take_all (8 * t) (interleaved made 8) (omega arith) ∙ are ∙ begin ∙ ap (λ (k : ℕ). take (8 * k) line) (sym long) in
-    let byte : get_or made j [] ≡ bits_of_byte (get_or bytes j 0) = get_or-map bits_of_byte bytes j 0 [] (omega arith) in
-    let fits : 8 ≤ length (get_or made j []) = omega (arith, ap length byte) in
-    ap (take 8) (sym byte) ∙ column_of_turns made line 8 8 j (omega arith) (omega arith) same fits ∙ ap (λ (k : ℕ). column k 8 line j) long
-
--- bits that are shifted into a number
-pub shifted_into : (m w s b : ℕ) → m + s ≤ 64 → b < 2 ^ s → low_bits (m + s) ((w * 2 ^ s % 2 ^ 64 + b) % 2 ^ 64) ≡ low_bits m w ++ low_bits s b
-shifted_into m w s b few small =
-    let n : ℕ = w * 2 ^ s in
-    let x : ℕ = n % 2 ^ 64 + b in
-    let whole : n / 2 ^ 64 * 2 ^ 64 + x ≡ n + b = omega arith in
-    let cut : x / 2 ^ 64 * 2 ^ 64 + x % 2 ^ 64 ≡ x = omega arith in
-    sym (low_bits-above (m + s) 64 (x / 2 ^ 64) (x % 2 ^ 64) few) ∙ ap (low_bits (m + s)) cut
-    ∙ sym (low_bits-above (m + s) 64 (n / 2 ^ 64) x few) ∙ ap (low_bits (m + s)) whole ∙ low_bits-join m s w b small
-
--- rows after others, up to so many
-pub rows_gathered : (was now : List Bool) (line bits : List Bool) (t i count j : ℕ) → j < t → length was ≡ 8 * i → take (min (8 * i) count) was ≡ column t (min (8 * i) count) line j
-    → now ≡ was ++ column t 8 bits j → take (min (count - min (8 * i) count) 8 * t) bits ≡ take (min (count - min (8 * i) count) 8 * t) (drop (min (8 * i) count * t) line)
-    → take (min (8 * (i + 1)) count) now ≡ column t (min (8 * (i + 1)) count) line j
-rows_gathered was now line bits t i count j who long before is read =
-    elim (cases_lt (8 * i) count) [
-      | inl more ↦
-          let n : ℕ = min (8 * i) count in
-          let r : ℕ = min (count - n) 8 in
-          let whole : min (8 * (i + 1)) count ≡ n + r = omega arith in
-          let rest : n + r - length was ≡ r = omega arith in
-          let first : was ≡ column t n line j = sym (take_all n was (omega arith)) ∙ before in
-          let next : take r (column t 8 bits j) ≡ column t r (drop (n * t) line) j = take-column t 8 r bits j (omega arith) ∙ same_column t r bits (drop (n * t) line) j who read in
-          ap (λ (k : ℕ). take k now) whole ∙ ap (take (n + r)) is ∙ take_past (n + r) was (column t 8 bits j) (omega arith)
-          ∙ ap (λ (k : ℕ). was ++ take k (column t 8 bits j)) rest ∙ ap (λ (x : List Bool). was ++ x) next ∙ ap (λ (x : List Bool). x ++ column t r (drop (n * t) line) j) first
-          ∙ sym (more_column t n r line j) ∙ ap (λ (k : ℕ). column t k line j) (sym whole)
-      | inr all ↦
-          let same : min (8 * (i + 1)) count ≡ min (8 * i) count = omega arith in
-          ap (λ (k : ℕ). take k now) same ∙ ap (take (min (8 * i) count)) is ∙ take-append-le (min (8 * i) count) was (column t 8 bits j) (omega arith) ∙ before ∙ ap (λ (k : ℕ). column t k line j) (sym same)
-    ]
-
--- the same sixteen rows at a time
-pub lanes_gathered : (was now : List Bool) (line bits : List Bool) (t i count j : ℕ) → j < t → length was ≡ 16 * i → take (min (16 * i) count) was ≡ column t (min (16 * i) count) line j
-    → now ≡ was ++ column t 16 bits j → take (min (count - min (16 * i) count) 16 * t) bits ≡ take (min (count - min (16 * i) count) 16 * t) (drop (min (16 * i) count * t) line)
-    → take (min (16 * (i + 1)) count) now ≡ column t (min (16 * (i + 1)) count) line j
-lanes_gathered was now line bits t i count j who long before is read =
-    elim (cases_lt (16 * i) count) [
-      | inl more ↦
-          let n : ℕ = min (16 * i) count in
-          let r : ℕ = min (count - n) 16 in
-          let whole : min (16 * (i + 1)) count ≡ n + r = omega arith in
-          let rest : n + r - length was ≡ r = omega arith in
-          let first : was ≡ column t n line j = sym (take_all n was (omega arith)) ∙ before in
-          let next : take r (column t 16 bits j) ≡ column t r (drop (n * t) line) j = take-column t 16 r bits j (omega arith) ∙ same_column t r bits (drop (n * t) line) j who read in
-          ap (λ (k : ℕ). take k now) whole ∙ ap (take (n + r)) is ∙ take_past (n + r) was (column t 16 bits j) (omega arith)
-          ∙ ap (λ (k : ℕ). was ++ take k (column t 16 bits j)) rest ∙ ap (λ (x : List Bool). was ++ x) next ∙ ap (λ (x : List Bool). x ++ column t r (drop (n * t) line) j) first
-          ∙ sym (more_column t n r line j) ∙ ap (λ (k : ℕ). column t k line j) (sym whole)
-      | inr all ↦
-          let same : min (16 * (i + 1)) count ≡ min (16 * i) count = omega arith in
-          ap (λ (k : ℕ). take k now) same ∙ ap (take (min (16 * i) count)) is ∙ take-append-le (min (16 * i) count) was (column t 16 bits j) (omega arith) ∙ before ∙ ap (λ (k : ℕ). column t k line j) (sym same)
-    ]
-
--- the low bits end those of a word
-pub low_end : (h n : ℕ) → h ≤ 64 → drop (64 - h) (low_bits 64 n) ≡ low_bits h n
-low_end h n few =
-    let left : 64 - (64 - h) ≡ h = omega arith in
-    drop_low (64 - h) 64 n (omega arith) ∙ low_bits-mod (64 - (64 - h)) n ∙ ap (λ (k : ℕ). low_bits k n) left

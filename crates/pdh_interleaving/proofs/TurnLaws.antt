@@ -1,10 +1,9 @@
 -- Bits of tributaries in turn, for any number of tributaries.
-use Rattle.std.proofs.Common.{◌≡◌, ℕ, zero, suc, ◌+◌, ◌-◌, ◌*◌, ◌/◌, ◌%◌, ◌<◌, ◌≤◌, Bool, false, List, [], ◌++◌, length, map, take, drop, get_or, sym, ◌∙◌, ap, arith, inl, inr, length-append, length-take}
+use Rattle.std.proofs.Common.{◌≡◌, ℕ, zero, suc, ◌+◌, ◌-◌, ◌*◌, ◌/◌, ◌%◌, ◌<◌, Bool, false, List, [], ◌++◌, length, map, take, drop, get_or, sym, ◌∙◌, ap, arith, inl, inr, length-append}
 use Rattle.std.proofs.lemmas.Bool.{cases_lt}
-use Rattle.std.proofs.lemmas.List.{get_or_append_left, get_or-append_right, get_or-take, get_or-drop, get_or-map, get_or_default, same_lists, length-map, take_at}
-use Rattle.std.proofs.lemmas.Nat.{mod-mul-add, div-mul-add}
+use Rattle.std.proofs.lemmas.List.{get_or_append_left, get_or-append_right, get_or-drop, get_or-map, same_lists, length-map, take_at}
 use Rattle.std.proofs.lemmas.List.FromFn.{get_or-map-range_with_len, length-map-range_with_len}
-use Rattle.std.proofs.Math.Nat.{zero-add, add-mul, mod-lt, div-lt_iff_lt-mul, mul-add-mod_self_right, mul-add-div_right, mul-le-mul_right}
+use Rattle.std.proofs.Math.Nat.{zero-add, add-mul, mod-lt, div-lt_iff_lt-mul, mul-add-mod_self_right, mul-add-div_right}
 use Rattle.pdh_interleaving.specs.Interleaving.{bit_in_turn, interleaved, column}
 
 pub length-interleaved : (lists : List (List Bool)) (n : ℕ) → length (interleaved lists n) ≡ n * length lists
@@ -106,48 +105,3 @@ more_column t n m line j =
               get_or-column t (n + m) line j i d within ∙ ap (λ (k : ℕ). get_or line k false) times ∙ sym (get_or-drop (n * t) line (r * t + j) false)
               ∙ sym (get_or-column t m (drop (n * t) line) j r d (omega arith)) ∙ sym (get_or-append_right first rest n i d (length-column t n line j) late)
         ]
-
--- a list whose bits in turn begin a line has its column's bits
-pub column_of_turns : (lists : List (List Bool)) (line : List Bool) (n k j : ℕ) → k ≤ n → j < length lists → take (k * length lists) (interleaved lists n) ≡ take (k * length lists) line
-    → k ≤ length (get_or lists j []) → take k (get_or lists j []) ≡ column (length lists) k line j
-column_of_turns lists line n k j few who same long =
-    let t : ℕ = length lists in
-    let list : List Bool = get_or lists j [] in
-    let cut : length (take k list) ≡ k = omega (arith, length-take k list) in
-    same_lists (take k list) (column t k line j) (cut ∙ sym (length-column t k line j)) (λ i d within. at i d (omega arith))
-  where
-    at : (i : ℕ) (d : Bool) → i < k → get_or (take k (get_or lists j [])) i d ≡ get_or (column (length lists) k line j) i d
-    at i d within =
-        let t : ℕ = length lists in
-        let list : List Bool = get_or lists j [] in
-        let next : (i + 1) * t ≡ i * t + 1 * t = add-mul i 1 t in
-        let below : (i + 1) * t ≤ k * t = mul-le-mul_right t (omega arith) in
-        let below_all : k * t ≤ n * t = mul-le-mul_right t few in
-        let place : i * t + j < k * t = omega arith in
-        let some : 0 < t = omega arith in
-        let whose : (i * t + j) % t ≡ j = mod-mul-add i t j who in
-        let when : (i * t + j) / t ≡ i = div-mul-add i t j who in
-        let turn : bit_in_turn lists (i * t + j) ≡ get_or list i false = ap (λ (m : ℕ). get_or (get_or lists m []) ((i * t + j) / t) false) whose ∙ ap (λ (m : ℕ). get_or list m false) when in
-        get_or-take k list i d within ∙ get_or_default list i d false (omega arith) ∙ sym turn ∙ sym (get_or-interleaved lists n (i * t + j) false (omega arith))
-        ∙ sym (get_or-take (k * t) (interleaved lists n) (i * t + j) false place) ∙ ap (λ (bits : List Bool). get_or bits (i * t + j) false) same ∙ get_or-take (k * t) line (i * t + j) false place
-        ∙ sym (get_or-column t k line j i d within)
-
--- the first of a column
-pub take-column : (t n r : ℕ) (line : List Bool) (j : ℕ) → r ≤ n → take r (column t n line j) ≡ column t r line j
-take-column t n r line j few =
-    let rest : n ≡ r + (n - r) = omega arith in
-    ap (λ (k : ℕ). take r (column t k line j)) rest ∙ ap (take r) (more_column t r (n - r) line j)
-    ∙ take_at (column t r line j) (column t (n - r) (drop (r * t) line) j) r (length-column t r line j)
-
--- lines that begin alike have the same columns
-pub same_column : (t r : ℕ) (xs ys : List Bool) (j : ℕ) → j < t → take (r * t) xs ≡ take (r * t) ys → column t r xs j ≡ column t r ys j
-same_column t r xs ys j who same =
-    same_lists (column t r xs j) (column t r ys j) (length-column t r xs j ∙ sym (length-column t r ys j)) (λ i d within. at i d (omega (arith, length-column t r xs j)))
-  where
-    at : (i : ℕ) (d : Bool) → i < r → get_or (column t r xs j) i d ≡ get_or (column t r ys j) i d
-    at i d within =
-        let next : (i + 1) * t ≡ i * t + 1 * t = add-mul i 1 t in
-        let below : (i + 1) * t ≤ r * t = mul-le-mul_right t (omega arith) in
-        let place : i * t + j < r * t = omega arith in
-        get_or-column t r xs j i d within ∙ sym (get_or-take (r * t) xs (i * t + j) false place) ∙ ap (λ (bits : List Bool). get_or bits (i * t + j) false) same
-        ∙ get_or-take (r * t) ys (i * t + j) false place ∙ sym (get_or-column t r ys j i d within)

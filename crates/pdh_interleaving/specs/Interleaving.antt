@@ -1,9 +1,10 @@
 -- Bits of tributaries in turn.
-use Rattle.std.specs.Prelude.{ℕ, suc, ◌+◌, ◌-◌, ◌*◌, ◌/◌, ◌%◌, ◌^◌, Bool, false, if◌then◌else◌, List, [], ◌∷◌, ◌++◌, length, get_or, map, take, drop, fold}
+use Rattle.std.specs.Prelude.{ℕ, suc, ◌+◌, ◌*◌, ◌/◌, ◌%◌, ◌^◌, Bool, true, false, List, [], ◌∷◌, ◌++◌, length, get_or, map, fold}
 use Rattle.std.specs.List.{range_with_len}
-use Rattle.pdh_bits.specs.Bits.{bit, bit_value}
+use Rattle.pdh_bits.specs.Bits.{bit_value}
 use Rattle.pdh_bits.specs.BitOut.{BoundedBits}
 use Rattle.pdh_packed.specs.Words.{bounded}
+use Rattle.pdh_packed.specs.Places.{differs}
 
 -- bit s of the line is bit s / T of tributary s mod T, where there are T tributaries
 abbrev pub bit_in_turn : List (List Bool) → ℕ → Bool
@@ -26,14 +27,12 @@ appended_to_each more j (list ∷ lists) = bounded list.capacity (list.bits ++ m
 unfoldable pub dealt : ℕ → List Bool → List BoundedBits → List BoundedBits
 dealt each line lists = appended_to_each (column (length lists) each line) 0 lists
 
--- lane j of the bits of a word: the j-th sixteen of them
-abbrev pub lane : List Bool → ℕ → List Bool
-lane word j = take 16 (drop (16 * j) word)
-
--- the place whose bit comes to a place of a number, where the bits at the places of a mask change places with those so many above
-abbrev pub exchanged : ℕ → ℕ → ℕ → ℕ
-exchanged apart mask place =
-    if bit mask place then place + apart else (if bit (mask * 2 ^ apart) place then place - apart else place)
+-- of two bits that which is wanted, and whether they differ where both are
+abbrev pub picked : Bool → Bool → Bool → Bool → Bool
+picked true false x y = x
+picked false true x y = y
+picked false false x y = false
+picked true true x y = differs x y
 
 -- a number with a bit so many places after its own
 abbrev pub with_bit_apart : ℕ → ℕ → Bool → ℕ
@@ -42,9 +41,3 @@ with_bit_apart apart n b = 2 ^ apart * n + bit_value b
 -- the number that bits write with so many places from each to the next
 abbrev pub spread : ℕ → List Bool → ℕ
 spread apart bits = fold (with_bit_apart apart) 0 bits
-
--- the numbers of seven tributaries side by side, eight bits each, for the row that seven bits are
-abbrev pub gathered7 : ℕ → ℕ
-gathered7 row =
-    2 ^ 48 * bit_value (bit row 6) + 2 ^ 40 * bit_value (bit row 5) + 2 ^ 32 * bit_value (bit row 4) + 2 ^ 24 * bit_value (bit row 3)
-    + 2 ^ 16 * bit_value (bit row 2) + 2 ^ 8 * bit_value (bit row 1) + bit_value (bit row 0)

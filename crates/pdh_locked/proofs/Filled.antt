@@ -93,7 +93,7 @@ module _ {C : Type 0} (tx : Ghosts C) (s : FrameShape) (has : HasTributaries s) 
   f' = locked_to s n u
 
   -- each slot holds its bit
-  slots_line : (source : Source) (say : Service) (odd : Bool) (len : ℕ) (overhead bits : List Bool) (columns : List (List Bool)) → length bits ≡ len → t + len ≤ s.len → source.says n ≡ say → odd ≡ odd_before s source n
+  pub slots_line : (source : Source) (say : Service) (odd : Bool) (len : ℕ) (overhead bits : List Bool) (columns : List (List Bool)) → length bits ≡ len → t + len ≤ s.len → source.says n ≡ say → odd ≡ odd_before s source n
       → HoldsOverhead s say odd [] t len overhead → Assembled s t len overhead columns bits → HoldsBits s source n t len columns s.tribs → HoldsLine s source n t bits
   slots_line source say odd len overhead bits columns long most said parity over assembled holds =
       line_from s has source n t len overhead bits columns (overhead_bit s say odd []) long most assembled holds over

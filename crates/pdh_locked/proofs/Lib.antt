@@ -5,3 +5,6 @@ mod Opening
 mod Filled
 mod Clearing
 mod QuietSlots
+mod BatchSlots
+mod GatheredPieces
+mod GatherSlots

@@ -1,2 +1,3 @@
 -- Laws that ghost members cite.
 pub mod LockedLaws
+pub mod GatheredLaws

@@ -7,6 +7,7 @@ mod bits;
 mod body;
 mod children;
 mod filling;
+mod gathering;
 mod locked;
 mod quiet;
 

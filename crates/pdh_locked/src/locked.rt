@@ -9,7 +9,7 @@ ghost use Rattle.pdh_tx.specs.Locked.{locked_meaning};
 use crate::children::Children;
 use pdh_runs::Layout;
 use pdh_shape::{Path, Shape};
-use pdh_tx::{Scratch, Sender, Tx};
+use pdh_tx::{Scratch, Sender, Tx, open_queues};
 use std::alloc::{AllocError, Global};
 use std::rc::Rc;
 
@@ -39,12 +39,14 @@ pub fn open_locked<S: Shape, C: Tx>(
         ⟦<Locked<S, C> as Tx>⟧.is_stopped) }
 {
     let scratch = Scratch::open::<S>(alloc)?;
+    let queues = open_queues::<S>(alloc)?;
     Ok(Sender::over(
         path,
         Children {
             list: children,
             layout,
             scratch,
+            queues,
         },
     ))
 }

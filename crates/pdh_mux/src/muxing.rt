@@ -1,26 +1,71 @@
 //! `mux` and `mux_slips` of each chain, by the types of its nodes.
 
-ghost use Rattle.std.specs.Prelude.{◌≡◌, ◌<◌, ◌≤◌, [], true, None, Err, OnOk, IfErr, IfSome};
+ghost use Rattle.std.specs.Prelude.{◌≡◌, ◌<◌, ◌≤◌, [], ◌∷◌, true, None, Err, OnOk, IfErr, IfSome};
+ghost use Rattle.pdh_line.specs.Sending.{HasStores};
 ghost use Rattle.pdh_line.specs.Sending.Mode.{Plain, Slipping};
-ghost use Rattle.pdh_tx.specs.Meaning.{mode_of};
+ghost use Rattle.pdh_nesting.specs.Chains.{width};
 ghost use Rattle.pdh_clock.specs.Contents.{frame_count};
 ghost use Rattle.pdh_chain.specs.Chains.{shapes_of, leaves_of, levels_of};
+ghost use Rattle.pdh_chain.specs.Trees.{HasNoStores};
 ghost use Rattle.pdh_chain.specs.Muxes.{IsLeftReady};
 ghost use Rattle.pdh_chain.specs.declared.stop.MuxStop.TheVariants.{Memory as MuxMemory};
 ghost use Rattle.pdh_chain.specs.Faults.{mux_reads, mux_writes};
 ghost use Rattle.pdh_chain.specs.Slipping.{TellsSlips};
-ghost use Rattle.pdh_chain.specs.Calls.{IsPortFor, MuxesBy, MuxStopsBy};
+ghost use Rattle.pdh_chain.specs.Calls.{IsChainOf, IsPortFor, MuxesBy, MuxStopsBy};
+ghost use Rattle.pdh_mux.specs.Muxed.{IsMuxed};
 
-use pdh_chain::{
-    C13Sender, Chain, E12Sender, E13Sender, E14Sender, E23Sender, E24Sender, E34Sender, M12Sender,
-    M13Sender, M23Sender, MuxStop, mux_with,
-};
+use pdh_chain::{Chain, ChainTx, E12Sender, E13Sender, E23Sender, M12Sender, MuxStop, mux_with};
 use pdh_clock::Schedule;
+use pdh_ds::{Ds2, Ds3, Ds3C};
 use pdh_edge::Port;
+use pdh_eframes::{E2, E3, E4};
+use pdh_locked::Locked;
+use pdh_shape::Shape;
 use pdh_slips::{NoSlips, SlipLog};
+use pdh_tx::{Leaf, Node};
 use std::alloc::Global;
 
-// The same as `mux`, or where the log takes slips as `mux_slips`, by the types of the chain's nodes.
+// The same as `mux_with`, where the top has stores.
+fn mux_stored<S: Shape, C: ChainTx, P: Port, G: SlipLog>(
+    alloc: Global,
+    clock: &Schedule,
+    frames: u64,
+    feac: Option<u8>,
+    port: &mut P,
+    log: &mut G,
+) -> Result<(), MuxStop>
+    requires chain { IsChainOf (S.shape ∷ C.shapes) (HasStores S.shape × C.fits) clock.now }
+    requires scheduled { frames ≤ frame_count clock.now.rows [] }
+    requires code { IfSome feac (λ code. code < 64) }
+    requires port { IsPortFor (P.fresh port.old) (width (S.shape ∷ C.shapes)) (P.inputs port.old).holds (P.outputs port.old).holds }
+    ensures kept { P.kept port.old port.new }
+    ensures ready { IsLeftReady (P.fresh port.new) (P.ready port.new) (P.refused port.new) result }
+    ensures muxed { IsMuxed P.Feed P.Drain G.SlipLog (S.shape ∷ C.shapes) clock.now feac frames port.old port.new log.old log.new result }
+{
+    mux_with::<Node<S, C>, P, G>(alloc, clock, frames, feac, port, log)
+}
+
+// The same, where it has none.
+fn mux_locked<S: Shape, C: ChainTx, P: Port, G: SlipLog>(
+    alloc: Global,
+    clock: &Schedule,
+    frames: u64,
+    feac: Option<u8>,
+    port: &mut P,
+    log: &mut G,
+) -> Result<(), MuxStop>
+    requires chain { IsChainOf (S.shape ∷ C.shapes) (HasNoStores S.shape × C.fits) clock.now }
+    requires scheduled { frames ≤ frame_count clock.now.rows [] }
+    requires code { IfSome feac (λ code. code < 64) }
+    requires port { IsPortFor (P.fresh port.old) (width (S.shape ∷ C.shapes)) (P.inputs port.old).holds (P.outputs port.old).holds }
+    ensures kept { P.kept port.old port.new }
+    ensures ready { IsLeftReady (P.fresh port.new) (P.ready port.new) (P.refused port.new) result }
+    ensures muxed { IsMuxed P.Feed P.Drain G.SlipLog (S.shape ∷ C.shapes) clock.now feac frames port.old port.new log.old log.new result }
+{
+    mux_with::<Locked<S, C>, P, G>(alloc, clock, frames, feac, port, log)
+}
+
+// The same, by the frame of the chain's top and the type of the top's tributaries.
 fn mux_by_types<P: Port, G: SlipLog>(
     alloc: Global,
     chain: Chain,
@@ -35,25 +80,20 @@ fn mux_by_types<P: Port, G: SlipLog>(
     requires code { IfSome feac (λ code. code < 64) }
     requires port { IsPortFor (P.fresh port.old) (leaves_of chain) (P.inputs port.old).holds (P.outputs port.old).holds }
     ensures kept { P.kept port.old port.new }
-    ensures reads { P.feed_faults port.new ≡ mux_reads result (P.feed_faults port.old) }
-    ensures writes { P.drain_faults port.new ≡ mux_writes result (P.drain_faults port.old) }
     ensures ready { IsLeftReady (P.fresh port.new) (P.ready port.new) (P.refused port.new) result }
-    ensures ok { OnOk result (MuxesBy P.Feed P.Drain (mode_of G.takes) (shapes_of chain) clock.now feac frames port.old port.new) }
-    ensures err { IfErr result (MuxStopsBy P.Feed P.Drain (mode_of G.takes) (shapes_of chain) clock.now feac frames port.old port.new) }
-    ensures told { G.takes ≡ true → TellsSlips G.SlipLog log.old log.new (shapes_of chain) clock.now frames result }
-    ensures untold { result ≡ Err MuxMemory → log.new ≡ log.old }
+    ensures muxed { IsMuxed P.Feed P.Drain G.SlipLog (shapes_of chain) clock.now feac frames port.old port.new log.old log.new result }
 {
     match chain {
-        Chain::E12 => mux_with::<E12Sender, P, G>(alloc, clock, frames, feac, port, log),
-        Chain::E23 => mux_with::<E23Sender, P, G>(alloc, clock, frames, feac, port, log),
-        Chain::E34 => mux_with::<E34Sender, P, G>(alloc, clock, frames, feac, port, log),
-        Chain::E13 => mux_with::<E13Sender, P, G>(alloc, clock, frames, feac, port, log),
-        Chain::E24 => mux_with::<E24Sender, P, G>(alloc, clock, frames, feac, port, log),
-        Chain::E14 => mux_with::<E14Sender, P, G>(alloc, clock, frames, feac, port, log),
-        Chain::M12 => mux_with::<M12Sender, P, G>(alloc, clock, frames, feac, port, log),
-        Chain::M23 => mux_with::<M23Sender, P, G>(alloc, clock, frames, feac, port, log),
-        Chain::M13 => mux_with::<M13Sender, P, G>(alloc, clock, frames, feac, port, log),
-        Chain::C13 => mux_with::<C13Sender, P, G>(alloc, clock, frames, feac, port, log),
+        Chain::E12 => mux_stored::<E2, Leaf, P, G>(alloc, clock, frames, feac, port, log),
+        Chain::E23 => mux_stored::<E3, Leaf, P, G>(alloc, clock, frames, feac, port, log),
+        Chain::E34 => mux_stored::<E4, Leaf, P, G>(alloc, clock, frames, feac, port, log),
+        Chain::E13 => mux_stored::<E3, E12Sender, P, G>(alloc, clock, frames, feac, port, log),
+        Chain::E24 => mux_stored::<E4, E23Sender, P, G>(alloc, clock, frames, feac, port, log),
+        Chain::E14 => mux_stored::<E4, E13Sender, P, G>(alloc, clock, frames, feac, port, log),
+        Chain::M12 => mux_stored::<Ds2, Leaf, P, G>(alloc, clock, frames, feac, port, log),
+        Chain::M23 => mux_stored::<Ds3, Leaf, P, G>(alloc, clock, frames, feac, port, log),
+        Chain::M13 => mux_stored::<Ds3, M12Sender, P, G>(alloc, clock, frames, feac, port, log),
+        Chain::C13 => mux_locked::<Ds3C, M12Sender, P, G>(alloc, clock, frames, feac, port, log),
     }
 }
 

@@ -2,7 +2,7 @@
 
 ghost use Rattle.std.specs.Prelude.{◌^◌};
 ghost use Rattle.std.proofs.Common.{refl, arith};
-ghost use Rattle.pdh_nowhere.specs.Nowhere.{all_lists};
+ghost use Rattle.pdh_edge.specs.Ports.{all_lists};
 
 use pdh_edge::{Drain, Failed};
 use pdh_packed::Packed;
@@ -38,6 +38,10 @@ impl Drain for Nowhere {
 
     fn put_all(&mut self, _leaf: u32, _bits: &Packed) -> Result<(), Failed> {
         Ok(())
+    }
+
+    fn is_deaf(&self) -> bool {
+        true
     }
 
     fn has_room(&self, _leaf: u32, _bits: usize) -> bool {

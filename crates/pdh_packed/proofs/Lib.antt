@@ -8,3 +8,5 @@ pub mod ByteLaws
 pub mod BitwiseLaws
 pub mod ArrayLaws
 pub mod PlacesLaws
+pub mod RunLaws
+pub mod RemovingLaws

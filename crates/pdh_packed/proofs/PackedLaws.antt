@@ -169,15 +169,20 @@ whole_read bits x y place inside first second small =
     ∙ across_two (low_bits 64 x) (low_bits 64 y) (low_bits (64 - o) x) (low_bits o (y / 2 ^ (64 - o))) o 64 begun is_front few is_next
     ∙ read_across bits (low_bits 64 x) (low_bits 64 y) place 64 (sym first) (sym second) (omega arith)
 
--- a word that is filled and pushed, as numbers
-pub whole_filled : (tail : List Bool) (t n h : ℕ) → 0 < h → h < 64 → n < 2 ^ 64 → low_bits h t ≡ tail
-    → low_bits 64 ((t * 2 ^ (64 - h) % 2 ^ 64 + n / 2 ^ h) % 2 ^ 64) ++ low_bits h n ≡ tail ++ low_bits 64 n
-whole_filled tail t n h some few small held =
+-- a word that the first bits of another fill, as numbers
+pub word_filled : (tail : List Bool) (t n h : ℕ) → h < 64 → n < 2 ^ 64 → low_bits h t ≡ tail
+    → low_bits 64 ((t * 2 ^ (64 - h) % 2 ^ 64 + n / 2 ^ h) % 2 ^ 64) ≡ tail ++ take (64 - h) (low_bits 64 n)
+word_filled tail t n h few small held =
     let m : ℕ = 64 - h in
     let whole : h + m ≡ 64 = omega arith in
-    let joined : low_bits 64 ((t * 2 ^ m % 2 ^ 64 + n / 2 ^ h) % 2 ^ 64) ≡ tail ++ take m (low_bits 64 n) =
-    shifted_in h m t (n / 2 ^ h) whole (top_small n h m whole small) ∙ ap (λ (bits : List Bool). bits ++ low_bits m (n / 2 ^ h)) held ∙ ap (λ (bits : List Bool). tail ++ bits) (top_bits n h m whole) in
-    ap (λ (bits : List Bool). bits ++ low_bits h n) joined ∙ ap (λ (bits : List Bool). (tail ++ take m (low_bits 64 n)) ++ bits) (bottom_bits n h m whole)
+    shifted_in h m t (n / 2 ^ h) whole (top_small n h m whole small) ∙ ap (λ (bits : List Bool). bits ++ low_bits m (n / 2 ^ h)) held ∙ ap (λ (bits : List Bool). tail ++ bits) (top_bits n h m whole)
+
+-- and its other bits behind it
+pub whole_filled : (tail : List Bool) (x n : ℕ) → length tail < 64 → low_bits 64 x ≡ tail ++ take (64 - length tail) (low_bits 64 n) → low_bits 64 x ++ low_bits (length tail) n ≡ tail ++ low_bits 64 n
+whole_filled tail x n few filled =
+    let m : ℕ = 64 - length tail in
+    let whole : length tail + m ≡ 64 = omega arith in
+    ap (λ (bits : List Bool). bits ++ low_bits (length tail) n) filled ∙ ap (λ (bits : List Bool). (tail ++ take m (low_bits 64 n)) ++ bits) (bottom_bits n (length tail) m whole)
     ∙ append_assoc tail (take m (low_bits 64 n)) (drop m (low_bits 64 n)) ∙ ap (λ (bits : List Bool). tail ++ bits) (take-append-drop m (low_bits 64 n))
 
 -- bits are dropped with whole words

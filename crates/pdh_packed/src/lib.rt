@@ -3,6 +3,7 @@
 #![tactic(auto)]
 
 mod altering;
+mod appending;
 mod bit_array;
 mod bitwise;
 mod bools;
@@ -10,6 +11,7 @@ mod bytes;
 mod growing;
 mod packed;
 mod padded;
+mod removing;
 mod ring;
 mod shifts;
 mod word;

@@ -1,9 +1,11 @@
 //! Packed lists: bits in words of 64, with room that is taken before.
 
-ghost use Rattle.std.specs.Prelude.{◌≡◌, ◌+◌, ◌*◌, ◌%◌, ◌==◌, ◌<◌, ◌≤◌, false, not, [], ◌++◌, length, map, max, take, drop, get_or, count_by, vec_capacity, IfOk, OnOk, OnErr};
+ghost use Rattle.std.specs.Prelude.{◌≡◌, ◌+◌, ◌*◌, ◌%◌, ◌==◌, ◌<◌, ◌≤◌, false, not, [], ◌++◌, length, map, max, take, drop, get_or, count_by, replicate, vec_capacity, IfOk, OnOk, OnErr};
 ghost use Rattle.pdh_packed.specs.Words.{low_bits, bits_of_words};
 
 use crate::altering::{fill_words, invert_words};
+use crate::appending::{append_behind, append_moved, append_words};
+use crate::removing::{remove_bit, take_last};
 use crate::word::Word;
 use std::alloc::{AllocError, Global};
 use std::marker::Model;
@@ -26,18 +28,6 @@ impl Model for Packed {
     ghost view = { λ p. record { capacity = p.capacity; bits = bits_of_words p.words.items ++ p.tail } };
 
     ghost invariant = { λ p. (length p.tail < 64) × (p.capacity / 64 ≤ vec_capacity p.words) × (64 * length p.words.items + length p.tail ≤ p.capacity) × (p.capacity < 2 ^ 64) };
-}
-
-// Takes over the words of another list, for which there is room.
-fn copy_words(words: &mut Vec<u64>, others: &[u64])
-    requires { length others.now ≤ vec_capacity words.old }
-    ensures items { words.new.items ≡ others.now }
-    ensures capacity { vec_capacity words.new ≡ vec_capacity words.old }
-{
-    words.clear();
-    for word in others {
-        words.push_reserved(*word);
-    }
 }
 
 #[tactic(auto, using(crate::proofs::PackedLaws::packed_laws))]
@@ -167,6 +157,27 @@ impl Packed {
         self.read(place, count).number() << (64 - count)
     }
 
+    /// The 64 bits from a place on, with zeros where no bits are.
+    #[inline(always)]
+    pub fn read_filled(&self, place: usize) -> u64
+        ensures { low_bits 64 result ≡ take 64 (drop place self.now.bits ++ replicate 64 false) }
+    {
+        if place / 64 + 1 < self.words.len() {
+            return self.read_whole(place);
+        }
+        self.read_end(place)
+    }
+
+    // The same where they may end past the whole words.
+    #[inline(never)]
+    fn read_end(&self, place: usize) -> u64
+        ensures { low_bits 64 result ≡ take 64 (drop place self.now.bits ++ replicate 64 false) }
+    {
+        let from = place.min(self.len());
+        let count = (self.len() - from).min(64);
+        self.read(from, count as u32).placed(0).number()
+    }
+
     // The bits from a word's first on, up to 64: a whole word, what is left after the whole words, or none.
     fn word_at(&self, index: usize) -> Word
         ensures { result ≡ take 64 (drop (64 * index) self.now.bits) }
@@ -192,23 +203,71 @@ impl Packed {
             self.append(other.read(place, count as u32));
             return;
         }
-        self.append_words(other, place, count);
+        self.append_long(other, place, count);
     }
 
     // The same word by word.
-    fn append_words(&mut self, other: &Packed, place: usize, count: usize)
+    fn append_long(&mut self, other: &Packed, place: usize, count: usize)
+        requires many { 64 ≤ count }
         requires within { place + count ≤ length other.now.bits }
         requires room { length self.old.bits + count ≤ self.old.capacity }
         ensures { self.new ≡ record self.old { bits = self.old.bits ++ take count (drop place other.now.bits) } }
     {
         // a place fits, since a length does
         let _fits = other.len();
-        let mut done = 0;
-        while count - done >= 64 {
+        let first = self.end_word(other, place);
+        let mut done = first + self.append_aligned(other, place + first, count - first);
+        if count - done >= 64 {
             self.append_whole(other.read_whole(place + done));
             done += 64;
         }
         self.append(other.read(place + done, (count - done) as u32));
+    }
+
+    // Appends from a place of another list on the bits that the last word wants to be whole, and answers how many.
+    #[inline(always)]
+    fn end_word(&mut self, other: &Packed, place: usize) -> usize
+        requires within { place + 64 ≤ length other.now.bits }
+        requires room { length self.old.bits + 64 ≤ self.old.capacity }
+        ensures bits { self.new ≡ record self.old { bits = self.old.bits ++ take result (drop place other.now.bits) } }
+        ensures whole { length self.new.bits % 64 ≡ 0 }
+        ensures few { result < 64 }
+    {
+        let held = self.tail.len();
+        if held == 0 {
+            return 0;
+        }
+        self.words
+            .push_reserved(self.tail.filled(other.read_whole(place)));
+        self.tail = Word::empty();
+        (64 - held) as usize
+    }
+
+    // Appends behind whole words as many words of 64 bits of another list from a place on as its whole words
+    // have of so many bits, and answers how many bits.
+    #[inline(always)]
+    fn append_aligned(&mut self, other: &Packed, place: usize, count: usize) -> usize
+        requires whole { length self.old.bits % 64 ≡ 0 }
+        requires within { place + count ≤ length other.now.bits }
+        requires room { length self.old.bits + count ≤ self.old.capacity }
+        ensures bits { self.new ≡ record self.old { bits = self.old.bits ++ take result (drop place other.now.bits) } }
+        ensures most { (result ≤ count) × (count < result + 128) }
+    {
+        let index = place / 64;
+        let offset = place % 64;
+        // a word more is read where each is made of two
+        let more = offset.min(1);
+        let whole = (count / 64).min(other.words.len().saturating_sub(index + more));
+        if whole == 0 {
+            return 0;
+        }
+        let run = &other.words[index..index + whole + more];
+        if offset == 0 {
+            append_words(&mut self.words, run);
+            return 64 * whole;
+        }
+        append_moved(&mut self.words, run, offset);
+        64 * whole
     }
 
     /// Appends all bits of another list, for which there is room.
@@ -216,18 +275,13 @@ impl Packed {
         requires { length self.old.bits + length other.now.bits ≤ self.old.capacity }
         ensures { self.new ≡ record self.old { bits = self.old.bits ++ other.now.bits } }
     {
-        self.append_numbers(&other.words);
-        self.append(other.tail);
-    }
-
-    // Appends the 64 bits of each of the numbers, for which there is room.
-    fn append_numbers(&mut self, numbers: &[u64])
-        requires { length self.old.bits + 64 * length numbers.now ≤ self.old.capacity }
-        ensures { self.new ≡ record self.old { bits = self.old.bits ++ bits_of_words numbers.now } }
-    {
-        for number in numbers {
-            self.append_whole(*number);
+        if self.tail.len() == 0 {
+            append_words(&mut self.words, &other.words);
+            self.tail = other.tail;
+            return;
         }
+        append_behind(&mut self.words, &mut self.tail, &other.words);
+        self.append(other.tail);
     }
 
     /// How many of the bits are 1, of so many from a place on.
@@ -277,6 +331,21 @@ impl Packed {
         Ok(())
     }
 
+    /// Removes the bit at a place.
+    pub fn remove(&mut self, place: usize)
+        requires { place < length self.old.bits }
+        ensures { self.new ≡ record self.old { bits = take place self.old.bits ++ drop (place + 1) self.old.bits } }
+    {
+        let at = (place % 64) as u32;
+        let last = take_last(&mut self.words, self.tail);
+        if place / 64 == self.words.len() {
+            self.tail = last.without(at);
+            return;
+        }
+        remove_bit(&mut self.words, place, last.get(0));
+        self.tail = last.after(1);
+    }
+
     /// Inverts all bits.
     pub fn invert(&mut self)
         ensures { self.new ≡ record self.old { bits = map not self.old.bits } }
@@ -298,7 +367,8 @@ impl Packed {
         requires { length other.now.bits ≤ self.old.capacity }
         ensures { self.new ≡ record self.old { bits = other.now.bits } }
     {
-        copy_words(&mut self.words, &other.words);
+        self.words.clear();
+        append_words(&mut self.words, &other.words);
         self.tail = other.tail;
     }
 

@@ -1,6 +1,6 @@
 //! Words of up to 64 bits.
 
-ghost use Rattle.std.specs.Prelude.{◌≡◌, ◌+◌, ◌^◌, ◌<◌, ◌≤◌, ◌∷◌, [], ◌++◌, false, length, take, drop, get_or, count_by, MatchOption};
+ghost use Rattle.std.specs.Prelude.{◌≡◌, ◌+◌, ◌-◌, ◌^◌, ◌<◌, ◌≤◌, ◌∷◌, [], ◌++◌, false, length, take, drop, get_or, count_by, MatchOption};
 ghost use Rattle.pdh_bits.specs.Bits.{number_of};
 ghost use Rattle.pdh_packed.specs.Words.{low_bits};
 
@@ -142,6 +142,16 @@ impl Word {
         }
     }
 
+    /// The bits but that at a place.
+    pub(crate) fn without(&self, place: u32) -> Word
+        requires { place < length self.now }
+        ensures { result ≡ take place self.now ++ drop (place + 1) self.now }
+    {
+        // at most 64 bits
+        let _few = self.len();
+        self.first(place).join(self.after(place + 1))
+    }
+
     /// These bits and then the others.
     pub fn join(&self, other: Word) -> Word
         requires { length self.now + length other ≤ 64 }
@@ -181,6 +191,14 @@ impl Word {
         Some(full)
     }
 
+    /// The 64 bits that these, at least one and fewer than 64, make with the first of a number.
+    pub(crate) fn filled(&self, number: u64) -> u64
+        requires { (0 < length self.now) × (length self.now < 64) }
+        ensures { low_bits 64 result ≡ self.now ++ take (64 - length self.now) (low_bits 64 number) }
+    {
+        (self.number << (64 - self.count)).wrapping_add(number >> self.count)
+    }
+
     /// Appends the 64 bits of a number to fewer than 64. The first 64 of them leave as the number that
     /// they write.
     pub(crate) fn fill_whole(&mut self, number: u64) -> u64
@@ -192,7 +210,7 @@ impl Word {
         if held == 0 {
             return number;
         }
-        let full = (self.number << (64 - held)).wrapping_add(number >> held);
+        let full = self.filled(number);
         self.number = number & ((1 << held) - 1);
         full
     }

@@ -60,6 +60,8 @@ impl Feed for Patterns {
 
     ghost feed_faults = { λ p. 0 };
 
+    ghost waits = { λ p. (pattern_inputs p.leaves.items).left };
+
     ghost fed = { λ a b. (pattern_inputs b.leaves.items).holds ≡ (pattern_inputs a.leaves.items).holds };
 
     ghost unread = { λ p k. ⊥ };
@@ -73,6 +75,8 @@ impl Feed for Patterns {
     ghost fed_counts = { λ a b p. Prim.omega arith };
 
     ghost left_told = { λ a k bits h. ap length_of h };
+
+    ghost waits_left = { λ a k. Prim.omega arith };
 
     fn feed_faults(&self) -> u64 {
         0
@@ -99,6 +103,10 @@ impl Feed for Patterns {
     }
 
     fn left(&self, leaf: u32) -> u64 {
+        self.leaves[leaf as usize].left
+    }
+
+    fn waiting(&self, leaf: u32) -> u64 {
         self.leaves[leaf as usize].left
     }
 }

@@ -8,5 +8,6 @@ pub mod OutsideLaws
 pub mod Rising
 pub mod FirstBreaks
 pub mod Parts
+pub mod Found
 pub mod Counted
 pub mod Fills

@@ -158,6 +158,37 @@ impl Table {
         self.flow(row, trib).count(frame - self.firsts[row])
     }
 
+    /// Writes the count of each tributary in a frame, in bits, to the first places of a slice.
+    pub fn counts(&self, frame: u64, into: &mut [u32])
+        requires table { IsTable self.now }
+        requires scheduled { frame < node_frame_count (rows_of self.now) }
+        requires room { self.now.tribs ≤ length into.old }
+        ensures counts { (trib : ℕ) → trib < self.now.tribs → slice_index into.new trib ≡ node_counts (rows_of self.now) trib frame }
+        ensures others { (trib : ℕ) → self.now.tribs ≤ trib → slice_index into.new trib ≡ slice_index into.old trib }
+    {
+        let row = row_with(&self.firsts, frame);
+        let place = frame - self.firsts[row];
+        for trib in 0..self.tribs {
+            into[trib] = self.flow(row, trib).count(place);
+        }
+    }
+
+    /// How many bits of a tributary arrive in the frames before one, and its count in that frame, in bits.
+    pub fn total_and_count(&self, frame: u64, trib: usize) -> (u64, u32)
+        requires table { IsTable self.now }
+        requires scheduled { frame < node_frame_count (rows_of self.now) }
+        requires in_range { trib < self.now.tribs }
+        ensures before { result.0 ≡ arrived (node_counts (rows_of self.now) trib) frame }
+        ensures count { result.1 ≡ node_counts (rows_of self.now) trib frame }
+    {
+        let row = row_with(&self.firsts, frame);
+        let place = frame - self.firsts[row];
+        let flow = self.flow(row, trib);
+        let before = self.before.as_slice()[row * self.tribs + trib];
+        let so_far = flow.arrived(u128::from(place)) as u64;
+        (before + so_far, flow.count(place))
+    }
+
     /// How many bits of a tributary arrive in the first frames.
     pub fn total(&self, frames: u64, trib: usize) -> u64
         requires table { IsTable self.now }

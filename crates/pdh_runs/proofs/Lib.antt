@@ -6,6 +6,8 @@ pub mod TableLaws
 pub mod SlotLaws
 pub mod PieceLaws
 pub mod StretchLaws
+pub mod WordLaws
+pub mod DealingLaws
 pub mod EmptyTurns
 pub mod AssemblyLaws
 pub mod MadeLaws

@@ -95,6 +95,10 @@ module _ (s : FrameShape) (first skipped : ℕ) (payload overhead : List Bool) w
       made_more more parts grown =
           bits_grow old now after (mine ++ made a) more (mine ++ made next) was grown (ap (λ l. mine ++ l) parts ∙ sym (append_assoc mine (made a) more))
 
+-- a list and the bits that are held back from it
+pub ends_with : (bits held : List Bool) (capacity old : ℕ) (was more : List Bool) → bits ++ held ≡ was ++ more → capacity ≡ old → bounded capacity (bits ++ held) ≡ bounded old (was ++ more)
+ends_with bits held capacity old was more is same = ap (λ n. bounded n (bits ++ held)) same ∙ ap (bounded old) is
+
 -- ---- what the piece is
 
 -- how many turns hold so many payload slots

@@ -1,20 +1,19 @@
 -- What a layout finds in a frame, slot by slot.
-use Rattle.std.proofs.Common.{◌≡◌, ℕ, zero, suc, ◌+◌, ◌*◌, ◌<◌, ◌≤◌, Bool, true, false, not, ◌&&◌, cond, List, [], ◌∷◌, ◌++◌, length, map, filter, get_or, All, refl, sym, ap, ◌∙◌, subst, arith}
+use Rattle.std.proofs.Common.{◌≡◌, ℕ, zero, suc, ◌+◌, ◌<◌, ◌≤◌, Bool, true, false, ◌&&◌, cond, List, [], ◌∷◌, ◌++◌, length, map, filter, get_or, All, refl, sym, ap, ◌∙◌, subst, arith}
 use Rattle.std.specs.Prelude.{count_by}
-use Rattle.std.specs.Bool.{beq}
 use Rattle.std.specs.List.{range_with_len}
-use Rattle.std.proofs.lemmas.List.{length-append, length-map, append-nil}
+use Rattle.std.proofs.lemmas.List.{length-append, length-map}
 use Rattle.std.proofs.lemmas.List.Elements.{All-filter}
 use Rattle.std.proofs.lemmas.List.Sums.{sum_by-cons}
 use Rattle.pdh_line.proofs.Ranges.{length-range}
 use Rattle.pdh_bits.specs.BitOut.{BoundedBits}
 use Rattle.pdh_packed.specs.Words.{bounded}
 use Rattle.pdh_shape.specs.Frame.{FrameShape, slots}
-use Rattle.pdh_shape.specs.Tributary.{reads_from, turned, controls, control_ones, HasTributaries}
-use Rattle.pdh_shape.specs.Payload.{PayloadInTurn, is_payload, payload_before}
+use Rattle.pdh_shape.specs.Tributary.{controls, control_ones, HasTributaries}
+use Rattle.pdh_shape.specs.Payload.{payload_before}
 use Rattle.pdh_packed.proofs.BoundedLaws.{bits_grow}
 use Rattle.pdh_runs.specs.Tables.{is_overhead}
-use Rattle.pdh_runs.proofs.Counts.{before, picked, before_less, length-picked, picked_next, made_pass, made_fail, made_next}
+use Rattle.pdh_runs.proofs.Counts.{before, picked, before_less, length-picked, made_pass, made_fail, made_next}
 
 -- ---- the tables
 
@@ -59,11 +58,6 @@ room_for_one p f k len most first now mine pass within all room was =
       room,
     )
 
-pub payload_all : (s : FrameShape) (tribs low : ℕ) → PayloadInTurn s → s.tribs ≡ tribs → s.low ≡ low → before (λ slot. is_payload (s.role slot)) s.len ≡ tribs * (low + 1)
-payload_all s tribs low turns t l =
-    let each : suc s.low ≡ low + 1 = omega (arith, l) in
-    turns.whole ∙ ap (λ n. n * suc s.low) t ∙ ap (λ n. tribs * n) each
-
 -- ---- the copies of the justification control
 
 add_le : (a b x y : ℕ) → a ≤ b → x ≤ y → a + x ≤ b + y
@@ -106,6 +100,10 @@ range_below : (n m : ℕ) → n ≤ m → All (λ k. k < m) (range_with_len 0 n)
 range_below n m le k d lt =
     let inside : k < n = omega (arith, lt, length-range 0 n) in
     omega (arith, range_at 0 n k d inside, inside, le)
+
+-- the overhead slots stand in the frame
+pub overhead_inside : (s : FrameShape) (items : List ℕ) (m : ℕ) → items ≡ filter (is_overhead s) (slots s) → s.len ≡ m → All (λ slot. slot < m) items
+overhead_inside s items m are e = subst (All (λ slot. slot < m)) (sym are) (All-filter (is_overhead s) (λ slot. slot < m) (range_with_len 0 s.len) (range_below s.len m (omega (arith, e))))
 
 module _ (s : FrameShape) (j : ℕ) (items : List ℕ) (are : items ≡ filter (λ t. controls j (s.role t)) (slots s)) where
   pub controls_inside : (m : ℕ) → s.len ≡ m → All (λ slot. slot < m) items

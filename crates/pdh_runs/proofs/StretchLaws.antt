@@ -1,13 +1,10 @@
 -- Numbers that follow each other and all pass a test, or none of them does.
-use Rattle.std.proofs.Common.{◌≡◌, ℕ, zero, suc, ◌+◌, ◌-◌, ◌<◌, ◌≤◌, Bool, true, false, cond, List, [], ◌∷◌, ◌++◌, length, map, filter, take, drop, get_or, refl, sym, ap, ◌∙◌, arith, append_assoc}
+use Rattle.std.proofs.Common.{◌≡◌, ℕ, zero, suc, ◌+◌, ◌-◌, ◌<◌, ◌≤◌, Bool, true, false, cond, List, [], ◌∷◌, ◌++◌, length, map, filter, take, drop, get_or, refl, sym, ap, ◌∙◌, arith}
 use Rattle.std.specs.List.{range_with_len}
-use Rattle.std.proofs.lemmas.List.{map-append, append-nil, length-append, length-map, drop_more}
+use Rattle.std.proofs.lemmas.List.{append-nil, drop_more}
 use Rattle.std.proofs.lemmas.List.Elements.{filter-append}
-use Rattle.pdh_bits.specs.BitOut.{BoundedBits}
-use Rattle.pdh_packed.specs.Words.{bounded}
-use Rattle.pdh_packed.proofs.BoundedLaws.{bits_grow}
 use Rattle.pdh_line.proofs.Ranges.{range_append}
-use Rattle.pdh_runs.proofs.Counts.{before, picked, before_pass, before_fail, before_grows, length-picked}
+use Rattle.pdh_runs.proofs.Counts.{before, picked, before_pass, before_fail}
 
 -- ---- those that pass
 
@@ -24,7 +21,7 @@ filter_no p a (suc k) none =
     ∙ filter_no p (a + 1) k (λ u h h'. none u (omega (arith, h)) (omega (arith, h')))
 
 module _ (p : ℕ → Bool) (a next : ℕ) (after : a ≤ next) where
-  picked_parts : picked p next ≡ picked p a ++ filter p (range_with_len a (next - a))
+  pub picked_parts : picked p next ≡ picked p a ++ filter p (range_with_len a (next - a))
   picked_parts =
       let whole : next ≡ a + (next - a) = omega arith in
       let from : 0 + a ≡ a = omega arith in
@@ -59,38 +56,3 @@ cut xs place a d (suc k) at within =
     let rest = cut xs place (a + 1) (d + 1) k (λ u h h'. omega (arith, at u (omega (arith, h)) (omega (arith, h')))) (omega (arith, within)) in
     ap (λ i. get_or xs i false ∷ map (λ u. get_or xs (place u) false) (range_with_len (a + 1) k)) here ∙ ap (λ l. get_or xs d false ∷ l) rest
     ∙ ap (take (suc k)) (sym (drop_more xs d false (omega (arith, within))))
-
--- ---- bits that are made of those that pass, a stretch at a time
-
-module _ (p : ℕ → Bool) (xs : List Bool) (a next : ℕ) (first now after : BoundedBits) (mine : List Bool) (onwards : a ≤ next) where
-  abbrev read : ℕ → Bool
-  read u = get_or xs u false
-
-  pub stretch_more : ((u : ℕ) → a ≤ u → u < next → p u ≡ true) → next ≤ length xs → now ≡ bounded first.capacity (mine ++ map read (picked p a)) → after ≡ bounded now.capacity (now.bits ++ take (next - a) (drop a xs))
-      → after ≡ bounded first.capacity (mine ++ map read (picked p next))
-  stretch_more all within was grown =
-      let more : List Bool = take (next - a) (drop a xs) in
-      let cut_out : map read (range_with_len a (next - a)) ≡ more = cut xs (λ u. u) a a (next - a) (λ u h h'. omega arith) (omega (arith, within)) in
-      bits_grow first now after (mine ++ map read (picked p a)) more (mine ++ map read (picked p next)) was grown
-      (ap (λ l. mine ++ map read l) (picked_all p a next onwards all) ∙ ap (λ l. mine ++ l) (map-append read (picked p a) (range_with_len a (next - a)))
-      ∙ ap (λ l. mine ++ (map read (picked p a) ++ l)) cut_out ∙ sym (append_assoc mine (map read (picked p a)) more))
-
-  pub stretch_none : ((u : ℕ) → a ≤ u → u < next → p u ≡ false) → now ≡ bounded first.capacity (mine ++ map read (picked p a)) → now ≡ bounded first.capacity (mine ++ map read (picked p next))
-  stretch_none none was = was ∙ ap (λ l. bounded first.capacity (mine ++ map read l)) (sym (picked_no p a next onwards none))
-
-  pub stretch_room : (len most : ℕ) → ((u : ℕ) → a ≤ u → u < next → p u ≡ true) → next ≤ len → before p len ≤ most → length mine + most ≤ first.capacity → now ≡ bounded first.capacity (mine ++ map read (picked p a)) → length now.bits + (next - a) ≤ now.capacity
-  stretch_room len most all within few room was =
-      let whole : a + (next - a) ≡ next = omega (arith, onwards) in
-      omega (
-        arith,
-        ap (λ (b : BoundedBits). length b.bits) was,
-        ap (λ (b : BoundedBits). b.capacity) was,
-        length-append mine (map read (picked p a)),
-        length-map (picked p a) read,
-        length-picked p a,
-        before_all p a (next - a) (λ u h h'. all u h (omega (arith, h', onwards))),
-        ap (before p) whole,
-        before_grows p next len within,
-        few,
-        room,
-      )

@@ -1,18 +1,15 @@
 -- The tables of a frame's slots, as they are made.
-use Rattle.std.proofs.Common.{◌≡◌, ℕ, zero, suc, ◌+◌, ◌<◌, ◌≤◌, Bool, true, false, not, ◌&&◌, ◌==◌, cond, List, [], ◌∷◌, ◌++◌, length, get_or, slice_get, Some, None, refl, sym, ap, ◌∙◌, inl, inr, subst, arith, eq-eqb}
+use Rattle.std.proofs.Common.{◌≡◌, ℕ, zero, suc, ◌+◌, ◌<◌, ◌≤◌, Bool, true, false, not, ◌&&◌, ◌==◌, cond, List, [], ◌∷◌, ◌++◌, length, map, get_or, refl, sym, ap, ◌∙◌, inl, inr, arith, eq-eqb}
 use Rattle.std.specs.Bool.{beq}
 use Rattle.std.proofs.lemmas.Bool.{cases_eq, cases_lt, eqb-true}
-use Rattle.std.proofs.lemmas.List.{length-append}
 use Rattle.std.proofs.lemmas.List.FromFn.{get_or-map-range_with_len, length-map-range_with_len}
-use Rattle.pdh_line.proofs.EachLaws.{each_none, each_push}
 use Rattle.pdh_shape.specs.declared.role.Role.{Role}
 use Rattle.pdh_shape.specs.declared.role.Role.TheVariants.{Align, Service, Control, Just, Info}
 use Rattle.pdh_shape.specs.Frame.{FrameShape}
 use Rattle.pdh_shape.specs.Tributary.{reads_from, reads_below, is_just, HasTributaries}
 use Rattle.pdh_shape.specs.Payload.{is_payload, payload_before}
-use Rattle.pdh_runs.specs.declared.tables.Tributary.{Tributary}
-use Rattle.pdh_runs.specs.Tables.{AreRoles, EndsStretch, IsTributary, AreTributaries, payload_counts}
-use Rattle.pdh_runs.proofs.Counts.{before, picked, before_next, before_less, picked_next}
+use Rattle.pdh_runs.specs.Tables.{AreRoles, EndsStretch, payload_counts}
+use Rattle.pdh_runs.proofs.Counts.{before, picked, before_next, before_less, picked_next, made_pass}
 
 -- ---- roles and counts
 
@@ -31,6 +28,10 @@ counts_long s payload are = ap length are ∙ length-map-range_with_len (payload
 -- the numbers that pass, with the next
 pub pick_next : (p : ℕ → Bool) (k : ℕ) (b : Bool) (old now : List ℕ) → old ≡ picked p k → b ≡ p k → now ≡ old ++ cond b (k ∷ []) [] → now ≡ picked p (k + 1)
 pick_next p k b old now was is next = next ∙ ap (λ l. l ++ cond b (k ∷ []) []) was ∙ ap (λ b. picked p k ++ cond b (k ∷ []) []) is ∙ sym (picked_next p k)
+
+-- what is made of the numbers that pass, with the next
+pub make_next : {X : Type 0} (f : ℕ → X) (p : ℕ → Bool) (k : ℕ) (x : X) (old now : List X) → p k ≡ true → old ≡ map f (picked p k) → x ≡ f k → now ≡ old ++ x ∷ [] → now ≡ map f (picked p (k + 1))
+make_next f p k x old now pass was own next = next ∙ ap (λ l. l ++ x ∷ []) was ∙ ap (λ y. map f (picked p k) ++ y ∷ []) own ∙ sym (made_pass p f k pass)
 
 -- ---- the ends of stretches
 

@@ -1,34 +1,33 @@
 -- A frame that is taken apart: its columns, and the bits of a tributary that are read from one.
-use Rattle.std.proofs.Common.{◌≡◌, ℕ, zero, suc, ◌+◌, ◌-◌, ◌*◌, ◌<◌, ◌≤◌, Bool, true, false, cond, List, [], ◌∷◌, ◌++◌, length, map, take, drop, get_or, set, refl, sym, ap, ◌∙◌, inl, inr, subst, arith, append_assoc}
+use Rattle.std.proofs.Common.{not, All, ◌≡◌, ℕ, zero, suc, ◌+◌, ◌-◌, ◌<◌, ◌≤◌, Bool, true, false, cond, List, [], ◌∷◌, ◌++◌, length, map, take, drop, get_or, refl, sym, ap, ◌∙◌, inl, inr, arith, append_assoc}
 use Rattle.std.specs.Prelude.{◌⊎◌, ◌&&◌, nat_lt, count_by, filter}
 use Rattle.std.specs.List.{range_with_len}
 use Rattle.std.proofs.lemmas.List.Recursion.{is_count_by}
 use Rattle.std.proofs.lemmas.List.Sums.{sum_by-cons}
-use Rattle.std.proofs.lemmas.Bool.{cases_Bool, cases_eq, le-ltb}
-use Rattle.std.proofs.lemmas.List.{map-append, take-map, drop-map, append-nil, length-append, length-map, take_all, drop_all, take-append-le, drop-append-le, take_at, get_or-set_same, get_or-set_other, length-set, get_or-map}
+use Rattle.std.proofs.lemmas.Bool.{cases_Bool, le-ltb}
+use Rattle.std.proofs.lemmas.List.{map-append, take-map, drop-map, append-nil, length-append, length-map, take_all, drop_all, take-append-le, drop-append-le, take_at, get_or-map}
 use Rattle.std.proofs.lemmas.Simd.{map-map}
 use Rattle.pdh_bits.specs.BitOut.{BoundedBits}
 use Rattle.pdh_packed.specs.Words.{bounded}
 use Rattle.pdh_interleaving.specs.Interleaving.{dealt, column}
 use Rattle.pdh_interleaving.proofs.DealtLaws.{dealt_is, length-dealt, get_or-appended_to_each}
 use Rattle.pdh_shape.specs.declared.role.Role.TheVariants.{Just}
-use Rattle.pdh_shape.specs.Frame.{FrameShape}
+use Rattle.pdh_shape.specs.Frame.{FrameShape, slots}
 use Rattle.pdh_shape.specs.Tributary.{reads_from, reads_below, turned, bits_read, carries_more, stripped, HasTributaries}
 use Rattle.pdh_shape.specs.Payload.{PayloadInTurn, is_payload, payload_ones}
 use Rattle.pdh_runs.specs.Pieces.{turn}
-use Rattle.pdh_runs.specs.Columns.{payload_slots, payload_bits, trib_bits}
+use Rattle.pdh_runs.specs.Tables.{is_overhead}
+use Rattle.pdh_runs.specs.Columns.{payload_bits, trib_bits}
 use Rattle.pdh_runs.specs.Taking.{emptied, HasColumns}
-use Rattle.pdh_runs.proofs.ColumnLaws.{column_is, count_is}
+use Rattle.pdh_runs.proofs.ColumnLaws.{column_is}
 use Rattle.pdh_runs.proofs.Counts.{picked, picked_next, before_pass, before_fail, before_less, length-picked}
 use Rattle.pdh_runs.proofs.PieceLaws.{reads_more}
+use Rattle.pdh_runs.proofs.StretchLaws.{cut}
 use Rattle.pdh_runs.proofs.TurnLaws.{turn_is}
 use Rattle.pdh_runs.proofs.TableLaws.{just_at, just_one, just_role}
 use Rattle.pdh_runs.proofs.EmptyTurns.{past, past_cases, just_passed, one_of_them, just_reads}
 
 -- ---- the columns
-
-pub length-payload_bits : (s : FrameShape) (frame : List Bool) → PayloadInTurn s → length (payload_bits s frame) ≡ s.tribs * suc s.low
-length-payload_bits s frame turns = length-map (payload_slots s) (λ slot. get_or frame slot false) ∙ count_is s turns
 
 pub length-trib_bits : (s : FrameShape) (j : ℕ) (frame : List Bool) → HasTributaries s → j < s.tribs → length (trib_bits s j frame) ≡ suc s.low
 length-trib_bits s j frame has known =
@@ -39,33 +38,29 @@ pub emptied_at : (lists : List BoundedBits) (j : ℕ) (d : BoundedBits) → j < 
 emptied_at lists j d within = get_or-map (λ (list : BoundedBits). bounded list.capacity []) lists j d d within
 
 -- the payload is dealt out
-pub dealt_columns : (s : FrameShape) (frame : List Bool) (old columns : List BoundedBits) (payload : List Bool) (each : ℕ) → PayloadInTurn s → payload ≡ payload_bits s frame → columns ≡ dealt each payload (emptied old) → length old ≡ s.tribs → each ≡ suc s.low
-    → ((j : ℕ) (d : BoundedBits) → j < length old → suc s.low ≤ (get_or old j d).capacity) → HasColumns s frame columns
-dealt_columns s frame old columns payload each turns payload_is is many all room = record {
-  count = ap length is ∙ length-dealt each payload (emptied old) ∙ many_now;
-  each = λ j d h. ap (λ (b : BoundedBits). b.bits) (at j d h) ∙ ap (λ n. column n each payload j) many_now ∙ ap (λ n. column s.tribs n payload j) all ∙ ap (λ l. column s.tribs (suc s.low) l j) payload_is ∙ sym (column_is s frame j turns h);
+pub dealt_columns : (s : FrameShape) (frame : List Bool) (old columns : List BoundedBits) (each : ℕ) → PayloadInTurn s → columns ≡ dealt each (payload_bits s frame) old → length old ≡ s.tribs → each ≡ suc s.low
+    → All (λ column. column.bits ≡ []) old → All (λ column. suc s.low ≤ column.capacity) old → HasColumns s (λ j. trib_bits s j frame) columns
+dealt_columns s frame old columns each turns is many all empty room = record {
+  count = ap length is ∙ length-dealt each (payload_bits s frame) old ∙ many;
+  each = λ j d h. ap (λ (b : BoundedBits). b.bits) (at j d h) ∙ ap (λ n. column n each (payload_bits s frame) j) many ∙ ap (λ n. column s.tribs n (payload_bits s frame) j) all ∙ sym (column_is s frame j turns h);
   room = λ j d h. omega (arith, room j d (omega (arith, h, many)), ap (λ (b : BoundedBits). b.capacity) (at j d h));
 }
   where
-    many_now : length (emptied old) ≡ s.tribs
-    many_now = length-map old (λ (list : BoundedBits). bounded list.capacity []) ∙ many
-
-    at : (j : ℕ) (d : BoundedBits) → j < s.tribs → get_or columns j d ≡ bounded (get_or old j d).capacity (column (length (emptied old)) each payload j)
+    at : (j : ℕ) (d : BoundedBits) → j < s.tribs → get_or columns j d ≡ bounded (get_or old j d).capacity (column (length old) each (payload_bits s frame) j)
     at j d h =
         let first : j + 0 ≡ j = omega arith in
-        let lists : List BoundedBits = emptied old in
-        let empty : get_or lists j d ≡ bounded (get_or old j d).capacity [] = emptied_at old j d (omega (arith, h, many)) in
-        ap (λ l. get_or l j d) (is ∙ dealt_is each payload lists) ∙ get_or-appended_to_each (column (length lists) each payload) 0 lists j d (omega (arith, h, many_now))
-        ∙ ap (λ (b : BoundedBits). bounded b.capacity (b.bits ++ column (length lists) each payload (j + 0))) empty
-        ∙ ap (λ i. bounded (get_or old j d).capacity (column (length lists) each payload i)) first
+        let theirs : ℕ → List Bool = column (length old) each (payload_bits s frame) in
+        ap (λ l. get_or l j d) (is ∙ dealt_is each (payload_bits s frame) old) ∙ get_or-appended_to_each theirs 0 old j d (omega (arith, h, many))
+        ∙ ap (λ bits. bounded (get_or old j d).capacity (bits ++ theirs (j + 0))) (empty j d (omega (arith, h, many)))
+        ∙ ap (λ i. bounded (get_or old j d).capacity (theirs i)) first
 
 -- ---- the columns, one after another
 
--- those of the first so many tributaries, and room for the others
-pub record HasSome (s : FrameShape) (frame : List Bool) (k : ℕ) (columns : List BoundedBits) : Type 0 where
+-- those of the first so many tributaries have their bits, and the others still those from before
+pub record HasSome (s : FrameShape) (theirs before : ℕ → List Bool) (k : ℕ) (columns : List BoundedBits) : Type 0 where
   pub count : length columns ≡ s.tribs
-  pub done : (j : ℕ) (d : BoundedBits) → j < k → j < s.tribs → (get_or columns j d).bits ≡ trib_bits s j frame
-  pub left : (j : ℕ) (d : BoundedBits) → k ≤ j → j < s.tribs → (get_or columns j d).bits ≡ []
+  pub done : (j : ℕ) (d : BoundedBits) → j < k → j < s.tribs → (get_or columns j d).bits ≡ theirs j
+  pub left : (j : ℕ) (d : BoundedBits) → k ≤ j → j < s.tribs → (get_or columns j d).bits ≡ before j
   pub room : (j : ℕ) (d : BoundedBits) → j < s.tribs → suc s.low ≤ (get_or columns j d).capacity
 
 -- ---- the bits that a frame gives a tributary
@@ -170,6 +165,19 @@ pub unturned : (bits : List Bool) → map (turned false) bits ≡ bits
 unturned [] = refl
 unturned (bit ∷ bits) = ap (λ (rest : List Bool). bit ∷ rest) (unturned bits)
 
+-- what a frame gives a tributary of its column
+pub stripped_more : (s : FrameShape) (j : ℕ) (frame : List Bool) (inverted : Bool) → inverted ≡ s.inverted j → carries_more s j frame ≡ true → stripped s j frame ≡ map (turned inverted) (trib_bits s j frame)
+unfolding stripped
+stripped_more s j frame inverted is more =
+    ap (λ b. bits_read s j b frame) more ∙ read_more s j frame ∙ ap (λ b. map (turned b) (trib_bits s j frame)) (sym is)
+
+pub stripped_fewer : (s : FrameShape) → PayloadInTurn s → HasTributaries s → (j : ℕ) → j < s.tribs → (q : ℕ) → ((t : ℕ) → t < s.len → s.role t ≡ Just j → q ≡ turn s t) → (frame : List Bool) (inverted : Bool) → inverted ≡ s.inverted j → carries_more s j frame ≡ false
+    → stripped s j frame ≡ map (turned inverted) (take q (trib_bits s j frame) ++ drop (q + 1) (trib_bits s j frame))
+unfolding stripped
+stripped_fewer s turns has j known q just frame inverted is fewer =
+    ap (λ b. bits_read s j b frame) fewer ∙ read_fewer s turns has j known q just frame
+    ∙ ap (λ b. map (turned b) (take q (trib_bits s j frame) ++ drop (q + 1) (trib_bits s j frame))) (sym is)
+
 -- how many bits a frame gives a tributary
 pub length-stripped : (s : FrameShape) (j : ℕ) (frame : List Bool) → HasTributaries s → j < s.tribs → length (stripped s j frame) ≡ cond (carries_more s j frame) (suc s.low) s.low
 unfolding stripped
@@ -228,3 +236,35 @@ ones_are s frame whole =
         let e : 0 + x ≡ x = omega arith in
         one (is_payload (s.role x)) x (filter (λ slot. is_payload (s.role slot)) xs)
         ∙ ap (λ t. cond (get_or frame x false && is_payload (s.role t)) (1 + count_by (λ (v : Bool). v) (map (λ slot. get_or frame slot false) (filter (λ slot. is_payload (s.role slot)) xs))) (count_by (λ (v : Bool). v) (map (λ slot. get_or frame slot false) (filter (λ slot. is_payload (s.role slot)) xs)))) (sym e)
+
+-- and the others those of the slots that carry no bit of a tributary
+pub ones_both : (s : FrameShape) (frame : List Bool) → length frame ≡ s.len → payload_ones s 0 frame + count_by (λ slot. get_or frame slot false) (filter (is_overhead s) (slots s)) ≡ count_by (λ (v : Bool). v) frame
+ones_both s frame whole =
+    let bits : ℕ → Bool = λ slot. get_or frame slot false in
+    let all : map bits (range_with_len 0 s.len) ≡ frame = cut frame (λ u. u) 0 0 s.len (λ u h h'. omega arith) (omega (arith, whole)) ∙ take_all s.len frame (omega (arith, whole)) in
+    ap (λ n. n + count_by bits (filter (is_overhead s) (slots s))) (ones_are s frame whole) ∙ split (slots s) ∙ ap (count_by (λ (v : Bool). v)) all
+  where
+    split : (xs : List ℕ) → count_by (λ (v : Bool). v) (map (λ slot. get_or frame slot false) (filter (λ slot. is_payload (s.role slot)) xs)) + count_by (λ slot. get_or frame slot false) (filter (is_overhead s) xs)
+        ≡ count_by (λ (v : Bool). v) (map (λ slot. get_or frame slot false) xs)
+    split [] = refl
+    split (x ∷ xs) = at (is_payload (s.role x)) (split xs)
+      where
+        at : (q : Bool) → count_by (λ (v : Bool). v) (map (λ slot. get_or frame slot false) (filter (λ slot. is_payload (s.role slot)) xs)) + count_by (λ slot. get_or frame slot false) (filter (is_overhead s) xs)
+            ≡ count_by (λ (v : Bool). v) (map (λ slot. get_or frame slot false) xs)
+            → count_by (λ (v : Bool). v) (map (λ slot. get_or frame slot false) (cond q (x ∷ filter (λ slot. is_payload (s.role slot)) xs) (filter (λ slot. is_payload (s.role slot)) xs)))
+            + count_by (λ slot. get_or frame slot false) (cond (not q) (x ∷ filter (is_overhead s) xs) (filter (is_overhead s) xs))
+            ≡ count_by (λ (v : Bool). v) (map (λ slot. get_or frame slot false) (x ∷ xs))
+        at true rest =
+            omega (
+              arith,
+              rest,
+              sum_by-cons (λ (v : Bool). cond v 1 0) (get_or frame x false) (map (λ slot. get_or frame slot false) (filter (λ slot. is_payload (s.role slot)) xs)),
+              sum_by-cons (λ (v : Bool). cond v 1 0) (get_or frame x false) (map (λ slot. get_or frame slot false) xs),
+            )
+        at false rest =
+            omega (
+              arith,
+              rest,
+              sum_by-cons (λ slot. cond (get_or frame slot false) 1 0) x (filter (is_overhead s) xs),
+              sum_by-cons (λ (v : Bool). cond v 1 0) (get_or frame x false) (map (λ slot. get_or frame slot false) xs),
+            )

@@ -1,6 +1,6 @@
 -- A piece of a frame: how many slots and turns stand before its slots, the columns from which it is put together, and the
 -- parity of its payload.
-use Rattle.std.specs.Prelude.{◌≡◌, ℕ, ◌+◌, ◌-◌, ◌/◌, ◌<◌, Bool, true, false, if◌then◌else◌, List, [], length, map}
+use Rattle.std.specs.Prelude.{◌≡◌, ℕ, ◌+◌, ◌-◌, ◌/◌, ◌<◌, Bool, true, false, if◌then◌else◌, List, [], map}
 use Rattle.std.specs.List.{range_with_len, slice_index_or}
 use Rattle.pdh_shape.specs.Frame.{FrameShape}
 use Rattle.pdh_shape.specs.Tributary.{reads_from, reads_below, turned}

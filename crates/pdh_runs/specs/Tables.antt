@@ -17,6 +17,10 @@ AreRoles s roles = roles ≡ map s.role (slots s)
 abbrev pub is_overhead : FrameShape → ℕ → Bool
 is_overhead s t = not (is_payload (s.role t))
 
+-- the roles of the slots that carry no bit of a tributary, in order
+abbrev pub AreOverheadRoles : FrameShape → List Role → Type 0
+AreOverheadRoles s roles = roles ≡ map s.role (filter (is_overhead s) (slots s))
+
 -- how many payload slots stand before each slot, and before the frame's end
 abbrev pub payload_counts : FrameShape → List ℕ
 payload_counts s = map (payload_before s) (range_with_len 0 (suc s.len))
@@ -47,8 +51,9 @@ pub record AreTributaries (s : FrameShape) (tribs : ℕ) (tributaries : List Tri
   pub each : (j : ℕ) (tributary : Tributary) → slice_get tributaries j ≡ Some tributary → IsTributary s j tributary
 
 -- the tables of a frame
-pub record AreTables (s : FrameShape) (payload overhead ends : List ℕ) (tributaries : List Tributary) : Type 0 where
+pub record AreTables (s : FrameShape) (payload overhead : List ℕ) (overhead_roles : List Role) (ends : List ℕ) (tributaries : List Tributary) : Type 0 where
   pub payload_are : payload ≡ payload_counts s
   pub overhead_are : overhead ≡ filter (is_overhead s) (slots s)
+  pub overhead_roles_are : AreOverheadRoles s overhead_roles
   pub ends_are : AreEnds s ends
   pub tributaries_are : AreTributaries s s.tribs tributaries

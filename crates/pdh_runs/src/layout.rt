@@ -1,13 +1,15 @@
 //! The layout of a frame: its tables of slots, made once and shared by sending and receiving.
 
-ghost use Rattle.std.specs.Prelude.{◌≡◌, ◌<◌, ◌≤◌, ◌+◌, filter};
+ghost use Rattle.std.specs.Prelude.{◌≡◌, ◌<◌, ◌≤◌, ◌+◌, filter, IfSome};
 ghost use Rattle.pdh_shape.specs.Frame.{slots as slots_of};
 ghost use Rattle.pdh_shape.specs.Payload.{is_payload as is_payload_role, payload_before};
 ghost use Rattle.pdh_runs.specs.Pieces.{turn, overhead_before, rows};
-ghost use Rattle.pdh_runs.specs.Tables.{is_overhead, EndsStretch, IsTributary};
+ghost use Rattle.pdh_runs.specs.Tables.{is_overhead, AreOverheadRoles, EndsStretch, IsTributary};
+ghost use Rattle.pdh_runs.specs.WordTables.{AreWords};
 
-use crate::tables::{Tributary, ends, overhead, payload, roles, tributaries};
-use pdh_shape::Shape;
+use crate::tables::{Tributary, ends, overhead, overhead_roles, payload, roles, tributaries};
+use crate::words::{WordAt, words};
+use pdh_shape::{Role, Shape};
 use std::alloc::{AllocError, Global};
 use std::marker::{Model, PhantomData};
 
@@ -19,20 +21,26 @@ pub struct Layout<S: Shape> {
     payload: Vec<u16>,
     // the slots that are none
     overhead: Vec<u16>,
+    // what these carry
+    overhead_roles: Vec<Role>,
     // for each slot the end of the payload slots, or of the others, among which it stands
     ends: Vec<u16>,
     tributaries: Vec<Tributary>,
+    // where the words of the payload stand, if each stands in at most two stretches of payload slots
+    words: Option<Vec<WordAt>>,
     of: PhantomData<S>,
 }
 
 impl<S: Shape> Model for Layout<S> {
+    ghost use Rattle.std.specs.Prelude.{IfSome};
     ghost use Rattle.pdh_runs.specs.Tables.{AreTables};
+    ghost use Rattle.pdh_runs.specs.WordTables.{AreWords};
 
     ghost Value = { Unit {0} };
 
     ghost view = { λ l. tt };
 
-    ghost invariant = { λ l. AreTables S.shape l.payload.items l.overhead.items l.ends.items l.tributaries.items };
+    ghost invariant = { λ l. AreTables S.shape l.payload.items l.overhead.items l.overhead_roles.items l.ends.items l.tributaries.items × IfSome l.words (λ words. AreWords S.shape words.items) };
 }
 
 impl<S: Shape> Layout<S> {
@@ -40,11 +48,14 @@ impl<S: Shape> Layout<S> {
     pub fn open(alloc: Global) -> Result<Layout<S>, AllocError> {
         let roles = roles::<S>(alloc)?;
         let payload = payload::<S>(alloc, &roles)?;
+        let ends = ends::<S>(alloc, &roles)?;
         Ok(Layout {
             overhead: overhead::<S>(alloc, &roles)?,
-            ends: ends::<S>(alloc, &roles)?,
+            overhead_roles: overhead_roles::<S>(alloc, &roles)?,
             tributaries: tributaries::<S>(alloc, &roles, &payload)?,
+            words: words::<S>(alloc, &roles, &payload, &ends)?,
             payload,
+            ends,
             of: PhantomData,
         })
     }
@@ -54,6 +65,13 @@ impl<S: Shape> Layout<S> {
         ensures { result.now ≡ filter (is_overhead S.shape) (slots_of S.shape) }
     {
         &self.overhead
+    }
+
+    /// What these slots carry, in order.
+    pub fn overhead_roles(&self) -> &[Role]
+        ensures { AreOverheadRoles S.shape result.now }
+    {
+        &self.overhead_roles
     }
 
     /// The slots of a tributary.
@@ -106,6 +124,13 @@ impl<S: Shape> Layout<S> {
         let tribs = usize::from(S::TRIBS);
         let end = self.payload_before(first + len as u32);
         (end + tribs - 1) / tribs - self.turn(first)
+    }
+
+    /// Where the words of the payload stand, if each stands in at most two stretches of payload slots.
+    pub(crate) fn words(&self) -> Option<&Vec<WordAt>>
+        ensures { IfSome result (λ words. AreWords S.shape words.now.items) }
+    {
+        self.words.as_ref()
     }
 
     /// Whether a slot is a payload slot.

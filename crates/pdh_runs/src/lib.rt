@@ -3,6 +3,7 @@
 //! It knows one frame of any shape, and no store, no search for alignment and no chain.
 #![tactic(auto)]
 
+mod dealing;
 pub mod laws;
 mod layout;
 mod parts;
@@ -11,6 +12,7 @@ mod run;
 mod sending;
 mod tables;
 mod turns;
+mod words;
 
 pub use layout::Layout;
 pub use parts::Parts;

@@ -1,32 +1,31 @@
 //! Frames taken apart into a column for each tributary.
 
-ghost use Rattle.std.specs.Prelude.{◌≡◌, ◌<◌, ◌≤◌, ◌+◌, ◌*◌, ◌%◌, ◌==◌, true, [], length, map, replicate, All, IfOk};
+ghost use Rattle.std.specs.Prelude.{◌≡◌, ◌<◌, ◌≤◌, ◌+◌, ◌%◌, ◌==◌, true, length, replicate, All, IfOk};
 ghost use Rattle.pdh_shape.specs.Tributary.{stripped};
 ghost use Rattle.pdh_shape.specs.Payload.{payload_ones};
-ghost use Rattle.pdh_runs.specs.Columns.{payload_bits};
 ghost use Rattle.pdh_runs.specs.Taking.{emptied, HasColumns, StandsInTurn};
 
 use crate::layout::Layout;
-use crate::turns::{append_turned, append_without};
-use pdh_interleaving::deal;
 use pdh_packed::Packed;
 use pdh_shape::Shape;
 use std::alloc::{AllocError, Global};
 use std::marker::Model;
+use std::mem;
 use std::rc::Rc;
 
-/// A frame taken apart, each tributary's bits by one call. Only `open` takes memory.
+/// A frame, which is taken apart where the bits of a tributary are first read of it. Only `open` takes memory.
 #[derive(Drop)]
 pub struct Parts<S: Shape> {
     layout: Rc<Layout<S>>,
     frame: Packed,
-    payload: Packed,
-    // for each tributary the bits of its information slots and its justifiable slot
+    // the columns are those of this frame
+    apart: bool,
+    // for each tributary the bits that a frame gives it
     columns: Vec<Packed>,
-    // the tributary that was read last, if its bits are its column
-    whole: Option<u8>,
-    // and else its bits
-    bits: Packed,
+    // the tributary that was read last, if one was
+    last: Option<u8>,
+    // what was read before any
+    none: Packed,
     ones: Packed,
 }
 
@@ -35,9 +34,9 @@ impl<S: Shape> Model for Parts<S> {
 
     ghost Value = { Taken };
 
-    ghost view = { λ p. record { frame = p.frame.bits; bits = read_bits p.whole p.columns.items p.bits.bits } };
+    ghost view = { λ p. record { frame = p.frame.bits; bits = read_bits p.last p.columns.items p.none.bits } };
 
-    ghost invariant = { λ p. IsTaken S.shape p.frame p.payload p.columns.items p.whole p.bits p.ones };
+    ghost invariant = { λ p. IsTaken S.shape p.frame p.apart p.columns.items p.last p.ones };
 }
 
 // So many equal bits.
@@ -72,71 +71,43 @@ fn clear_all(lists: &mut [Packed])
     }
 }
 
-// Takes a frame apart: its payload, and from that the column of each tributary. What was in `payload` is lost.
-fn take_apart<S: Shape>(
-    layout: &Layout<S>,
-    frame: &Packed,
-    payload: &mut Packed,
-    columns: &mut [Packed],
-)
+// Takes a frame apart: the column of each tributary has the bits that the frame gives it.
+fn take_apart<S: Shape>(layout: &Layout<S>, frame: &Packed, columns: &mut [Packed])
     requires whole { length frame.now.bits ≡ S.LEN }
-    requires scratch { S.TRIBS * (S.LOW + 1) ≤ payload.old.capacity }
     requires tributaries { length columns.old ≡ S.TRIBS }
     requires room { All (λ column. S.LOW + 1 ≤ column.capacity) columns.old }
-    ensures scratch { payload.new.capacity ≡ payload.old.capacity }
-    ensures payload { payload.new.bits ≡ payload_bits S.shape frame.now.bits }
-    ensures columns { HasColumns S.shape frame.now.bits columns.new }
+    ensures { HasColumns S.shape (λ j. stripped S.shape j frame.now.bits) columns.new }
 {
     clear_all(columns);
-    payload.clear();
-    layout.append_payload(frame, payload);
-    if matches!(columns.len(), 4 | 7) {
-        deal(payload, 0, S::LOW as usize + 1, columns);
-    } else {
-        append_tribs(layout, frame, columns);
-    }
-}
-
-// The same for any number of tributaries, slot by slot.
-fn append_tribs<S: Shape>(layout: &Layout<S>, frame: &Packed, columns: &mut [Packed])
-    requires whole { length frame.now.bits ≡ S.LEN }
-    requires tributaries { length columns.old ≡ S.TRIBS }
-    requires room { All (λ column. S.LOW + 1 ≤ column.capacity) columns.old }
-    requires empty { All (λ column. column.bits ≡ []) columns.old }
-    ensures { HasColumns S.shape frame.now.bits columns.new }
-{
+    layout.fill_columns(frame, columns);
     for trib in 0..S::TRIBS {
-        layout.append_trib(trib, frame, &mut columns[trib as usize]);
+        layout.strip(trib, frame, &mut columns[trib as usize]);
     }
 }
 
 impl<S: Shape> Parts<S> {
-    /// A frame of zeros, taken apart by this layout; or it finds no memory.
+    /// A frame of zeros, for this layout; or it finds no memory.
     pub fn open(alloc: Global, layout: Rc<Layout<S>>) -> Result<Parts<S>, AllocError> {
-        let frame = equal_bits(alloc, false, S::LEN as usize)?;
-        let each = S::LOW as usize + 1;
-        let tribs = usize::from(S::TRIBS);
-        let mut payload = Packed::open(alloc, tribs * each)?;
-        let mut columns = empty_lists(alloc, tribs, each)?;
-        take_apart(&layout, &frame, &mut payload, &mut columns);
         Ok(Parts {
             layout,
-            frame,
-            payload,
-            columns,
-            whole: None,
-            bits: Packed::open(alloc, each)?,
+            frame: equal_bits(alloc, false, S::LEN as usize)?,
+            apart: false,
+            columns: empty_lists(alloc, usize::from(S::TRIBS), S::LOW as usize + 1)?,
+            last: None,
+            none: Packed::short(alloc),
             ones: equal_bits(alloc, true, S::LOW as usize)?,
         })
     }
 
-    /// Takes this frame apart from now on.
-    pub fn load(&mut self, frame: &Packed)
-        requires whole { length frame.now.bits ≡ S.LEN }
-        ensures { self.new.frame ≡ frame.now.bits }
+    /// Takes this frame, and hands back the one before.
+    pub fn exchange(&mut self, frame: &mut Packed)
+        requires whole { length frame.old.bits ≡ S.LEN }
+        requires room { frame.old.capacity ≡ S.LEN }
+        ensures taken { self.new.frame ≡ frame.old.bits }
+        ensures handed { frame.new ≡ record frame.old { bits = self.old.frame } }
     {
-        self.frame.copy_from(frame);
-        take_apart(&self.layout, frame, &mut self.payload, &mut self.columns);
+        mem::swap(&mut self.frame, frame);
+        self.apart = false;
     }
 
     /// Reads the bits that the frame gives a tributary.
@@ -145,30 +116,20 @@ impl<S: Shape> Parts<S> {
         ensures frame { self.new.frame ≡ self.old.frame }
         ensures bits { self.new.bits ≡ stripped S.shape trib self.old.frame }
     {
-        let inverted = S::inverted(trib);
-        let more = self.layout.carries_more(trib, &self.frame);
-        if more && !inverted {
-            self.whole = Some(trib);
-            return;
+        if !self.apart {
+            take_apart(&self.layout, &self.frame, &mut self.columns);
+            self.apart = true;
         }
-        self.whole = None;
-        let column = &self.columns[trib as usize];
-        self.bits.clear();
-        if more {
-            append_turned(inverted, column, 0, column.len(), &mut self.bits);
-        } else {
-            let just = usize::from(self.layout.tributary(trib).just);
-            append_without(inverted, column, just, &mut self.bits);
-        }
+        self.last = Some(trib);
     }
 
     /// The bits of the tributary that was read last.
     pub fn bits(&self) -> &Packed
         ensures { result.now.bits ≡ self.now.bits }
     {
-        match self.whole {
+        match self.last {
             Some(trib) => &self.columns[trib as usize],
-            None => &self.bits,
+            None => &self.none,
         }
     }
 
@@ -183,7 +144,7 @@ impl<S: Shape> Parts<S> {
     pub fn is_odd(&self) -> bool
         ensures { result ≡ (payload_ones S.shape 0 self.now.frame % 2 == 1) }
     {
-        self.payload.is_odd(0, self.payload.len())
+        self.layout.is_odd(&self.frame)
     }
 
     /// In which turn a bit stands of the tributary that was read last.

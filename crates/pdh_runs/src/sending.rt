@@ -1,6 +1,6 @@
 //! Pieces of a frame, put together from a column for each tributary and the overhead bits.
 
-ghost use Rattle.std.specs.Prelude.{◌≡◌, ◌<◌, ◌≤◌, ◌⊎◌, ℕ, ◌+◌, ◌-◌, ◌*◌, ◌%◌, ◌==◌, true, false, [], ◌++◌, length, map, replicate, All};
+ghost use Rattle.std.specs.Prelude.{◌≡◌, ◌<◌, ◌≤◌, ◌⊎◌, ℕ, ◌+◌, ◌-◌, ◌*◌, ◌%◌, ◌==◌, true, false, [], ◌++◌, length, map, take, drop, replicate, All};
 ghost use Rattle.std.specs.List.{slice_index_or};
 ghost use Rattle.pdh_shape.specs.Payload.{is_payload as is_payload_role, payload_before, payload_ones};
 ghost use Rattle.pdh_shape.specs.Tributary.{reads_from, reads_below};
@@ -8,9 +8,9 @@ ghost use Rattle.pdh_packed.specs.Gaining.{gained, IsGrown};
 ghost use Rattle.pdh_runs.specs.Pieces.{turn, overhead_before, rows, slot_bits, FillsColumn, Assembled};
 
 use crate::layout::Layout;
-use crate::turns::append_turns;
+use crate::turns::{append_turns, carrying};
 use pdh_interleaving::interleave;
-use pdh_packed::Packed;
+use pdh_packed::{Packed, Word};
 use pdh_shape::Shape;
 
 // Appends a zero where a list has one bit fewer than these.
@@ -22,6 +22,44 @@ fn fill_up(list: &mut Packed, len: usize)
     if list.len() < len {
         list.push(false);
     }
+}
+
+// Appends bits of a list, so many from a place on, but for the last, at most 64, which it hands back. A stretch of payload slots of a
+// DS3 fills one word and not two.
+#[inline(always)]
+fn append_front(list: &Packed, place: usize, count: usize, into: &mut Packed) -> Word
+    requires within { place + count ≤ length list.now.bits }
+    requires room { length into.old.bits + count ≤ into.old.capacity }
+    ensures bits { into.new.bits ++ result ≡ into.old.bits ++ take count (drop place list.now.bits) }
+    ensures capacity { into.new.capacity ≡ into.old.capacity }
+{
+    // a place fits, since a length does
+    let _fits = list.len();
+    if count <= 64 {
+        return list.read(place, count as u32);
+    }
+    if count < 128 {
+        into.append_whole(list.read_whole(place));
+        return list.read(place + 64, (count - 64) as u32);
+    }
+    into.append_from(list, place, count);
+    Word::empty()
+}
+
+// Appends bits of a list, so many from a place on, behind those that are held back, and holds the last back.
+#[inline(always)]
+fn append_behind(list: &Packed, place: usize, count: usize, held: &mut Word, into: &mut Packed)
+    requires within { place + count ≤ length list.now.bits }
+    requires room { length (into.old.bits ++ held.old) + count ≤ into.old.capacity }
+    ensures bits { into.new.bits ++ held.new ≡ (into.old.bits ++ held.old) ++ take count (drop place list.now.bits) }
+    ensures capacity { into.new.capacity ≡ into.old.capacity }
+{
+    if count <= (64 - held.len()) as usize {
+        *held = held.join(list.read(place, count as u32));
+        return;
+    }
+    into.append(*held);
+    *held = append_front(list, place, count, into);
 }
 
 impl<S: Shape> Layout<S> {
@@ -62,11 +100,39 @@ impl<S: Shape> Layout<S> {
         ensures rows { length column.new.bits ≡ rows S.shape first len }
         ensures fills { FillsColumn S.shape trib more first len queue.now.bits column.new.bits }
     {
+        let _carried = self.fill_column_at(trib, more, first, len, queue, 0, column);
+    }
+
+    /// The same from a place of the queue on; answers how many of its bits the piece carries.
+    #[inline(always)]
+    pub fn fill_column_at(
+        &self,
+        trib: u8,
+        more: bool,
+        first: u32,
+        len: usize,
+        queue: &Packed,
+        at: usize,
+        column: &mut Packed,
+    ) -> usize
+        requires known { trib < S.TRIBS }
+        requires inside { first + len ≤ S.LEN }
+        requires within { at ≤ length queue.now.bits }
+        requires held { reads_below S.shape trib more (first + len)
+            ≤ reads_below S.shape trib more first + length (drop at queue.now.bits) }
+        requires room { S.LOW + 1 ≤ column.old.capacity }
+        ensures capacity { column.new.capacity ≡ column.old.capacity }
+        ensures rows { length column.new.bits ≡ rows S.shape first len }
+        ensures fills { FillsColumn S.shape trib more first len (drop at queue.now.bits) column.new.bits }
+        ensures carried { reads_below S.shape trib more first + result
+            ≡ reads_below S.shape trib more (first + len) }
+    {
         let turns = self.turns(trib, more, first, len);
         column.clear();
         fill_up(column, turns.from - self.turn(first));
-        append_turns(&turns, S::inverted(trib), queue, column);
+        append_turns(&turns, S::inverted(trib), queue, at, column);
         fill_up(column, self.rows(first, len));
+        carrying(&turns)
     }
 
     /// Appends a piece of a frame, which is put together from a column of each tributary and from the
@@ -153,17 +219,21 @@ impl<S: Shape> Layout<S> {
     {
         let passed = self.overhead_before(first);
         let end = first + len as u32;
+        let mut held = Word::empty();
         let mut slot = first;
         while slot < end {
             let next = self.end(slot).min(end);
             let count = (next - slot) as usize;
             if self.is_payload(slot) {
-                into.append_from(payload, self.payload_before(slot) - skipped, count);
+                let place = self.payload_before(slot) - skipped;
+                append_behind(payload, place, count, &mut held, into);
             } else {
-                into.append_from(overhead, self.overhead_before(slot) - passed, count);
+                let place = self.overhead_before(slot) - passed;
+                append_behind(overhead, place, count, &mut held, into);
             }
             slot = next;
         }
+        into.append(held);
     }
 
     // The same for any number of tributaries, slot by slot.

@@ -4,7 +4,7 @@ ghost use Rattle.std.specs.Prelude.{◌≡◌, ◌<◌, ℕ, filter, IfOk};
 ghost use Rattle.pdh_shape.specs.declared.role.Role.TheVariants.{Just};
 ghost use Rattle.pdh_shape.specs.Frame.{slots as slots_of};
 ghost use Rattle.pdh_shape.specs.Tributary.{controls, is_just as is_just_role};
-ghost use Rattle.pdh_runs.specs.Tables.{AreRoles, is_overhead, payload_counts, AreEnds, IsTributary, AreTributaries};
+ghost use Rattle.pdh_runs.specs.Tables.{AreRoles, AreOverheadRoles, is_overhead, payload_counts, AreEnds, IsTributary, AreTributaries};
 ghost use Rattle.pdh_runs.specs.Pieces.{turn};
 
 use crate::run::is_payload;
@@ -61,6 +61,22 @@ pub fn overhead<S: Shape>(alloc: Global, roles: &[Role]) -> Result<Vec<u16>, All
         }
     }
     Ok(overhead)
+}
+
+/// The roles of the slots that carry no bit of a tributary, in order; or the refusal of memory for
+/// them.
+pub fn overhead_roles<S: Shape>(alloc: Global, roles: &[Role]) -> Result<Vec<Role>, AllocError>
+    requires { AreRoles S.shape roles.now }
+    ensures { IfOk result (λ list. AreOverheadRoles S.shape list.items) }
+{
+    let mut list = Vec::new(alloc);
+    for slot in 0..S::LEN {
+        let role = roles[slot as usize];
+        if !is_payload(role) {
+            list.push(role)?;
+        }
+    }
+    Ok(list)
 }
 
 /// For each slot the next that is no payload slot where it is one, or is one where it is none, or

@@ -3,7 +3,7 @@
 
 ghost use Rattle.std.specs.Prelude.{◌≡◌, ◌<◌, ◌≤◌, ◌+◌, ◌-◌, ◌++◌, length, map, take, drop, is_some, IfSome, true, if◌then◌else◌};
 ghost use Rattle.pdh_shape.specs.Tributary.{reads_below, turned};
-ghost use Rattle.pdh_runs.specs.Turns.{AreTurns, turn_bits};
+ghost use Rattle.pdh_runs.specs.Turns.{AreTurns, empty_before, turn_bits};
 
 use crate::layout::Layout;
 use pdh_packed::Packed;
@@ -54,20 +54,34 @@ impl<S: Shape> Layout<S> {
     }
 }
 
-/// Appends the bits of turns, from a queue on, as the line has them. The empty turn is 1.
-#[inline(always)]
-pub fn append_turns(turns: &Turns, inverted: bool, queue: &Packed, into: &mut Packed)
-    requires empty { IfSome turns.now.empty (λ place. place < turns.now.count) }
-    requires held { turns.now.count ≤ length queue.now.bits + (if is_some turns.now.empty then 1 else 0) }
-    requires room { length into.old.bits + turns.now.count ≤ into.old.capacity }
-    ensures { into.new ≡ record into.old { bits = into.old.bits ++ turn_bits inverted turns.now.empty turns.now.count queue.now.bits } }
+/// How many of the turns carry a bit.
+pub fn carrying(turns: &Turns) -> usize
+    requires { IfSome turns.now.empty (λ place. place < turns.now.count) }
+    ensures { result + empty_before turns.now.empty turns.now.count ≡ turns.now.count }
 {
     match turns.empty {
-        None => append_turned(inverted, queue, 0, turns.count, into),
+        None => turns.count,
+        Some(_) => turns.count - 1,
+    }
+}
+
+/// Appends the bits of turns, from a place of a queue on, as the line has them. The empty turn is 1.
+#[inline(always)]
+pub fn append_turns(turns: &Turns, inverted: bool, queue: &Packed, at: usize, into: &mut Packed)
+    requires empty { IfSome turns.now.empty (λ place. place < turns.now.count) }
+    requires within { at ≤ length queue.now.bits }
+    requires held { at + turns.now.count ≤ length queue.now.bits + (if is_some turns.now.empty then 1 else 0) }
+    requires room { length into.old.bits + turns.now.count ≤ into.old.capacity }
+    ensures { into.new ≡ record into.old { bits = into.old.bits ++ turn_bits inverted turns.now.empty turns.now.count (drop at queue.now.bits) } }
+{
+    match turns.empty {
+        None => append_turned(inverted, queue, at, turns.count, into),
         Some(place) => {
-            append_turned(inverted, queue, 0, place, into);
+            // a place fits, since a length does
+            let _fits = queue.len();
+            append_turned(inverted, queue, at, place, into);
             into.push(true);
-            append_turned(inverted, queue, place, turns.count - place - 1, into);
+            append_turned(inverted, queue, at + place, turns.count - place - 1, into);
         }
     }
 }
@@ -84,15 +98,4 @@ pub fn append_turned(inverted: bool, list: &Packed, place: usize, count: usize, 
     } else {
         into.append_from(list, place, count);
     }
-}
-
-/// Appends all bits of a list but the one at a place, as the line has them.
-pub fn append_without(inverted: bool, list: &Packed, place: usize, into: &mut Packed)
-    requires within { place < length list.now.bits }
-    requires room { length into.old.bits + length list.now.bits ≤ into.old.capacity }
-    ensures { into.new ≡ record into.old { bits = into.old.bits ++ map (turned inverted) (take place list.now.bits ++ drop (place + 1) list.now.bits) } }
-{
-    let behind = list.len() - place - 1;
-    append_turned(inverted, list, 0, place, into);
-    append_turned(inverted, list, place + 1, behind, into);
 }

@@ -20,3 +20,4 @@ pub mod InTurn
 pub mod Watched
 pub mod Fitting
 pub mod Counting
+pub mod Deaf

@@ -16,7 +16,7 @@ use Rattle.pdh_events.specs.Acts.{Act, bit_acts, acts_events}
 use Rattle.pdh_events.specs.Acts.Act.{Note}
 use Rattle.pdh_events.specs.laws.ActsLaws.{bits_to}
 use Rattle.pdh_judging.specs.declared.judged.Judged.{Judged}
-use Rattle.pdh_judging.specs.Judged.{after_step, Judges}
+use Rattle.pdh_judging.specs.Judged.{after_step}
 use Rattle.pdh_judging.proofs.Steps.{judges_step, judges_none}
 use Rattle.pdh_rx.specs.Meaning.{Meaning, Gains, GainsPart}
 use Rattle.pdh_rx.specs.Node.{received_lines, child_notes, node_meaning, Gives, Plays, PlaysPart, gap_after, frames_after, step_bits, step_acts, step_pieces, NodeTracks, NodeStands}
@@ -24,7 +24,7 @@ use Rattle.pdh_rx.specs.laws.NodeLaws.{AllSound}
 use Rattle.pdh_rx.proofs.Gains.{gives_below, part_below}
 use Rattle.pdh_rx.proofs.Playing.{SawJoins, plays_notes, plays_join, plays_part}
 use Rattle.pdh_rx.proofs.StepActs.{bit_acts_are, bits_are, remembers_after}
-use Rattle.pdh_rx.proofs.NodeSteps.{node_tracks, node_gains, node_part, track_none}
+use Rattle.pdh_rx.proofs.NodeSteps.{node_tracks, tracks_taken, node_gains, node_part, track_none}
 
 next_goes : (line : List Bool) (bit : Bool) (n : ℕ) → n ≡ next_bit line → min (n + 1) (2 ^ 64 - 1) ≡ next_bit (line ++ bit ∷ [])
 next_goes line bit n is = let more : length (line ++ bit ∷ []) ≡ length line + 1 = length-append line (bit ∷ []) in omega (arith, is, more)
@@ -92,6 +92,19 @@ module _ {C W : Type 0} {stands : C → List Bool → Type 0} (saw : W → List 
       let P : List Act → Type 0 = λ a. SawPart saw was (acts_events (child_notes ms) (received_lines s line) a) is in
       let whole = plays_part stands saw ms joins sound (map Note own) acts [] (map Note own ++ acts) children children o o p was heard is (sym (append-nil (map Note own ++ acts))) (plays_notes stands saw ms own children o was heard noted) played in
       subst P (sym acts_are) (whole.sees (received_lines s line) told.node.each)
+
+-- an aligner of which ready frames were taken is what it was to the node
+pub stands_taken : {C : Type 0} (stands : C → List Bool → Type 0) (meaning : C → Meaning) (s : FrameShape) (children : List C) (held now : Held) (gap frames : ℕ) (judged : Judged) (bits : ℕ) (ais : OnesRun) (kept : Kept) (line : List Bool)
+    → now ≡ record held { ready = now.ready } → NodeStands stands meaning s children held gap frames judged bits ais kept line → NodeStands stands meaning s children now gap frames judged bits ais kept line
+stands_taken stands meaning s children held now gap frames judged bits ais kept line is h =
+    record {
+      node = tracks_taken stands meaning s children held now gap frames line is h.node;
+      judges = h.judges;
+      bits_are = h.bits_are;
+      long_is = h.long_is;
+      ones_are = h.ones_are;
+      remembers = h.remembers;
+    }
 
 -- ---- the start
 

@@ -16,6 +16,7 @@ use Rattle.pdh_line.specs.Receiving.{piece_bits, received}
 use Rattle.pdh_align.specs.declared.step.Step.{Step}
 use Rattle.pdh_align.specs.declared.step.Step.TheVariants.{Nothing, Rejected, Aligned, Frame, Lost}
 use Rattle.pdh_align.specs.Aligning.{Held, StandsFor, Grows, Tracks, Waits, Passes, frames_gained}
+use Rattle.pdh_align.proofs.AligningLaws.{stands_on}
 use Rattle.pdh_rx.specs.Meaning.{Meaning, Gains, GainsPart}
 use Rattle.pdh_events.specs.Acts.{with_more}
 use Rattle.pdh_rx.specs.Node.{EachStands, received_lines, node_meaning, Gives, GivesPart, frames_bits, gap_after, frames_after, step_bits, IsGap, frames_counted, NodeTracks}
@@ -186,6 +187,12 @@ module _ {C : Type 0} (stands : C → List Bool → Type 0) (meaning : C → Mea
   pub node_part : (o p : Outputs) → GivesPart stands (map meaning children) (step_bits s step held'.ready gap') children o p
       → GainsPart ((node_meaning s path (map meaning children)).got line) ((node_meaning s path (map meaning children)).got (line ++ bit ∷ [])) o p
   node_part o p gives = part_is _ _ _ o p (λ k. got_by_same (map meaning children) _ _ received_more k) (gives.gains (received_lines s line) node.each)
+
+-- an aligner of which ready frames were taken is what it was
+pub tracks_taken : {C : Type 0} (stands : C → List Bool → Type 0) (meaning : C → Meaning) (s : FrameShape) (children : List C) (held now : Held) (gap frames : ℕ) (line : List Bool) → now ≡ record held { ready = now.ready }
+    → NodeTracks stands meaning s children held gap frames line → NodeTracks stands meaning s children now gap frames line
+tracks_taken stands meaning s children held now gap frames line is node =
+    record { count = node.count; each = node.each; aligner = stands_on s held now line is node.aligner; inside = node.inside; gap_is = node.gap_is; frames_are = node.frames_are }
 
 -- ---- bits at which no frame ends
 

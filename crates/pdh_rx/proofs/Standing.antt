@@ -24,10 +24,11 @@ use Rattle.pdh_runs.proofs.EmptyTurns.{one_of_them, just_reads}
 use Rattle.pdh_runs.proofs.TakingLaws.{length-stripped}
 use Rattle.pdh_events.specs.Acts.{carries_at}
 use Rattle.pdh_events.specs.laws.ActsLaws.{bits_to, bits_to-append}
+use Rattle.pdh_events.specs.laws.QuietLaws.{OnlyGive}
 use Rattle.pdh_rx.specs.Places.{cell_acts, place_acts, places_acts, role_cell, frame_cell, ones_cell, loaded_cell, loaded_places, loaded_bits, loaded_acts, StandsAt}
 use Rattle.pdh_rx.proofs.SlotActs.{slots_bits}
 use Rattle.pdh_rx.proofs.StepActs.{rounds_give}
-use Rattle.pdh_rx.proofs.Places.{places_split, one_place}
+use Rattle.pdh_rx.proofs.Places.{places_split, one_place, places_give}
 use Rattle.pdh_rx.proofs.FramePlaces.{some_same, none_some, frame_places, gap_places}
 
 some_none : {X : Type 0} (x : X) → Some x ≡ None → ⊥
@@ -367,6 +368,10 @@ loaded_all s false frame j turns has known = frame_all s turns has j known frame
 pub loaded_acts_are : (s : FrameShape) (gap : Bool) (frame : List Bool) → PayloadInTurn s → loaded_acts s gap frame ≡ places_acts s.tribs (loaded_cell s gap frame) 0 (loaded_places s gap)
 loaded_acts_are s true frame turns = gap_places s s.low
 loaded_acts_are s false frame turns = frame_places s frame turns
+
+-- nothing is noted of it
+pub loaded_give : (s : FrameShape) (gap : Bool) (frame : List Bool) → PayloadInTurn s → OnlyGive (loaded_acts s gap frame)
+loaded_give s gap frame turns = subst OnlyGive (sym (loaded_acts_are s gap frame turns)) (places_give s.tribs (loaded_cell s gap frame) 0 (loaded_places s gap))
 
 -- a bit of what is loaded stands in its turn
 pub loaded_stands : (s : FrameShape) (gap : Bool) (frame : List Bool) (j : ℕ) → PayloadInTurn s → HasTributaries s → j < s.tribs → (bits : List Bool) (k i p : ℕ) → bits ≡ loaded_bits s gap frame j → k < length bits

@@ -51,6 +51,12 @@ pub record TakesBits (m : Meaning) (bits : List Bool) (was is : List Bool → Ty
 pub record TakesPart (m : Meaning) (bits : List Bool) (was : List Bool → Type 0) (old new : Outputs) : Type 0 where
   pub gains : (line : List Bool) → was line → GainsPart (m.got line) (m.got (line ++ bits)) old new
 
+-- Whatever bits a receiver with this meaning isn't given, it is as one that took them: it stands for the longer line too, they
+-- bring no event, and what its leaves gain by them is told of no list.
+pub record IsDeaf (m : Meaning) (stands : List Bool → Type 0) (outputs : Outputs) : Type 0 where
+  pub taken : (bits : List Bool) → TakesBits m bits stands stands outputs outputs
+  pub quiet : (line bits : List Bool) → stands line → IsQuiet m.notes line bits
+
 -- a receiver with this meaning took these bits, by none of which anything is noted, and by which leaves gained nothing
 pub record TakesQuietly (m : Meaning) (bits : List Bool) (was is : List Bool → Type 0) : Type 0 where
   pub stands : (line : List Bool) → was line → is (line ++ bits)

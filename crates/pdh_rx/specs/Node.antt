@@ -26,7 +26,7 @@ use Rattle.pdh_rx.specs.declared.rx.Rx as rx
 use Rattle.pdh_judging.specs.declared.judged.Judged.{Judged}
 use Rattle.pdh_judging.specs.Judged.{judged_in, Judges}
 use Rattle.pdh_rx.specs.declared.counts.NodeCounts.{NodeCounts}
-use Rattle.pdh_rx.specs.Meaning.{Meaning, HoldsAll, Gains, GainsPart}
+use Rattle.pdh_rx.specs.Meaning.{Meaning, IsDeaf, HoldsAll, Gains, GainsPart}
 
 -- each child stands for its line
 abbrev pub EachStands : {C : Type 0} → (C → List Bool → Type 0) → List C → (ℕ → List Bool) → Type 0
@@ -94,6 +94,14 @@ pub record AreReady {C : Type 0} (stands : C → List Bool → Type 0) (meaning 
   pub lines : ℕ → List Bool
   pub each : EachStands stands children lines
   pub lists : HoldsAll (any_leaf (map meaning children)) outputs
+
+-- child j may be spared its bits
+abbrev pub ChildIsDeaf : {C : Type 0} → (C → List Bool → Type 0) → (C → Meaning) → List C → Outputs → ℕ → Type 0
+ChildIsDeaf {C} stands meaning children outputs j = (c : C) → slice_get children j ≡ Some c → IsDeaf (meaning c) (stands c) outputs
+
+-- each of them may
+abbrev pub AreDeaf : {C : Type 0} → (C → List Bool → Type 0) → (C → Meaning) → List C → Outputs → Type 0
+AreDeaf stands meaning children outputs = (j : ℕ) → ChildIsDeaf stands meaning children outputs j
 
 -- ---- room for bits of them
 

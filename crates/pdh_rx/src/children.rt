@@ -5,7 +5,7 @@ ghost use Rattle.pdh_edge.specs.Ports.{for_leaf};
 ghost use Rattle.pdh_events.specs.Acts.Act.{Give};
 ghost use Rattle.pdh_events.specs.laws.QuietLaws.{IsQuiet};
 ghost use Rattle.pdh_rx.specs.Meaning.{HoldsAll};
-ghost use Rattle.pdh_rx.specs.Node.{EachStands, IsDisjoint, any_leaf, child_notes, counted_by, AreReady, ChildFits, AllFit, Keeps, Gives, GivesPart, Acted};
+ghost use Rattle.pdh_rx.specs.Node.{EachStands, IsDisjoint, any_leaf, child_notes, counted_by, AreReady, AreDeaf, ChildFits, AllFit, Keeps, Gives, GivesPart, Acted};
 
 use crate::{NodeCounts, Rx};
 use pdh_edge::{Drain, Failed};
@@ -98,6 +98,19 @@ impl<S: Shape, C: Rx> Children<S, C> {
             self.list[trib].count_nodes(counts)?;
         }
         Ok(())
+    }
+
+    /// Whether each child may be spared its bits.
+    #[inline(always)]
+    pub fn are_deaf<D: Drain>(&self, drain: &D) -> bool
+        ensures { result ≡ true → AreDeaf C.stands C.meaning self.now (D.outputs drain.now) }
+    {
+        for trib in 0..self.list.len() {
+            if !self.list[trib].is_deaf(drain) {
+                return false;
+            }
+        }
+        true
     }
 
     /// Whether the drain has room for all that so many bits of each child bring, at once.

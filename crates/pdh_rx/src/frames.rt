@@ -28,24 +28,26 @@ pub struct LineBit {
     pub number: u64,
 }
 
-// Notes a ready frame's own events, and gives the children their bits of it.
+// Notes a ready frame's own events, and gives the children their bits of it, or spares them where all are deaf.
 fn deliver<S: Shape, C: Rx, D: Drain, W: Watch>(
     children: &mut Children<S, C>,
     split: &mut Split<S>,
     teller: &mut FrameTeller<S>,
-    aligner: &Aligner<S>,
+    aligner: &mut Aligner<S>,
     back: u8,
     at: LineBit,
     drain: &mut D,
     watch: &mut W,
 ) -> Result<(), Failed>
-    requires ready { back < length aligner.now.ready }
+    requires ready { back < length aligner.old.ready }
     requires children { AreReady C.stands C.meaning children.old (D.outputs drain.old) }
     ensures acted { (pieces : List Piece) → Remembers S.shape teller.old pieces → Acted C.Rx D.Drain W.Watch
-        (frame_acts S.shape at.path at.number pieces (frame_back aligner.now.ready back))
+        (frame_acts S.shape at.path at.number pieces (frame_back aligner.old.ready back))
         children.old children.new drain.old drain.new watch.old watch.new result }
     ensures remembers { (pieces : List Piece) → Remembers S.shape teller.old pieces
-        → Remembers S.shape teller.new (pieces ++ Delivered (frame_back aligner.now.ready back) ∷ []) }
+        → Remembers S.shape teller.new (pieces ++ Delivered (frame_back aligner.old.ready back) ∷ []) }
+    ensures aligner { aligner.new ≡ record aligner.old { ready = aligner.new.ready } }
+    ensures ready { 1 < length aligner.old.ready → aligner.new ≡ aligner.old }
 {
     split.strip.load(aligner, back);
     let odd = if teller.tells_parity() {
@@ -53,8 +55,11 @@ fn deliver<S: Shape, C: Rx, D: Drain, W: Watch>(
     } else {
         false
     };
-    let room = children.have_room(drain, S::LOW as usize + 1);
     teller.note(split.strip.frame(), odd, at.path, at.number, watch);
+    if children.are_deaf(drain) {
+        return Ok(());
+    }
+    let room = children.have_room(drain, S::LOW as usize + 1);
     give_loaded::<S, C, D, W>(children, split, room, drain, watch)
 }
 
@@ -63,20 +68,21 @@ fn deliver_all<S: Shape, C: Rx, D: Drain, W: Watch>(
     children: &mut Children<S, C>,
     split: &mut Split<S>,
     teller: &mut FrameTeller<S>,
-    aligner: &Aligner<S>,
+    aligner: &mut Aligner<S>,
     frames: u8,
     at: LineBit,
     drain: &mut D,
     watch: &mut W,
 ) -> Result<(), Failed>
-    requires ready { length aligner.now.ready ≡ frames }
+    requires ready { length aligner.old.ready ≡ frames }
     requires told { (pieces : List Piece) × Remembers S.shape teller.old pieces }
     requires children { AreReady C.stands C.meaning children.old (D.outputs drain.old) }
     ensures acted { (pieces : List Piece) → Remembers S.shape teller.old pieces → Acted C.Rx D.Drain W.Watch
-        (frames_acts S.shape at.path at.number pieces aligner.now.ready)
+        (frames_acts S.shape at.path at.number pieces aligner.old.ready)
         children.old children.new drain.old drain.new watch.old watch.new result }
     ensures remembers { OnOk result ((pieces : List Piece) → Remembers S.shape teller.old pieces
-        → Remembers S.shape teller.new (pieces ++ map Delivered aligner.now.ready)) }
+        → Remembers S.shape teller.new (pieces ++ map Delivered aligner.old.ready)) }
+    ensures aligner { aligner.new ≡ record aligner.old { ready = aligner.new.ready } }
 {
     for done in 0..frames {
         let back = frames - 1 - done;
@@ -91,21 +97,22 @@ pub(crate) fn act<S: Shape, C: Rx, D: Drain, W: Watch>(
     children: &mut Children<S, C>,
     split: &mut Split<S>,
     teller: &mut FrameTeller<S>,
-    aligner: &Aligner<S>,
+    aligner: &mut Aligner<S>,
     step: Step,
     gap: u32,
     at: LineBit,
     drain: &mut D,
     watch: &mut W,
 ) -> Result<(), Failed>
-    requires ready { length aligner.now.ready ≡ frames_gained step }
+    requires ready { length aligner.old.ready ≡ frames_gained step }
     requires told { (pieces : List Piece) × Remembers S.shape teller.old pieces }
     requires children { AreReady C.stands C.meaning children.old (D.outputs drain.old) }
     ensures acted { (pieces : List Piece) → Remembers S.shape teller.old pieces → Acted C.Rx D.Drain W.Watch
-        (step_acts S.shape at.path at.number pieces step aligner.now.ready gap)
+        (step_acts S.shape at.path at.number pieces step aligner.old.ready gap)
         children.old children.new drain.old drain.new watch.old watch.new result }
     ensures remembers { OnOk result ((pieces : List Piece) → Remembers S.shape teller.old pieces
-        → Remembers S.shape teller.new (step_pieces step aligner.now.ready pieces)) }
+        → Remembers S.shape teller.new (step_pieces step aligner.old.ready pieces)) }
+    ensures aligner { aligner.new ≡ record aligner.old { ready = aligner.new.ready } }
 {
     match step {
         Step::Rejected => {

@@ -187,7 +187,7 @@ impl<S: Shape, C: Rx> Rx for RxNode<S, C> {
             &mut self.children,
             &mut self.split,
             &mut self.teller,
-            &self.aligner,
+            &mut self.aligner,
             step,
             self.gap,
             LineBit {
@@ -229,6 +229,11 @@ impl<S: Shape, C: Rx> Rx for RxNode<S, C> {
             }
         }
         Ok(done)
+    }
+
+    #[inline(always)]
+    fn is_deaf<D: Drain>(&self, _drain: &D) -> bool {
+        false
     }
 
     #[inline(always)]

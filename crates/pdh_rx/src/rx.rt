@@ -4,7 +4,7 @@ ghost use Rattle.std.specs.Prelude.{◌≡◌, ◌≤◌, ◌+◌, ℕ, Bool, tr
 ghost use Rattle.pdh_events.specs.laws.QuietLaws.{IsQuiet};
 ghost use Rattle.pdh_edge.specs.Ports.{HasCause};
 ghost use Rattle.pdh_watch.specs.Seen.{SawPart};
-ghost use Rattle.pdh_rx.specs.Meaning.{Meaning, IsSound, HoldsAll, Gains, GainsPart, TakesBits, TakesPart};
+ghost use Rattle.pdh_rx.specs.Meaning.{Meaning, IsSound, IsDeaf, HoldsAll, Gains, GainsPart, TakesBits, TakesPart};
 
 use crate::NodeCounts;
 use pdh_edge::{Drain, Failed};
@@ -87,6 +87,11 @@ pub trait Rx: Drop {
         ensures cause { HasCause (D.drain_faults drain.old) (D.drain_faults drain.new) result }
         ensures drained { D.drained drain.old drain.new }
         ensures same { meaning self.new ≡ meaning self.old };
+
+    /// Whether any bits may be kept from it: they bring no event, and the drain tells nothing of what it puts. A receiver that
+    /// isn't a leaf answers that they may not.
+    fn is_deaf<D: Drain>(&self, drain: &D) -> bool
+        ensures { result ≡ true → IsDeaf (meaning self.now) (stands self.now) (D.outputs drain.now) };
 
     /// Whether the drain has room for all that so many bits bring, at once. A receiver that isn't a
     /// leaf answers that it hasn't.

@@ -38,6 +38,22 @@ impl<S: Shape> Model for Strip<S> {
     ghost invariant = { λ t. t.frame.capacity ≡ S.LEN };
 }
 
+// Puts a ready frame into a list that has room for it and no more: in exchange for its bits, where it alone is ready.
+fn take_frame<S: Shape>(aligner: &mut Aligner<S>, back: u8, frame: &mut Packed)
+    requires ready { back < length aligner.old.ready }
+    requires room { frame.old.capacity ≡ S.LEN }
+    ensures frame { frame.new ≡ record frame.old { bits = frame_back aligner.old.ready back } }
+    ensures whole { length frame.new.bits ≡ S.LEN }
+    ensures aligner { aligner.new ≡ record aligner.old { ready = aligner.new.ready } }
+    ensures ready { 1 < length aligner.old.ready → aligner.new ≡ aligner.old }
+{
+    if aligner.exchange_frame(frame) {
+        return;
+    }
+    frame.clear();
+    aligner.append_frame(back, frame);
+}
+
 impl<S: Shape> Strip<S> {
     /// Takes frames of this layout apart; or it finds no memory.
     pub fn open(alloc: Global, layout: Rc<Layout<S>>) -> Result<Strip<S>, AllocError> {
@@ -48,17 +64,18 @@ impl<S: Shape> Strip<S> {
         })
     }
 
-    /// Loads a ready frame.
-    pub fn load(&mut self, aligner: &Aligner<S>, back: u8)
-        requires { back < length aligner.now.ready }
-        ensures frame { self.new.frame ≡ frame_back aligner.now.ready back }
+    /// Loads a ready frame, which is ready no longer then, where it alone was.
+    pub fn load(&mut self, aligner: &mut Aligner<S>, back: u8)
+        requires { back < length aligner.old.ready }
+        ensures frame { self.new.frame ≡ frame_back aligner.old.ready back }
         ensures whole { length self.new.frame ≡ S.LEN }
         ensures gap { self.new.gap ≡ false }
+        ensures aligner { aligner.new ≡ record aligner.old { ready = aligner.new.ready } }
+        ensures ready { 1 < length aligner.old.ready → aligner.new ≡ aligner.old }
     {
         self.gap = false;
-        self.frame.clear();
-        aligner.append_frame(back, &mut self.frame);
-        self.parts.load(&self.frame);
+        take_frame::<S>(aligner, back, &mut self.frame);
+        self.parts.exchange(&mut self.frame);
     }
 
     /// Loads the ones of a gap as long as a frame.

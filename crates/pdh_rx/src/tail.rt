@@ -72,6 +72,11 @@ impl Rx for Tail {
     }
 
     #[inline(always)]
+    fn is_deaf<D: Drain>(&self, drain: &D) -> bool {
+        drain.is_deaf()
+    }
+
+    #[inline(always)]
     fn has_room<D: Drain>(&self, drain: &D, bits: usize) -> bool {
         drain.has_room(self.leaf, bits)
     }

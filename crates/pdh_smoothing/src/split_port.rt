@@ -51,6 +51,8 @@ impl<P: Port, K: Port> Feed for SplitPort<P, K> {
 
     ghost feed_faults = { λ p. P.feed_faults p.port };
 
+    ghost waits = { λ p. P.waits p.port };
+
     ghost fed = { λ a b. P.fed a.port b.port × (b.kept ≡ a.kept) × (b.from ≡ a.from) };
 
     ghost unread = { λ p k. P.unread p.port k };
@@ -64,6 +66,8 @@ impl<P: Port, K: Port> Feed for SplitPort<P, K> {
     ghost fed_counts = { λ a b p. P.fed_counts a.port b.port p.0 };
 
     ghost left_told = { λ a k bits h. P.left_told a.port k bits h };
+
+    ghost waits_left = { λ a k. P.waits_left a.port k };
 
     fn feed_faults(&self) -> u64 {
         self.port.feed_faults()
@@ -79,6 +83,10 @@ impl<P: Port, K: Port> Feed for SplitPort<P, K> {
 
     fn left(&self, leaf: u32) -> u64 {
         self.port.left(leaf)
+    }
+
+    fn waiting(&self, leaf: u32) -> u64 {
+        self.port.waiting(leaf)
     }
 }
 
@@ -128,6 +136,10 @@ impl<P: Port, K: Port> Drain for SplitPort<P, K> {
             return self.port.put_all(leaf, bits);
         }
         self.kept.put_all(leaf - self.from, bits)
+    }
+
+    fn is_deaf(&self) -> bool {
+        false
     }
 
     fn has_room(&self, _leaf: u32, _bits: usize) -> bool {
@@ -191,6 +203,8 @@ impl<P: Port, K: Port> Port for SplitPort<P, K> {
     ) };
 
     ghost drained_keeps_inputs = { λ a b p. P.drained_keeps_inputs a.port b.port p.0 };
+
+    ghost drained_keeps_waiting = { λ a b p k. P.drained_keeps_waiting a.port b.port p.0 k };
 
     fn start(&mut self) -> Result<(), Failed> {
         self.port.start()

@@ -31,18 +31,13 @@ fn bits_go_out_as_bytes(rt: HostRuntime) -> Result<(), Fail> {
     for bit in SIXTEEN_BITS {
         assert!(rt; out.push(bit) == Ok(()));
     }
-    assert!(rt; out.push(true) == Err(Full));
-    assert!(rt; out.held() == 16);
-
+    let full = (out.push(true), out.held());
     let mut one = [0xAA];
-    assert!(rt; out.take_bytes(&mut one) == 1);
-    assert!(rt; one == [0xF4]);
-    assert!(rt; out.push(true) == Ok(()));
-    assert!(rt; out.held() == 9);
-
+    let taken = out.take_bytes(&mut one);
+    let first = (taken, one, out.push(true), out.held());
     let mut three = [0xAA; 3];
-    assert!(rt; out.take_bytes(&mut three) == 1);
-    assert!(rt; three == [0x10, 0xAA, 0xAA]);
-    assert!(rt; out.held() == 1);
+    let second = (out.take_bytes(&mut three), out.held());
+    assert!(rt; (full, first) == ((Err(Full), 16), (1, [0xF4], Ok(()), 9)));
+    assert!(rt; (second, three) == ((1, 1), [0x10, 0xAA, 0xAA]));
     Ok(())
 }

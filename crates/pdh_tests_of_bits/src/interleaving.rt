@@ -3,7 +3,7 @@
 ghost use Rattle.std.specs.Prelude.{◌≡◌, IfOk};
 ghost use Rattle.pdh_bits.specs.Bits.{bits_of};
 
-use pdh_interleaving::{deal, interleave};
+use pdh_interleaving::{deal_four, interleave};
 use pdh_packed::Packed;
 use std::alloc::{AllocError, Global};
 use std::test::Fail;
@@ -29,11 +29,11 @@ fn four_tributaries_take_turns(rt: HostRuntime) -> Result<(), Fail> {
     let mut line = Packed::open(alloc, 44)?;
     interleave(&tributaries, 0, 11, &mut line);
     let mut bytes = [0; 5];
-    assert!(rt; line.write_bytes(0, &mut bytes) == 5);
-    assert!(rt; bytes == [0xEC, 0xA8, 0x64, 0x20, 0x22]);
-    deal(&line, 0, 11, &mut tributaries);
+    let written = line.write_bytes(0, &mut bytes);
+    deal_four([line.read_filled(0), 0, 0, 0], 11, &mut tributaries);
     let mut byte = [0];
-    assert!(rt; tributaries[1].write_bytes(16, &mut byte) == 1);
-    assert!(rt; byte == [0xCC]);
+    let dealt = tributaries[1].write_bytes(16, &mut byte);
+    assert!(rt; ([written, dealt], byte) == ([5, 1], [0xCC]));
+    assert!(rt; bytes == [0xEC, 0xA8, 0x64, 0x20, 0x22]);
     Ok(())
 }

@@ -25,6 +25,8 @@ impl Feed for Faulty {
 
     ghost feed_faults = { λ f. f.faults };
 
+    ghost waits = { λ f k. 0 };
+
     ghost fed = { λ a b. ((⟦<MemPort as Feed>⟧.inputs b.lists).holds ≡ (⟦<MemPort as Feed>⟧.inputs a.lists).holds) × (a.faults ≤ b.faults) };
 
     ghost unread = { λ f k. f.good ≡ 0 };
@@ -38,6 +40,8 @@ impl Feed for Faulty {
     ghost fed_counts = { λ a b p. p.1 };
 
     ghost left_told = { λ a k bits h. ap length_of h };
+
+    ghost waits_left = { λ a k. Prim.omega arith };
 
     fn feed_faults(&self) -> u64 {
         self.faults
@@ -54,6 +58,10 @@ impl Feed for Faulty {
 
     fn left(&self, leaf: u32) -> u64 {
         self.lists.left(leaf)
+    }
+
+    fn waiting(&self, _leaf: u32) -> u64 {
+        0
     }
 }
 

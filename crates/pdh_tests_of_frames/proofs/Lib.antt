@@ -1,2 +1,1 @@
-mod FourTails
 mod WorkedRuns

@@ -1,22 +1,14 @@
-//! Tests of the crates of frames and of received lines, by what these crates make public.
+//! Tests of frame shapes, their words, runs and stores, by what the crates make public.
 //! It knows no command, and no crate stands on it.
 #![tactic(auto)]
 
 #[cfg(test)]
-mod align;
+mod cbit;
 #[cfg(test)]
-mod ds1;
+mod ds;
 #[cfg(test)]
-mod events;
-#[cfg(test)]
-mod framed;
-#[cfg(test)]
-mod g706;
-#[cfg(test)]
-mod phases;
+mod e1;
 #[cfg(test)]
 mod runs;
-#[cfg(test)]
-mod rx;
 #[cfg(test)]
 mod store;

@@ -8,7 +8,7 @@ use std::test::Fail;
 #[test]
 fn bits_leave_in_the_order_of_their_arrival(rt: HostRuntime) -> Result<(), Fail> {
     let mut store = Store::open(rt.alloc())?;
-    assert!(rt; store.leave() == Err(Underflow));
+    let empty = store.leave();
     for place in 0..STORE_SIZE as u32 {
         let before = (store.fill(), store.carries_more());
         let arrived = store.arrive(place % 3 == 0);
@@ -22,7 +22,7 @@ fn bits_leave_in_the_order_of_their_arrival(rt: HostRuntime) -> Result<(), Fail>
     for place in 0..STORE_SIZE as u32 {
         assert!(rt; store.leave() == Ok(place % 3 == 0), "at {place}");
     }
-    assert!(rt; store.leave() == Err(Underflow));
+    assert!(rt; [empty, store.leave()] == [Err(Underflow); 2]);
     Ok(())
 }
 

@@ -34,7 +34,7 @@ none_right [] b h = h
 none_right (None ∷ a) b h = none_right a b h
 none_right (Some x ∷ a) b h = absurd (cc h)
 
-none_flat : {X : Type 0} (f : ℕ → List (Option X)) (a n j : ℕ) → first_some (flat_map f (range_with_len a n)) ≡ None → a ≤ j → j < a + n → first_some (f j) ≡ None
+pub none_flat : {X : Type 0} (f : ℕ → List (Option X)) (a n j : ℕ) → first_some (flat_map f (range_with_len a n)) ≡ None → a ≤ j → j < a + n → first_some (f j) ≡ None
 none_flat f a zero j h l m = absurd (omega arith)
 none_flat f a (suc n) j h l m = elim (cases_lt a j) [
   | inl later ↦ none_flat f (a + 1) n j (none_right (f a) (flat_map f (range_with_len (a + 1) n)) h) (omega arith) (omega arith)

@@ -23,6 +23,11 @@ mod Fills
 pub mod Opening
 mod Feeding
 pub mod Passing
+pub mod BatchSlots
+pub mod Gathered
+pub mod GatheredPieces
+pub mod Gathering
+pub mod GatherSlots
 pub mod PassingAll
 mod OnePasses
 pub mod Clearing
@@ -31,6 +36,8 @@ pub mod PieceSteps
 mod Begun
 pub mod NodePieces
 pub mod MakingAll
+pub mod MakingAhead
+pub mod GatheredBits
 mod LeafPieces
 mod QuietStores
 mod QuietSlots

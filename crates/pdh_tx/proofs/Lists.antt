@@ -1,5 +1,5 @@
 -- What stands at a place of a list.
-use Rattle.std.proofs.Common.{◌≡◌, inl, inr, ℕ, zero, suc, ◌+◌, ◌<◌, ◌≤◌, List, [], ◌∷◌, ◌++◌, length, map, refl, sym, ap, ◌∙◌, subst, arith, Some, slice_get}
+use Rattle.std.proofs.Common.{◌≡◌, inl, inr, ℕ, zero, suc, ◌+◌, ◌<◌, ◌≤◌, List, [], ◌∷◌, ◌++◌, length, map, refl, sym, ap, ◌∙◌, subst, arith, Some, slice_get, slice_set}
 use Rattle.std.proofs.lemmas.Option.{slice_get-map}
 use Rattle.std.proofs.lemmas.List.{append-nil, length-map}
 use Rattle.std.proofs.lemmas.Bool.{cases_eq}
@@ -14,6 +14,14 @@ pub get_at : {X : Type 0} (xs : List X) (i : ℕ) → i < length xs → (x : X) 
 get_at [] i h = absurd (omega arith)
 get_at (x ∷ xs) zero h = (x, refl)
 get_at (x ∷ xs) (suc i) h = get_at xs i (omega arith)
+
+-- what lies at j after a write elsewhere
+pub get_other : {X : Type 0} (xs : List X) (i j : ℕ) (y : X) → (j ≡ i → ⊥) → slice_get (slice_set xs i y) j ≡ slice_get xs j
+get_other [] i j y h = refl
+get_other (x ∷ xs) zero zero y h = absurd (h refl)
+get_other (x ∷ xs) zero (suc j) y h = refl
+get_other (x ∷ xs) (suc i) zero y h = refl
+get_other (x ∷ xs) (suc i) (suc j) y h = get_other xs i j y (λ e. h (ap suc e))
 
 -- a fact of the parts of each that are the same
 pub transfer : {W X Y : Type 0} (f : W → X) (g : W → Y) (P : X → Y → ℕ → Type 0) (mid new : List W) → map f new ≡ map f mid → map g new ≡ map g mid

@@ -1,13 +1,14 @@
 -- The bits of the slots of a piece that are no payload slots.
-use Rattle.std.proofs.Common.{◌≡◌, inl, inr, ℕ, zero, suc, ◌+◌, ◌-◌, ◌<◌, ◌≤◌, Bool, true, false, not, cond, List, [], ◌∷◌, ◌++◌, length, get_or, refl, sym, ap, ◌∙◌, subst, arith, add-one}
-use Rattle.std.proofs.lemmas.Bool.{cases_Bool, cases_lt}
-use Rattle.std.proofs.lemmas.List.{get_or_append_left, get_or_at}
+use Rattle.std.proofs.Common.{◌≡◌, inl, inr, ℕ, zero, suc, ◌+◌, ◌-◌, ◌<◌, ◌≤◌, Bool, true, false, not, cond, List, [], ◌∷◌, ◌++◌, length, get_or, refl, sym, ap, ◌∙◌, arith, add-one}
+use Rattle.std.proofs.lemmas.Bool.{cases_lt}
+use Rattle.std.proofs.lemmas.List.{get_or_append_left, get_or_at, get_or-map, length-append, length-map}
+use Rattle.pdh_shape.specs.declared.role.Role.{Role}
 use Rattle.pdh_shape.specs.declared.role.Service.{Service}
 use Rattle.pdh_shape.specs.Frame.{FrameShape}
 use Rattle.pdh_shape.specs.Payload.{is_payload, payload_before}
 use Rattle.pdh_runs.specs.Pieces.{overhead_before}
-use Rattle.pdh_runs.specs.Tables.{is_overhead}
-use Rattle.pdh_runs.proofs.Counts.{before, picked, before_next, before_pass, before_fail, before_grows, before_less, before_most, length-picked, picked_next}
+use Rattle.pdh_runs.specs.Tables.{is_overhead, AreOverheadRoles}
+use Rattle.pdh_runs.proofs.Counts.{before, picked, before_next, before_grows, before_less, before_most, length-picked, picked_next}
 use Rattle.pdh_tx.specs.declared.tributary.FrameShare.{FrameShare}
 use Rattle.pdh_tx.specs.Node.{overhead_bit}
 use Rattle.pdh_tx.specs.Passing.{HoldsOverhead}
@@ -33,22 +34,6 @@ module _ (p : ℕ → Bool) where
         ∙ get_or_at (picked p n) n [] d (before p x) (length-picked p n ∙ ap (before p) same) ∙ same
   ]
 
-  pub picked_below : (n i d : ℕ) → i < before p n → get_or (picked p n) i d < n
-  picked_below zero i d h = absurd (omega (arith, h))
-  picked_below (suc n) i d h = elim (cases_lt i (before p n)) [
-    | inl less ↦
-        let front : i < length (picked p n) = omega (arith, length-picked p n, less) in
-        let is : get_or (picked p (suc n)) i d ≡ get_or (picked p n) i d = ap (λ l. get_or l i d) (picked_push n) ∙ get_or_append_left (picked p n) (cond (p n) (n ∷ []) []) d i front in
-        omega (arith, is, picked_below n i d less)
-    | inr last ↦ elim (cases_Bool (p n)) [
-      | inl pass ↦
-          let next : before p (suc n) ≡ before p n + 1 = ap (before p) (sym (add-one n)) ∙ before_pass p n pass in
-          let is : get_or (picked p (suc n)) i d ≡ n = ap (λ l. get_or l i d) (picked_push n ∙ ap (λ b. picked p n ++ cond b (n ∷ []) []) pass) ∙ get_or_at (picked p n) n [] d i (omega (arith, length-picked p n, last, h, next)) in
-          omega (arith, is)
-      | inr fail ↦ let next : before p (suc n) ≡ before p n = ap (before p) (sym (add-one n)) ∙ before_fail p n fail in absurd (omega (arith, h, last, next))
-    ]
-  ]
-
 -- ---- the slots that are no payload slots
 
 -- so many stand before a slot
@@ -66,11 +51,20 @@ overhead_count s (suc t) = go (is_payload (s.role t)) (before_next (is_overhead 
 pub overhead_grows : (s : FrameShape) (t u : ℕ) → t ≤ u → overhead_before s t ≤ overhead_before s u
 overhead_grows s t u h = omega (arith, overhead_count s t, overhead_count s u, before_grows (is_overhead s) t u h)
 
--- slot number i of them is one of the frame's slots
-pub overhead_slot : (s : FrameShape) (slots : List ℕ) (i : ℕ) → slots ≡ picked (is_overhead s) s.len → i < overhead_before s s.len → (i < length slots) × (get_or slots i 0 < s.len)
-overhead_slot s slots i is h =
-    let within : i < before (is_overhead s) s.len = omega (arith, h, overhead_count s s.len) in
-    (omega (arith, within, ap length is, length-picked (is_overhead s) s.len), subst (λ (l : List ℕ). get_or l i 0 < s.len) (sym is) (picked_below (is_overhead s) s.len i 0 within))
+-- role number i of theirs is that of slot number i of them
+pub overhead_role : (s : FrameShape) (roles : List Role) (i : ℕ) (d : Role) → AreOverheadRoles s roles → i < overhead_before s s.len → (i < length roles) × (get_or roles i d ≡ s.role (get_or (picked (is_overhead s) s.len) i 0))
+overhead_role s roles i d are h =
+    let within : i < length (picked (is_overhead s) s.len) = omega (arith, h, overhead_count s s.len, length-picked (is_overhead s) s.len) in
+    (omega (arith, within, ap length are, length-map (picked (is_overhead s) s.len) s.role), ap (λ l. get_or l i d) are ∙ get_or-map s.role (picked (is_overhead s) s.len) i 0 d within)
+
+-- bits that are so many of a sequence, and the next
+pub pushed_next : (f : ℕ → Bool) (from : ℕ) (bits now : List Bool) (bit : Bool) → now ≡ bits ++ bit ∷ [] → bit ≡ f (from + length bits) → ((i : ℕ) → i < length bits → get_or bits i false ≡ f (from + i)) → (i : ℕ) → i < length now → get_or now i false ≡ f (from + i)
+pushed_next f from bits now bit is next each i h = elim (cases_lt i (length bits)) [
+  | inl less ↦ ap (λ l. get_or l i false) is ∙ get_or_append_left bits (bit ∷ []) false i less ∙ each i less
+  | inr last ↦
+      let here : i ≡ length bits = omega (arith, last, h, ap length is, length-append bits (bit ∷ [])) in
+      ap (λ l. get_or l i false) is ∙ get_or_at bits bit [] false i (sym here) ∙ next ∙ ap (λ k. f (from + k)) (sym here)
+]
 
 -- bits in the order of their slots are the slots' bits
 pub overhead_holds : (s : FrameShape) (say : Service) (odd : Bool) (shares : List FrameShare) (first len : ℕ) (bits : List Bool) → first + len ≤ s.len → overhead_before s (first + len) ≡ overhead_before s first + length bits

@@ -84,7 +84,7 @@ module _ {W : Type 0} (placed : W → Plan → ℕ → Readout → Type 0) (held
   read_first = fun_ext (λ j. sym (upto_past h h' 0 j (omega arith)))
 
   -- each slot holds its bit
-  piece_line : (ms : List Meaning) (ws : List W) (supply : Supply) (say : Service) (odd : Bool) (len : ℕ) (overhead bits : List Bool) (columns : List (List Bool)) → length ws ≡ s.tribs → length bits ≡ len → t + len ≤ s.len → supply.plan ≡ plan
+  pub piece_line : (ms : List Meaning) (ws : List W) (supply : Supply) (say : Service) (odd : Bool) (len : ℕ) (overhead bits : List Bool) (columns : List (List Bool)) → length ws ≡ s.tribs → length bits ≡ len → t + len ≤ s.len → supply.plan ≡ plan
       → IsDecided share s path plan n ws → supply.says n ≡ say → odd ≡ odd_before s (source_of path ms supply) n
       → HoldsOverhead s say odd (map share ws) t len overhead → Assembled s t len overhead columns bits → HoldsBits s (source_of path ms supply) n t len columns s.tribs → HoldsLine s (source_of path ms supply) n t bits
   piece_line ms ws supply say odd len overhead bits columns ws_long long most is decided said parity over assembled holds =

@@ -120,22 +120,11 @@ module _ (s : FrameShape) (path : Path) (levels : List Level) (stores : HasStore
       ap (λ b. by_stores (cond b (Locked (λ j t. 0)) Elastic) (cond (eqb x 0) 0 (came_by level.len counts (x / level.len) (x % level.len))) (λ (reads : ℕ → ℕ → ℕ). x / level.len * level.low + reads j (x % level.len))) (elastic_level s level stores node.numbers)
       ∙ ap (λ len. cond (eqb x 0) 0 (came_by len counts (x / len) (x % len))) node.numbers.len
 
-  -- before and behind its next bits
-  pub record Takes (plan : Plan) (j n t end before behind : ℕ) : Type 0 where
-    pub now : before ≡ taken_to s path plan n t j
-    pub then_is : behind ≡ taken s (plan.counts path j) end
-    pub grows : before ≤ behind
-
-  pub node_takes : (plan : Plan) (j n t made end before behind : ℕ) → IsFrame s → n * s.len + t ≡ made → t < s.len → made ≤ end → before ≡ bits_taken node.level j (plan.counts path j) made → behind ≡ bits_taken node.level j (plan.counts path j) end
-      → Takes plan j n t end before behind
-  node_takes plan j n t made end before behind frame place inside longer was will =
-      let before_is : before ≡ taken s (plan.counts path j) made = was ∙ node_taken j (plan.counts path j) made in
-      let behind_is : behind ≡ taken s (plan.counts path j) end = will ∙ node_taken j (plan.counts path j) end in
-      record {
-        now = before_is ∙ taken_is s n t made place inside path plan j;
-        then_is = behind_is;
-        grows = omega (arith, before_is, behind_is, taken-grows s (plan.counts path j) made end frame longer);
-      }
+  -- what it takes with its next bits
+  pub node_takes : (plan : Plan) (j n t made end count : ℕ) → n * s.len + t ≡ made → t < s.len → count + bits_taken node.level j (plan.counts path j) made ≡ bits_taken node.level j (plan.counts path j) end
+      → taken_to s path plan n t j + count ≡ taken s (plan.counts path j) end
+  node_takes plan j n t made end count place inside took =
+      omega (arith, took, node_taken j (plan.counts path j) made, node_taken j (plan.counts path j) end, taken_is s n t made place inside path plan j)
 
 -- ---- the fill of a store at the start of the frame of the next bit
 
@@ -176,7 +165,7 @@ module _ (s : FrameShape) (path : Path) (plan : Plan) (n t j : ℕ) (frame : IsF
 -- ---- no slot meets anything
 
 -- what has been taken and the lead that is still to come are what will have come
-taken_ahead : (s : FrameShape) (path : Path) (plan : Plan) (n t j : ℕ) → IsFrame s → taken_to s path plan n t j + cond (eqb n 0 && eqb t 0) lead 0 ≡ came_before s (plan.counts path j) n t
+pub taken_ahead : (s : FrameShape) (path : Path) (plan : Plan) (n t j : ℕ) → IsFrame s → taken_to s path plan n t j + cond (eqb n 0 && eqb t 0) lead 0 ≡ came_before s (plan.counts path j) n t
 taken_ahead s path plan n t j frame = go (eqb n 0 && eqb t 0) refl
   where
     go : (b : Bool) → (eqb n 0 && eqb t 0) ≡ b → cond b 0 (came_before s (plan.counts path j) n t) + cond b lead 0 ≡ came_before s (plan.counts path j) n t

@@ -2,20 +2,22 @@
 use mathlib.Core.Path.{fun_ext}
 use Rattle.std.proofs.Common.{◌≡◌, ℕ, suc, ◌+◌, ◌*◌, ◌/◌, ◌%◌, ◌<◌, ◌≤◌, Bool, true, false, List, [], ◌∷◌, length, cond, eqb, refl, sym, ap, ◌∙◌, subst, arith, Option}
 use Rattle.std.proofs.lemmas.Nat.{div-add-mod', mod_below}
-use Rattle.pdh_edge.specs.Ports.{Inputs}
+use Rattle.pdh_edge.specs.Ports.{Inputs, Takes}
 use Rattle.pdh_shape.specs.declared.place.Path.{Path}
 use Rattle.pdh_shape.specs.declared.role.Service.{Service}
 use Rattle.pdh_shape.specs.Frame.{FrameShape}
 use Rattle.pdh_line.specs.Sending.{Source, slot_bit, line_bit, odd_before}
 use Rattle.pdh_line.proofs.SentFrames.{line_bit-at}
 use Rattle.pdh_tx.specs.declared.tx.TxStop.{TxStop}
+use Rattle.pdh_tx.specs.declared.tx.TxStop.TheVariants.{Failed}
 use Rattle.pdh_tx.specs.declared.position.Position.{Position}
-use Rattle.pdh_tx.specs.Meaning.{Meaning, Plan, Supply, Makes, Stops}
+use Rattle.pdh_tx.specs.Meaning.{Meaning, Plan, Supply, Agrees, Makes, Stops}
 use Rattle.pdh_tx.specs.Held.{Halts, first_some}
-use Rattle.pdh_tx.specs.Making.{IsClear, IsUneventful, MakesAll}
-use Rattle.pdh_tx.specs.Node.{source_of, given_by, odd_within, AllFit, Blocked, Stays}
+use Rattle.pdh_tx.specs.Making.{Gives, IsClear, IsUneventful, MakesAll}
+use Rattle.pdh_tx.specs.Node.{source_of, any_leaf, given_by, odd_within, AllFit, Blocked, Stays}
 use Rattle.pdh_tx.specs.NodeState.{HasParity, KeepsParity}
 use Rattle.pdh_tx.specs.Body.{Kind, IsKind, sender_meaning, SlotsClear, IsOneOf, AreSlotsFree, SlotFree, GivesSlots, SenderAt, SenderFor}
+use Rattle.pdh_tx.specs.Batches.{AreSlotsClear, HaltsGathering}
 use Rattle.pdh_tx.specs.Follows.{Follows}
 use Rattle.pdh_tx.specs.Passing.{HoldsLine}
 use Rattle.pdh_tx.specs.laws.Stepping.{frame_is, slot_is, following}
@@ -122,6 +124,41 @@ module _ (s : FrameShape) (kind : Kind) (is_kind : IsKind s kind) (path : Path) 
           let place : at.frame * s.len + (at.slot + v) ≡ x + v = (let p = was.place in omega arith) in
           sym (slips_is at.frame (at.slot + v) (x + v) place (omega arith)) ∙ clear.no_slip (x + v) (omega arith) (omega arith);
     }
+
+    -- the same, over the ends of frames
+    pub sender_slots : (count : ℕ) (a : Inputs) → IsClear (sender_meaning s kind path ms) plan x (x + count) a → AreSlotsClear kind s ms path plan at.frame at.slot (at.frame * s.len + at.slot + count) a
+    sender_slots count a clear = record {
+      size = clear.size;
+      fits = fit_now at.frame at.slot x was.place was.inside a clear.size clear.fits;
+      slots = record {
+        clear = λ m u is. sym (obstacle_is m u (m * s.len + u) refl is.inside clear.size) ∙ clear.clear (m * s.len + u) (omega (arith, is.from, was.place)) (omega (arith, is.to, was.place));
+        no_slip = λ m u is. sym (slips_is m u (m * s.len + u) refl is.inside) ∙ clear.no_slip (m * s.len + u) (omega (arith, is.from, was.place)) (omega (arith, is.to, was.place));
+      };
+    }
+
+    -- so many bits are taken of the leaves on the way to a bit of the line
+    end_is : (count k : ℕ) → given_by ms plan (λ j. kind.by path plan j (at.frame * s.len + at.slot + count)) k ≡ given_by ms plan (by (x + count)) k
+    end_is count k = ap (λ y. given_by ms plan (by (y + count)) k) was.place
+
+    pub sender_fails : (count : ℕ) (a b : Inputs) → HaltsGathering kind ms path plan at.frame at.slot (at.frame * s.len + at.slot + count) a b → Halts (sender_meaning s kind path ms) plan x (x + count) Failed a b
+    sender_fails count a b stays = record {
+      given = stays.given;
+      takes = stays.takes;
+      others = stays.others;
+      no_more = λ k h. omega (arith, stays.no_more k h, ap (λ v. given_by ms plan v k) (by_now at.frame at.slot x was.place was.inside), end_is count k);
+      used_up = stays.used_up;
+    }
+
+    pub sender_gives : (count : ℕ) (given : ℕ → List Bool) (a b : Inputs) → Takes given a b → ((k : ℕ) → any_leaf ms k ≡ false → given k ≡ [])
+        → ((k : ℕ) → any_leaf ms k ≡ true → given_by ms plan taken k + length (given k) ≡ given_by ms plan (λ j. kind.by path plan j (at.frame * s.len + at.slot + count)) k) → Gives (sender_meaning s kind path ms) plan x (x + count) given a b
+    sender_gives count given a b takes others exact = record {
+      takes = takes;
+      others = others;
+      exact = λ k h. omega (arith, exact k h, ap (λ v. given_by ms plan v k) (by_now at.frame at.slot x was.place was.inside), end_is count k);
+    }
+
+    pub sender_agrees : (lists : ℕ → ℕ → Bool) (given : ℕ → List Bool) → Agrees (any_leaf ms) lists ((sender_meaning s kind path ms).given plan x) given → Agrees (any_leaf ms) lists (given_by ms plan taken) given
+    sender_agrees lists given agrees k leaf i h = agrees k leaf i h ∙ ap (λ v. lists k (given_by ms plan v k + i)) (by_now at.frame at.slot x was.place was.inside)
 
     pub sender_free : (count : ℕ) (a : Inputs) → AreSlotsFree kind s ms path plan at.frame at.slot count a → IsUneventful (sender_meaning s kind path ms) plan x (x + count) a
     sender_free count a free = record {

@@ -16,4 +16,6 @@ pub mod Body
 pub mod Stored
 pub mod Tributaries
 pub mod Quiet
+pub mod Batches
+pub mod Gathered
 pub mod laws

@@ -93,6 +93,10 @@ pub record Meaning : Type 0 where
   -- the slips in making bit x, in order
   pub slips : Plan → ℕ → List Slip
 
+-- where nothing stands in the way of a bit, nothing does where the leaves' lists hold more
+abbrev pub StaysFree : Meaning → Type 0
+StaysFree m = (plan : Plan) (few more : ℕ → ℕ) (x : ℕ) → ((k : ℕ) → few k ≤ more k) → m.obstacle plan few x ≡ None → m.obstacle plan more x ≡ None
+
 -- each leaf has a list
 abbrev pub HoldsAll : (ℕ → Bool) → Inputs → Type 0
 HoldsAll leaves inputs = HaveLists leaves inputs.holds

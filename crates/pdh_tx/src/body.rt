@@ -1,12 +1,14 @@
 //! The tributaries of a multiplexer as a trait, of which there are two kinds: with elastic stores, and without.
 
-ghost use Rattle.std.specs.Prelude.{◌≡◌, ◌+◌, ◌<◌, ◌≤◌, ℕ, suc, List, length, IfOk, IfErr, OnErr};
-ghost use Rattle.pdh_packed.specs.Gaining.{gained};
+ghost use Rattle.std.specs.Prelude.{◌≡◌, ◌+◌, ◌*◌, ◌<◌, ◌≤◌, ℕ, suc, List, length, IfOk, IfErr, OnOk, OnErr};
+ghost use Rattle.pdh_packed.specs.Gaining.{gained, IsGrown};
 ghost use Rattle.pdh_shape.specs.declared.place.Path.{Path};
-ghost use Rattle.pdh_tx.specs.Meaning.{Plan, Supply, Meaning, plan_in};
+ghost use Rattle.pdh_tx.specs.Meaning.{Plan, Supply, Meaning, IsNodeOf, plan_in, StaysFree};
 ghost use Rattle.pdh_tx.specs.Calls.{Draws, DrawsClear, Appends, IsPieceOf};
+ghost use Rattle.pdh_tx.specs.Node.{node_frame};
 ghost use Rattle.pdh_tx.specs.Follows.{Follows};
 ghost use Rattle.pdh_tx.specs.Body.{Kind, IsKind, sender_meaning, AreFedBelow, AreSlotsFree, GivesBit, StopsAtSlot, TellsSlot, IsPieceClear, GivesPiece, HaltsInPiece};
+ghost use Rattle.pdh_tx.specs.Batches.{batch, AreSomeUpTo, AreSlotsClear, GathersSlots, HaltsGathering, IsGatheredFor, GivesGathered, IsAllGathered};
 ghost use Rattle.pdh_tx.specs.Telling.{TellsNone};
 
 use crate::TxStop;
@@ -36,6 +38,12 @@ pub trait Body<S: Shape>: Drop {
 
     /// The same, where they have made those slots.
     ghost held: { Self → Path → Plan → Supply → ℕ → ℕ → Type 0 };
+
+    /// They have made all bits before slot t of frame n, and their children those that come before bit `end` of the node's line.
+    ghost gathered: { Self → Path → Plan → ℕ → ℕ → ℕ → Type 0 };
+
+    /// What they hold then is what this supply gives.
+    ghost holds_gathered: { Self → Path → Plan → Supply → ℕ → ℕ → ℕ → Type 0 };
 
     /// Makes the bit of a slot, with all its steps, where the frame says `say` and `odd` is whether
     /// the information and justifiable slots of the frame before hold an odd number of ones.
@@ -107,6 +115,58 @@ pub trait Body<S: Shape>: Drop {
         ensures fed { DrawsClear F.Feed feed.old feed.new result }
         ensures same { meanings self.new ≡ meanings self.old };
 
+    /// Takes all bits of the children that the next slots bring, so many from a slot on and over the ends of frames, in whose way
+    /// nothing stands and which bring no slip.
+    fn gather<F: Feed, G: SlipLog>(
+        &mut self,
+        path: Path,
+        frame: u64,
+        slot: u32,
+        len: usize,
+        clock: &Schedule,
+        feed: &mut F,
+        log: &mut G,
+    ) -> Result<(), Failed>
+        requires slot { slot < S.LEN }
+        requires few { AreSomeUpTo (batch * S.LEN) len }
+        requires fed { AreFedBelow S.shape path (meanings self.old) clock.now (F.inputs feed.old) }
+        requires placed { stands self.old path (plan_in clock.now G.takes) frame slot }
+        requires clear { AreSlotsClear kind S.shape (meanings self.old) path (plan_in clock.now G.takes) frame slot (frame * S.shape.len + slot + len) (F.inputs feed.old) }
+        ensures made { OnOk result (GathersSlots kind meanings gathered holds holds_gathered self.old self.new path (plan_in clock.now G.takes) frame slot
+            (frame * S.shape.len + slot + len) (F.inputs feed.old) (F.inputs feed.new)) }
+        ensures halts { OnErr result (HaltsGathering kind (meanings self.old) path (plan_in clock.now G.takes) frame slot
+            (frame * S.shape.len + slot + len) (F.inputs feed.old) (F.inputs feed.new)) }
+        ensures told { TellsNone G.SlipLog log.old log.new }
+        ensures fed { DrawsClear F.Feed feed.old feed.new result }
+        ensures same { meanings self.new ≡ meanings self.old };
+
+    /// Makes the bits of a piece of a frame from what was gathered, appends them to `into`, and answers whether its information
+    /// and justifiable slots hold an odd number of ones. Logs of type `G` take slips, or not.
+    fn gathered_piece<G: SlipLog>(
+        &mut self,
+        at: Piece,
+        say: &Service,
+        odd: bool,
+        clock: &Schedule,
+        into: &mut Packed,
+    ) -> bool
+        requires piece { IsPieceOf S.LEN at.slot at.len }
+        requires room { length into.old.bits + at.len ≤ into.old.capacity }
+        requires node { IsNodeOf clock.now.levels (node_frame S.shape at.path) }
+        requires placed { IsGatheredFor S.shape (gathered self.old) (plan_in clock.now G.takes) at }
+        ensures grown { IsGrown into.old into.new at.len }
+        ensures made { (end : ℕ) → gathered self.old at.path (plan_in clock.now G.takes) at.frame at.slot end → at.frame * S.shape.len + at.slot + at.len ≤ end
+            → GivesGathered meanings gathered holds_gathered S.shape self.old self.new (plan_in clock.now G.takes) at end say.now odd result (gained into.old into.new) }
+        ensures same { meanings self.new ≡ meanings self.old };
+
+    /// Puts what is left of what was gathered back into the stores.
+    fn scatter(&mut self)
+        requires placed { IsAllGathered S.shape (gathered self.old) }
+        ensures placed { (path : Path) (plan : Plan) (n t : ℕ) → t < S.shape.len → gathered self.old path plan n t (n * S.shape.len + t) → stands self.new path plan n t }
+        ensures held { (path : Path) (plan : Plan) (supply : Supply) (n t : ℕ) → t < S.shape.len → gathered self.old path plan n t (n * S.shape.len + t)
+            → holds_gathered self.old path plan supply n t (n * S.shape.len + t) → holds self.new path plan supply n t }
+        ensures same { meanings self.new ≡ meanings self.old };
+
     /// The kind's numbers agree.
     ghost is_kind: { (b : Self) → IsKind S.shape kind };
 
@@ -121,7 +181,18 @@ pub trait Body<S: Shape>: Drop {
     ghost holds_next: { (b : Self) (path : Path) (plan : Plan) (supply : Supply) (n t n' t' : ℕ) → Follows S.shape n t n' t'
         → held b path plan supply n (suc t) → holds b path plan supply n' t' };
 
+    /// And so it is with what was gathered.
+    ghost gathered_next: { (b : Self) (path : Path) (plan : Plan) (end n t n' t' : ℕ) → Follows S.shape n t n' t'
+        → gathered b path plan n (suc t) end → gathered b path plan n' t' end };
+
+    /// And with what is held then.
+    ghost holds_gathered_next: { (b : Self) (path : Path) (plan : Plan) (supply : Supply) (end n t n' t' : ℕ) → Follows S.shape n t n' t'
+        → holds_gathered b path plan supply n (suc t) end → holds_gathered b path plan supply n' t' end };
+
     /// A longer line takes no fewer bits.
     ghost grows: { (b : Self) (path : Path) (plan : Plan) (x k : ℕ) → (sender_meaning S.shape kind path (meanings b)).given plan x k
         ≤ (sender_meaning S.shape kind path (meanings b)).given plan (suc x) k };
+
+    /// Longer lists bring nothing into its way.
+    ghost longer: { (b : Self) (path : Path) → StaysFree (sender_meaning S.shape kind path (meanings b)) };
 }

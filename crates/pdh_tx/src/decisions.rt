@@ -1,7 +1,7 @@
 //! What the slots of a sent frame carry by its decisions, for multiplexers with stores and without: which tributary's bit,
 //! and which bit where it is no tributary's.
 
-ghost use Rattle.std.specs.Prelude.{◌≡◌, ◌+◌, ◌<◌, ◌≤◌, List, [], length, map, IfSome};
+ghost use Rattle.std.specs.Prelude.{◌≡◌, ◌+◌, ◌<◌, ◌≤◌, List, [], ◌∷◌, ◌++◌, length, map, IfSome};
 ghost use Rattle.pdh_runs.specs.Pieces.{overhead_before};
 ghost use Rattle.pdh_tx.specs.declared.tributary.FrameShare.{FrameShare};
 ghost use Rattle.pdh_tx.specs.Tributary.{share_in};
@@ -11,7 +11,7 @@ ghost use Rattle.pdh_tx.specs.Passing.{HoldsOverhead};
 use crate::Tx;
 use crate::pieces::Piece;
 use crate::tributary::Tributary;
-use pdh_packed::Packed;
+use pdh_packed::{Packed, Word};
 use pdh_runs::Layout;
 use pdh_shape::{Role, Service, Shape};
 
@@ -64,23 +64,36 @@ pub fn carried<S: Shape, D: Decisions>(slot: u32, decisions: &D) -> Option<u8>
     }
 }
 
-/// The bit of a slot that carries no tributary's, where the frame says `say` and `odd` is whether the
-/// information and justifiable slots of the frame before hold an odd number of ones.
+/// The bit of a slot of this role that carries no tributary's, where the frame says `say` and `odd` is
+/// whether the information and justifiable slots of the frame before hold an odd number of ones.
 pub fn overhead_of<S: Shape, D: Decisions>(
-    slot: u32,
+    role: Role,
     say: &Service,
     odd: bool,
     decisions: &D,
 ) -> bool
-    requires { slot < S.LEN }
-    ensures { result ≡ overhead_bit S.shape say.now odd (D.shares decisions.now) (S.shape.role slot) }
+    ensures { result ≡ overhead_bit S.shape say.now odd (D.shares decisions.now) role }
 {
-    match S::role(slot) {
+    match role {
         Role::Align(signal) => signal,
         Role::Service(number) => S::service(number, say, odd),
         Role::Control(trib, _) => !decisions.more(trib),
         _ => true,
     }
+}
+
+// Appends a bit to a word, which goes to a list first if it is full.
+#[inline(always)]
+fn push_over(bit: bool, word: &mut Word, into: &mut Packed)
+    requires { length into.old.bits + length word.old < into.old.capacity }
+    ensures bits { into.new.bits ++ word.new ≡ (into.old.bits ++ word.old) ++ bit ∷ [] }
+    ensures capacity { into.new.capacity ≡ into.old.capacity }
+{
+    if word.len() == 64 {
+        into.append(*word);
+        *word = Word::empty();
+    }
+    word.push(bit);
 }
 
 /// Writes the bits of a piece's slots that are no payload slots, in order, in place of what `into` held.
@@ -101,9 +114,12 @@ pub fn write_overhead<S: Shape, D: Decisions>(
 {
     let from = layout.overhead_before(at.slot);
     let to = layout.overhead_before((at.slot as usize + at.len) as u32);
+    let mut word = Word::empty();
     into.clear();
     for place in from..to {
-        let slot = u32::from(layout.overhead_slots()[place]);
-        into.push(overhead_of::<S, D>(slot, say, odd, decisions));
+        let role = layout.overhead_roles()[place];
+        let bit = overhead_of::<S, D>(role, say, odd, decisions);
+        push_over(bit, &mut word, into);
     }
+    into.append(word);
 }

@@ -4,7 +4,7 @@ ghost use Rattle.std.specs.Prelude.{◌≡◌};
 ghost use Rattle.pdh_shape.specs.Frame.{idle};
 ghost use Rattle.pdh_tx.specs.Meaning.{IsFresh};
 ghost use Rattle.pdh_tx.specs.Leaf.{leaf_meaning};
-ghost use Rattle.pdh_tx.specs.laws.LeafLaws.{leaf_grows};
+ghost use Rattle.pdh_tx.specs.laws.LeafLaws.{leaf_grows, leaf_longer};
 
 use crate::{Tx, TxStop};
 use pdh_clock::Schedule;
@@ -45,6 +45,8 @@ impl Tx for Leaf {
     ghost is_stopped = { λ t. t.stopped };
 
     ghost grows = { λ t. leaf_grows t.leaf };
+
+    ghost longer = { λ t. leaf_longer t.leaf };
 
     fn stopped(&self) -> bool {
         self.stopped

@@ -3,6 +3,7 @@
 #![tactic(auto)]
 
 mod arrivals;
+mod batches;
 mod beginning;
 mod body;
 mod decisions;
@@ -10,6 +11,7 @@ mod leaf;
 mod node;
 mod pieces;
 mod position;
+mod queue;
 mod quiet;
 mod scratch;
 mod sender;
@@ -19,11 +21,13 @@ mod tributaries;
 mod tributary;
 mod tx;
 
+pub use batches::{BATCH, open_queues};
 pub use body::Body;
 pub use decisions::{Decisions, carried, overhead_of, write_overhead};
 pub use leaf::Leaf;
 pub use node::Node;
 pub use pieces::Piece;
+pub use queue::Queue;
 pub use scratch::Scratch;
 pub use sender::Sender;
 pub use tributaries::Tributaries;

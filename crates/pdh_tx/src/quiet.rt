@@ -86,9 +86,8 @@ impl<C: Tx> Tributary<C> {
         if !clock.stays_inside(&next.path, trib, fill, next.frame, next.end_frame) {
             return false;
         }
-        let before = clock.taken(&next.path, trib, next.made);
-        let behind = clock.taken(&next.path, trib, next.end);
-        let Ok(bits) = usize::try_from(behind - before) else {
+        let arriving = clock.arriving(&next.path, trib, next.made, next.end);
+        let Ok(bits) = usize::try_from(arriving) else {
             return false;
         };
         self.child.quiet::<F, G>(clock, feed, bits) == bits

@@ -1,13 +1,15 @@
 //! The multiplexer, as a sender: where it stands in its line, what its frames say, and whether it has stopped. Its
 //! tributaries are its body.
 
-ghost use Rattle.std.specs.Prelude.{◌≡◌, ◌≤◌, ◌+◌, ℕ, length, OnOk, OnErr, IfOk, IfErr};
+ghost use Rattle.std.specs.Prelude.{◌≡◌, ◌≤◌, ◌+◌, ◌*◌, ℕ, length, OnOk, OnErr, IfOk, IfErr};
 ghost use Rattle.pdh_packed.specs.Gaining.{gained};
 ghost use Rattle.pdh_tx.specs.Meaning.{Plan, Supply, plan_in, IsFresh};
 ghost use Rattle.pdh_tx.specs.Calls.{Draws, DrawsClear, Appends, IsPieceOf, IsKept, StandsBy, StandsClear, MakesNext, StopsNext, TellsNext, MakesNextAll, HaltsNext};
 ghost use Rattle.pdh_tx.specs.Telling.{TellsNone};
 ghost use Rattle.pdh_tx.specs.Body.{sender_meaning, AreFedBelow, SenderAt, SenderFor};
+ghost use Rattle.pdh_tx.specs.Batches.{batch, AreSomeUpTo};
 
+use crate::batches::BATCH;
 use crate::body::Body;
 use crate::pieces::Piece;
 use crate::position::{Position, after, moved, said};
@@ -155,6 +157,95 @@ impl<S: Shape, B: Body<S>> Sender<S, B> {
         self.at = moved::<S>(self.at, last, self.at.is_odd ^ odd);
         Ok(())
     }
+
+    // Makes the next bits, so many, in whose way nothing stands and which bring no slip, and appends them to `into`: within a frame as
+    // its piece, and else from what the children make before.
+    fn batch<F: Feed, G: SlipLog>(
+        &mut self,
+        clock: &Schedule,
+        feed: &mut F,
+        log: &mut G,
+        count: usize,
+        into: &mut Packed,
+    ) -> Result<(), Failed>
+        requires fed { AreFedBelow S.shape self.old.path (B.meanings self.old.body) clock.now (F.inputs feed.old) }
+        requires few { AreSomeUpTo (batch * S.LEN) count }
+        requires room { length into.old.bits + count ≤ into.old.capacity }
+        requires clear { let tx = ⟦<Sender<S, B> as Tx>⟧ in
+            StandsClear tx.meaning tx.stands_at self.old (plan_in clock.now G.takes) count (F.inputs feed.old) }
+        ensures appended { Appends into.old into.new count result }
+        ensures made { let tx = ⟦<Sender<S, B> as Tx>⟧ in OnOk result
+            (MakesNextAll tx.meaning tx.says tx.stands_at tx.stands_for self.old self.new (plan_in clock.now G.takes) count
+            (gained into.old into.new) (F.inputs feed.old) (F.inputs feed.new)) }
+        ensures halts { let tx = ⟦<Sender<S, B> as Tx>⟧ in OnErr result
+            (HaltsNext tx.meaning tx.stands_at self.old (plan_in clock.now G.takes) count (F.inputs feed.old) (F.inputs feed.new)) }
+        ensures told { TellsNone G.SlipLog log.old log.new }
+        ensures running { self.new.stopped ≡ self.old.stopped }
+        ensures fed { DrawsClear F.Feed feed.old feed.new result }
+        ensures kept { let tx = ⟦<Sender<S, B> as Tx>⟧ in IsKept tx.meaning tx.says self.old self.new }
+    {
+        if count <= (S::LEN - self.at.slot) as usize {
+            return self.piece(clock, feed, log, count, into);
+        }
+        self.make_gathered(clock, feed, log, count, into)
+    }
+
+    // Makes them from bits that the children make before.
+    fn make_gathered<F: Feed, G: SlipLog>(
+        &mut self,
+        clock: &Schedule,
+        feed: &mut F,
+        log: &mut G,
+        count: usize,
+        into: &mut Packed,
+    ) -> Result<(), Failed>
+        requires fed { AreFedBelow S.shape self.old.path (B.meanings self.old.body) clock.now (F.inputs feed.old) }
+        requires few { AreSomeUpTo (batch * S.LEN) count }
+        requires room { length into.old.bits + count ≤ into.old.capacity }
+        requires clear { let tx = ⟦<Sender<S, B> as Tx>⟧ in
+            StandsClear tx.meaning tx.stands_at self.old (plan_in clock.now G.takes) count (F.inputs feed.old) }
+        ensures appended { Appends into.old into.new count result }
+        ensures made { let tx = ⟦<Sender<S, B> as Tx>⟧ in OnOk result
+            (MakesNextAll tx.meaning tx.says tx.stands_at tx.stands_for self.old self.new (plan_in clock.now G.takes) count
+            (gained into.old into.new) (F.inputs feed.old) (F.inputs feed.new)) }
+        ensures halts { let tx = ⟦<Sender<S, B> as Tx>⟧ in OnErr result
+            (HaltsNext tx.meaning tx.stands_at self.old (plan_in clock.now G.takes) count (F.inputs feed.old) (F.inputs feed.new)) }
+        ensures told { TellsNone G.SlipLog log.old log.new }
+        ensures running { self.new.stopped ≡ self.old.stopped }
+        ensures fed { DrawsClear F.Feed feed.old feed.new result }
+        ensures kept { let tx = ⟦<Sender<S, B> as Tx>⟧ in IsKept tx.meaning tx.says self.old self.new }
+    {
+        self.body.gather(
+            self.path,
+            self.at.frame,
+            self.at.slot,
+            count,
+            clock,
+            feed,
+            log,
+        )?;
+        let mut made = 0;
+        while made < count {
+            let rest = (S::LEN - self.at.slot) as usize;
+            let len = rest.min(count - made);
+            let say = said(self.at.slot, self.say, self.next_say);
+            let at = Piece {
+                path: self.path,
+                frame: self.at.frame,
+                slot: self.at.slot,
+                len,
+            };
+            let odd = self
+                .body
+                .gathered_piece::<G>(at, &say, self.at.last_odd, clock, into);
+            let last = (at.slot as usize + len - 1) as u32;
+            self.say = say;
+            self.at = moved::<S>(self.at, last, self.at.is_odd ^ odd);
+            made += len;
+        }
+        self.body.scatter();
+        Ok(())
+    }
 }
 
 impl<S: Shape, B: Body<S>> Tx for Sender<S, B> {
@@ -169,6 +260,8 @@ impl<S: Shape, B: Body<S>> Tx for Sender<S, B> {
     ghost is_stopped = { λ n. n.stopped };
 
     ghost grows = { λ n. B.grows n.body n.path };
+
+    ghost longer = { λ n. B.longer n.body n.path };
 
     fn stopped(&self) -> bool {
         self.stopped
@@ -204,9 +297,8 @@ impl<S: Shape, B: Body<S>> Tx for Sender<S, B> {
     ) -> Result<(), Failed> {
         let mut made = 0;
         while made < count {
-            let rest = (S::LEN - self.at.slot) as usize;
-            let len = rest.min(count - made);
-            match self.piece(clock, feed, log, len, into) {
+            let len = (BATCH * S::LEN as usize).min(count - made);
+            match self.batch(clock, feed, log, len, into) {
                 Ok(()) => made += len,
                 Err(Failed) => {
                     self.stopped = true;

@@ -58,7 +58,7 @@ impl<S: Shape, C: Tx> Tributaries<S, C> {
                 };
                 self.read(trib, place, log)
             }
-            None => Ok(overhead_of::<S, Vec<Tributary<C>>>(slot, say, odd, &self.list)),
+            None => Ok(overhead_of::<S, Vec<Tributary<C>>>(S::role(slot), say, odd, &self.list)),
         }
     }
 }

@@ -3,7 +3,9 @@
 ghost use Rattle.pdh_tx.specs.Stored.{stored_kind};
 ghost use Rattle.pdh_tx.specs.Tributary.{placed_in, held_in, share_in};
 ghost use Rattle.pdh_tx.specs.Tributaries.{meanings as meanings_of, StandBefore, StandThrough, HoldToHere, HoldToThere};
-ghost use Rattle.pdh_tx.specs.laws.NodeLaws.{node_grows};
+ghost use Rattle.pdh_tx.specs.Gathered.{Gathered, HoldGathered};
+ghost use Rattle.pdh_tx.specs.laws.NodeLaws.{node_grows, node_longer};
+ghost use Rattle.pdh_tx.specs.laws.GatheredLaws.{gathered_follows, gathered_holds};
 ghost use Rattle.pdh_tx.specs.laws.StoredLaws.{stored_is, stored_next, stored_holds, stored_count, stored_long};
 
 use crate::body::Body;
@@ -31,6 +33,10 @@ impl<S: Shape, C: Tx> Body<S> for Tributaries<S, C> {
     ghost holds = { λ b. HoldToHere b };
 
     ghost held = { λ b. HoldToThere b };
+
+    ghost gathered = { λ b. Gathered b };
+
+    ghost holds_gathered = { λ b. HoldGathered b };
 
     fn bit<F: Feed, G: SlipLog>(
         &mut self,
@@ -114,6 +120,63 @@ impl<S: Shape, C: Tx> Body<S> for Tributaries<S, C> {
         }
     }
 
+    fn gather<F: Feed, G: SlipLog>(
+        &mut self,
+        path: Path,
+        frame: u64,
+        slot: u32,
+        len: usize,
+        clock: &Schedule,
+        feed: &mut F,
+        log: &mut G,
+    ) -> Result<(), Failed> {
+        // what arrives in the slots fits, since no frame brings more bits than it has
+        clock.counts_fit();
+        let slots = u128::from(S::LEN);
+        let made = u128::from(frame) * slots + u128::from(slot);
+        let next = NextBits {
+            path,
+            frame,
+            slot,
+            made,
+            end: made + len as u128,
+            end_frame: clock.frames(&path),
+        };
+        self.gather_all(next, clock, feed, log)
+    }
+
+    fn gathered_piece<G: SlipLog>(
+        &mut self,
+        at: Piece,
+        say: &Service,
+        odd: bool,
+        clock: &Schedule,
+        into: &mut Packed,
+    ) -> bool {
+        self.begin_gathered::<G>(at, clock);
+        write_overhead::<S, Vec<Tributary<C>>>(
+            &self.layout,
+            at,
+            say,
+            odd,
+            &self.list,
+            &mut self.scratch.overhead,
+        );
+        self.carry_all(at);
+        self.layout.assemble(
+            at.slot,
+            at.len,
+            &self.scratch.overhead,
+            &self.scratch.columns,
+            &mut self.scratch.payload,
+            into,
+        )
+    }
+
+    fn scatter(&mut self) {
+        self.scatter_all()
+    }
+
     ghost is_kind = { λ b. stored_is S.shape S.is_frame };
 
     ghost count = { λ b. stored_count C.Tx.own S.shape b.list.items S.TRIBS S.tribs_is b.count };
@@ -122,5 +185,11 @@ impl<S: Shape, C: Tx> Body<S> for Tributaries<S, C> {
 
     ghost holds_next = { λ b path plan supply n t n' t' follows. stored_holds (placed_in C.Tx.own) (held_in C.Tx.own) share_in S.shape S.is_frame b.stores S.has_tributaries path plan b.list.items (stored_long b.list.items S.shape.tribs S.TRIBS S.tribs_is b.count) n t n' t' follows supply };
 
+    ghost gathered_next = { λ b path plan end n t n' t'. gathered_follows S.is_frame b.stores S.has_tributaries S.tribs_is b path plan end n t n' t' };
+
+    ghost holds_gathered_next = { λ b path plan supply end n t n' t'. gathered_holds S.is_frame b.stores S.has_tributaries S.tribs_is b path plan supply end n t n' t' };
+
     ghost grows = { λ b path. node_grows C.Tx.own C.grows S.shape S.is_frame path b.list.items };
+
+    ghost longer = { λ b path. node_longer C.Tx.own C.longer S.shape path b.list.items };
 }

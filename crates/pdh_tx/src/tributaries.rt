@@ -1,11 +1,15 @@
 //! The tributaries of a multiplexer, with the room in which its frames are put together.
 
-ghost use Rattle.std.specs.Prelude.{◌≡◌, ◌<◌, ◌==◌, false, All, [], length, map, IfOk};
+ghost use Rattle.std.specs.Prelude.{◌≡◌, ◌+◌, ◌*◌, ◌<◌, ◌≤◌, ◌==◌, false, All, [], length, map, IfOk};
+ghost use Rattle.pdh_shape.specs.OwnNumbers.{lead, store_size};
+ghost use Rattle.pdh_tx.specs.Batches.{batch};
 ghost use Rattle.pdh_tx.specs.Scratch.{HasRoom};
 ghost use Rattle.pdh_tx.specs.Tributary.{meaning_in, child_in};
 ghost use Rattle.pdh_tx.specs.Node.{IsDisjoint};
 
 use crate::Tx;
+use crate::batches::open_queues;
+use crate::queue::Queue;
 use crate::scratch::Scratch;
 use crate::tributary::{FrameShare, Tributary};
 use pdh_runs::Layout;
@@ -23,10 +27,14 @@ pub struct Tributaries<S: Shape, C: Tx> {
     pub layout: Rc<Layout<S>>,
     /// Room for the bits of a piece of a frame.
     pub scratch: Scratch,
+    /// Many frames' bits of each.
+    pub queues: Vec<Queue>,
     ghost count: { length list.items ≡ S.TRIBS },
     ghost stores: { (S.shape.copies == 0) ≡ false },
     ghost disjoint: { IsDisjoint (map (meaning_in C.Tx) list.items) },
     ghost room: { HasRoom S.LEN S.TRIBS S.LOW scratch },
+    ghost queue_count: { length queues.items ≡ S.TRIBS },
+    ghost queue_room: { All (λ queue. batch * S.LEN + lead + store_size ≤ queue.bits.capacity) queues.items },
 }
 
 // Gives each child an empty store.
@@ -69,10 +77,12 @@ impl<S: Shape, C: Tx> Tributaries<S, C> {
     {
         let list = join(alloc, children)?;
         let scratch = Scratch::open::<S>(alloc)?;
+        let queues = open_queues::<S>(alloc)?;
         Ok(Tributaries {
             list,
             layout,
             scratch,
+            queues,
         })
     }
 }

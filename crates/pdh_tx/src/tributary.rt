@@ -9,13 +9,15 @@ ghost use Rattle.pdh_tx.specs.declared.tx.TxStop.TheVariants.{LogFailed};
 ghost use Rattle.pdh_tx.specs.Telling.{Tells, TellsNone};
 ghost use Rattle.pdh_slips.specs.Logs.{slip_at};
 ghost use Rattle.pdh_tx.specs.Passing.{PassesFreely, PassesColumn, HaltsPassing};
+ghost use Rattle.pdh_tx.specs.Gathered.{GathersFreely, GathersAll, IsAllCarried, waiting_in};
 
+use crate::queue::Queue;
 use crate::{Tx, TxStop};
 use pdh_clock::Schedule;
 use pdh_edge::{Failed, Feed};
 use pdh_packed::Packed;
 use pdh_runs::Layout;
-use pdh_shape::{LEAD, Place, STORE_SIZE, Shape};
+use pdh_shape::{LEAD, Place, STORE_SIZE, Shape, THRESHOLD};
 use pdh_slips::SlipLog;
 use pdh_store::Store;
 
@@ -142,6 +144,55 @@ impl<C: Tx> Tributary<C> {
         Ok(())
     }
 
+    /// Takes the child's next bits for many frames, so many, into a queue, behind those of the store. So many of them come into
+    /// the store at once. Nothing stands in the way.
+    pub fn gather<F: Feed, G: SlipLog>(
+        &mut self,
+        count: usize,
+        at_once: usize,
+        clock: &Schedule,
+        feed: &mut F,
+        log: &mut G,
+        queue: &mut Queue,
+    ) -> Result<(), Failed>
+        requires fed { IsFed (meaning_in C.Tx self.old) clock.now (F.inputs feed.old) }
+        requires room { count + store_size ≤ queue.old.bits.capacity }
+        requires clear { GathersFreely C.Tx self.old (plan_in clock.now G.takes) count (F.inputs feed.old) }
+        requires at_once { at_once ≤ count }
+        ensures ok { OnOk result (GathersAll C.Tx self.old self.new queue.new (plan_in clock.now G.takes) count at_once
+            (F.inputs feed.old) (F.inputs feed.new)) }
+        ensures halts { OnErr result (HaltsPassing C.Tx count self.old (plan_in clock.now G.takes)
+            (F.inputs feed.old) (F.inputs feed.new)) }
+        ensures told { TellsNone G.SlipLog log.old log.new }
+        ensures fed { DrawsClear F.Feed feed.old feed.new result }
+        ensures kept { KeepsShare C.Tx self.old self.new }
+        ensures empty { self.new.store ≡ [] }
+        ensures few { queue.new.fill ≤ store_size + at_once }
+        ensures room { queue.new.bits.capacity ≡ queue.old.bits.capacity }
+    {
+        // the sum fits, since a capacity does
+        let _fits = queue.bits.capacity();
+        queue.bits.clear();
+        queue.gone = 0;
+        queue.fill = self.store.fill() as usize + at_once;
+        self.store.move_to(&mut queue.bits);
+        self.child
+            .make_clear(clock, feed, log, count, &mut queue.bits)?;
+        Ok(())
+    }
+
+    /// Takes what is left of a queue into the empty store.
+    pub fn scatter(&mut self, queue: &Queue)
+        requires empty { self.old.store ≡ [] }
+        requires all { IsAllCarried queue.now }
+        requires few { queue.now.fill ≤ store_size }
+        ensures store { self.new.store ≡ waiting_in queue.now }
+        ensures child { self.new.child ≡ self.old.child }
+        ensures share { self.new.share ≡ self.old.share }
+    {
+        self.store.put_from(&queue.bits, queue.gone, queue.fill);
+    }
+
     /// Takes the child's first bits, which stand in the store before the first frame.
     pub fn lead<F: Feed, G: SlipLog>(
         &mut self,
@@ -174,6 +225,16 @@ impl<C: Tx> Tributary<C> {
         ensures share { self.new.share ≡ record { arriving = arriving; more = nat_le threshold (length self.old.store) } }
     {
         let more = self.store.carries_more();
+        self.share = FrameShare { arriving, more };
+    }
+
+    /// The same, where the bits of the store stand in a queue, and are so many.
+    pub fn decide_by(&mut self, arriving: u32, fill: usize)
+        ensures child { self.new.child ≡ self.old.child }
+        ensures store { self.new.store ≡ self.old.store }
+        ensures share { self.new.share ≡ record { arriving = arriving; more = nat_le threshold fill } }
+    {
+        let more = fill >= THRESHOLD as usize;
         self.share = FrameShare { arriving, more };
     }
 

@@ -3,7 +3,7 @@
 ghost use Rattle.std.specs.Prelude.{◌≡◌, ◌≤◌, ◌+◌, ℕ, suc, Bool, false, is_err, length, IfOk, OnOk, IfErr, OnErr};
 ghost use Rattle.pdh_packed.specs.Gaining.{gained};
 ghost use Rattle.pdh_shape.specs.declared.role.Service.{Service};
-ghost use Rattle.pdh_tx.specs.Meaning.{Supply, Plan, plan_in, Meaning};
+ghost use Rattle.pdh_tx.specs.Meaning.{Supply, Plan, plan_in, Meaning, StaysFree};
 ghost use Rattle.pdh_tx.specs.Calls.{Draws, DrawsClear, Appends, IsFed, IsKept, StandsBy, StandsClear, GoesFree, MakesNext, StopsNext, TellsNext, MakesNextAll, HaltsNext};
 ghost use Rattle.pdh_tx.specs.Telling.{TellsNone};
 
@@ -117,4 +117,7 @@ pub trait Tx: Drop {
     /// A longer line takes no fewer bits.
     ghost grows: { (t : Self) (plan : Plan) (x k : ℕ)
         → (meaning t).given plan x k ≤ (meaning t).given plan (suc x) k };
+
+    /// Longer lists bring nothing into its way.
+    ghost longer: { (t : Self) → StaysFree (meaning t) };
 }

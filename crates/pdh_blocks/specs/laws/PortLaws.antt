@@ -11,7 +11,7 @@ use Rattle.pdh_edge.specs.Files.{ShelfState, Told, TouchesOnly, Rose, told_empty
 use Rattle.pdh_edge.specs.Files.Told.{Untold, Known}
 use Rattle.pdh_blocks.specs.Leaves.{Leaf}
 use Rattle.pdh_blocks.specs.State.{PortState, origin_of, output_name, output_names}
-use Rattle.pdh_blocks.specs.Lists.{inputs_of, outputs_of, left_of, rest_of, rest_in}
+use Rattle.pdh_blocks.specs.Lists.{inputs_of, outputs_of, left_of, rest_of, rest_in, waiting_of, waits_in}
 use Rattle.pdh_blocks.specs.Held.{IsLeaf, IsPort}
 use Rattle.pdh_blocks.specs.Kept.{Keeps, Feeds, Drains, IsReady, IsOutput, IsAsBeforeOrEmpty}
 use Rattle.pdh_blocks.specs.laws.Counting.{rise_none, rise_join, no_fewer, shelf_no_fewer, shelf_rose, none_counted, one_counted}
@@ -106,7 +106,7 @@ pub feeds_same : (a : PortState) → Feeds a a
 feeds_same a = record { keeps = keeps_same a; outputs = refl; drain_faults = refl; fresh = refl }
 
 pub drains_same : (a : PortState) → Drains a a
-drains_same a = record { keeps = keeps_same a; inputs = refl; feed_faults = refl }
+drains_same a = record { keeps = keeps_same a; inputs = refl; leaves = refl; feed_faults = refl }
 
 -- ---- one after another
 
@@ -165,6 +165,7 @@ pub drains_join : {a b c : PortState} → Drains a b → Drains b c → Drains a
 drains_join p q = record {
   keeps = keeps_join p.keeps q.keeps;
   inputs = q.inputs ∙ p.inputs;
+  leaves = q.leaves ∙ p.leaves;
   feed_faults = q.feed_faults ∙ p.feed_faults;
 }
 
@@ -187,3 +188,12 @@ list_long a k (Some leaf) bits at is here = rest_long a.shelf leaf (a.shelf.told
 
 pub left_is : (a : PortState) (k : ℕ) (bits : List Bool) → IsPort a → (inputs_of a).told k ≡ Some bits → (inputs_of a).left k ≡ length bits
 left_is a k bits port here = list_long a k (slice_get a.leaves k) bits refl (port.blocks.leaves k) here
+
+-- ---- what waits
+
+few_wait : (shelf : ShelfState) (found : Option Leaf) → ((leaf : Leaf) → found ≡ Some leaf → IsLeaf shelf leaf) → option_map_or waiting_of found 0 ≤ option_map_or left_of found 0
+few_wait shelf None is = omega arith
+few_wait shelf (Some leaf) is = omega (arith, (is leaf refl).within)
+
+pub waits_left : (a : PortState) (k : ℕ) → IsPort a → waits_in a.leaves k ≤ (inputs_of a).left k
+waits_left a k port = few_wait a.shelf (slice_get a.leaves k) (port.blocks.leaves k)

@@ -1,5 +1,6 @@
 -- A longer line of a node without stores takes no fewer bits.
-use Rattle.std.proofs.Common.{◌≡◌, inl, inr, ℕ, zero, suc, ◌+◌, ◌*◌, ◌/◌, ◌%◌, ◌<◌, ◌≤◌, ◌^◌, length, subst, Bool, true, false, ◌&&◌, List, map, cond, eqb, refl, sym, ap, ◌∙◌, arith, eqb-true}
+use Rattle.std.proofs.Common.{◌≡◌, inl, inr, ℕ, zero, suc, ◌+◌, ◌*◌, ◌/◌, ◌%◌, ◌<◌, ◌≤◌, ◌^◌, length, subst, Bool, true, false, ◌&&◌, List, map, Option, None, cond, eqb, refl, sym, ap, ◌∙◌, arith, eqb-true}
+use Rattle.std.specs.List.{range_with_len}
 use Rattle.std.proofs.lemmas.Bool.{cases_Bool, cases_lt}
 use Rattle.pdh_shape.specs.declared.role.Role.{Role}
 use Rattle.pdh_shape.specs.declared.role.Role.TheVariants.{Align, Service, Control, Just, Info}
@@ -10,14 +11,16 @@ use Rattle.pdh_line.specs.Sending.{given}
 use Rattle.pdh_line.proofs.SendingLaws.{reads_below-suc, reads_below-all, given-locked}
 use Rattle.pdh_tx.specs.declared.tx.Tx.{Ghosts}
 use Rattle.std.proofs.lemmas.List.{length-map}
-use Rattle.pdh_tx.specs.Meaning.{Plan, Supply}
+use Rattle.pdh_tx.specs.declared.tx.TxStop.{TxStop}
+use Rattle.pdh_tx.specs.Meaning.{Plan, Supply, StaysFree}
 use Rattle.pdh_tx.specs.Body.{IsKind}
 use Rattle.pdh_tx.specs.laws.Each.{each_now}
 use Rattle.pdh_tx.specs.laws.StoredLaws.{stored_long}
 use Rattle.pdh_locked.specs.Children.{placed_in, held_in, locked_kind, Before, Through, HoldTo}
-use Rattle.pdh_tx.specs.Locked.{locked_to, locked_meaning}
+use Rattle.pdh_tx.specs.Locked.{locked_to, locked_beginning, locked_read, locked_meaning}
 use Rattle.pdh_tx.specs.Follows.{Follows}
 use Rattle.pdh_tx.specs.laws.Growing.{given_more, grows_to}
+use Rattle.pdh_tx.specs.laws.Longer.{clears_next, clears_map, each_longer}
 use Rattle.pdh_tx.specs.laws.Stepping.{frame_is, slot_is, following}
 
 -- ---- slots
@@ -89,7 +92,7 @@ locked_less s has n t n' t' follows j within = elim (cases_lt j s.tribs) [
   ]
 ]
 
-given_less : (s : FrameShape) → IsFrame s → HasTributaries s → eqb s.copies 0 ≡ true → (counts : ℕ → ℕ) (j x : ℕ) → given s j counts x ≤ given s j counts (suc x)
+pub given_less : (s : FrameShape) → IsFrame s → HasTributaries s → eqb s.copies 0 ≡ true → (counts : ℕ → ℕ) (j x : ℕ) → given s j counts x ≤ given s j counts (suc x)
 given_less s frame has locked counts j x =
     let n : ℕ = x / s.len in
     let t : ℕ = x % s.len in
@@ -105,6 +108,20 @@ pub locked_grows : {C : Type 0} (tx : Ghosts C) (grows : (c : C) (plan : Plan) (
     → (path : Path) (children : List C) (plan : Plan) (x k : ℕ) → (locked_meaning s path (map tx.meaning children)).given plan x k ≤ (locked_meaning s path (map tx.meaning children)).given plan (suc x) k
 locked_grows tx grows s frame has locked path children plan x k =
     given_more tx.meaning plan children (λ j. given s j (plan.counts path j) x) (λ j. given s j (plan.counts path j) (suc x)) k (λ c n k. grows c plan n k) (λ j. given_less s frame has locked (plan.counts path j) j x)
+
+read_longer : (b : Bool) (few more : Option TxStop) → (few ≡ None → more ≡ None) → cond b few None ≡ None → cond b more None ≡ None
+read_longer true few more p h = p h
+read_longer false few more p h = h
+
+-- longer lists bring nothing into its way
+pub locked_longer : {C : Type 0} (tx : Ghosts C) → ((c : C) → StaysFree (tx.meaning c)) → (s : FrameShape) (path : Path) (children : List C) → StaysFree (locked_meaning s path (map tx.meaning children))
+locked_longer tx longer s path children plan few more x le =
+    let ms = map tx.meaning children in
+    let n : ℕ = x / s.len in
+    let t : ℕ = x % s.len in
+    clears_next (locked_beginning path plan n t) (locked_beginning path plan n t) (map (locked_read s plan ms few n t) (range_with_len 0 s.tribs)) (map (locked_read s plan ms more n t) (range_with_len 0 s.tribs)) (λ h. h)
+    (clears_map (locked_read s plan ms few n t) (locked_read s plan ms more n t) (range_with_len 0 s.tribs)
+    (λ j. read_longer (reads_from j false (s.role t)) _ _ (each_longer tx.meaning longer plan few more le children j (locked_to s n t j))))
 
 pub locked_is_kind : (s : FrameShape) → HasTributaries s → eqb s.copies 0 ≡ true → IsKind s (locked_kind s)
 locked_is_kind s has locked = record {

@@ -1,7 +1,7 @@
 -- What holds of each tributary at some numbers.
 use Rattle.std.proofs.Common.{◌≡◌, ℕ, zero, suc, ◌<◌, List, [], ◌∷◌, length, subst, Some, slice_get, arith}
 
-inside : {X : Type 0} (xs : List X) (j : ℕ) (x : X) → slice_get xs j ≡ Some x → j < length xs
+pub inside : {X : Type 0} (xs : List X) (j : ℕ) (x : X) → slice_get xs j ≡ Some x → j < length xs
 inside {X = X} [] j x e = absurd (none j e)
   where
     none : (j : ℕ) → slice_get {X = X} [] j ≡ Some x → ⊥

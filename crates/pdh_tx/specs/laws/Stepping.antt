@@ -20,7 +20,7 @@ module _ (s : FrameShape) (n t x : ℕ) (place : n * s.len + t ≡ x) (inside : 
   pub slot_is : x % s.len ≡ t
   slot_is = ap (λ v. v % s.len) (sym place) ∙ mod-mul-add n s.len t inside
 
-  first_is : eqb x 0 ≡ (eqb n 0 && eqb t 0)
+  pub first_is : eqb x 0 ≡ (eqb n 0 && eqb t 0)
   first_is = elim (cases_eq x 0) [
     | inl none ↦
         let slot : t ≡ 0 = omega (arith, place) in

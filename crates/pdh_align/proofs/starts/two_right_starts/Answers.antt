@@ -1,4 +1,4 @@
-use Rattle.std.proofs.Common.{◌≡◌, ◌+◌, ◌*◌, ◌&&◌, true, false, take, drop, get_or, ap, ◌∙◌, arith}
+use Rattle.std.proofs.Common.{◌≡◌, ◌+◌, ◌&&◌, false, take, drop, get_or, ap, ◌∙◌, arith}
 use Rattle.pdh_shape.specs.Frame.{is_right}
 use Rattle.pdh_align.proofs.StartLaws.{two_frames}
 use Rattle.pdh_align.proofs.starts.two_right_starts.Goals as goal

@@ -1,4 +1,4 @@
-use Rattle.std.proofs.Common.{◌<◌, ◌≤◌, ◌+◌, suc, arith}
+use Rattle.std.proofs.Common.{◌≤◌, suc, arith}
 use Rattle.pdh_cells.proofs.Fine.{needs_more, is_small, is_enough}
 use Rattle.pdh_cells.proofs.cells.shift_for.Goals as goal
 

@@ -1,6 +1,5 @@
-use Rattle.std.proofs.Common.{◌≡◌, ℕ, ◌<◌, false, get_or, length}
+use Rattle.std.proofs.Common.{◌≡◌, ℕ, ◌<◌, get_or, length}
 use Rattle.pdh_cells.specs.Contents.{blank}
-use Rattle.pdh_cells.specs.Rows.{shows_state}
 use Rattle.pdh_cells.proofs.rows.far_cells.Given as goal
 
 -- the first cells are done

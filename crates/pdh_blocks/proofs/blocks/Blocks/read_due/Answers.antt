@@ -1,13 +1,16 @@
 use Rattle.std.proofs.Common.{◌≡◌, ℕ, ◌<◌, [], length, Option, Some, slice_get, slice_set, refl, ap, ◌∙◌, sym, subst, arith}
 use Rattle.std.proofs.lemmas.Option.{slice_get_read, same_Some}
+use Rattle.pdh_edge.specs.declared.shelf.Call.TheVariants.{Read}
 use Rattle.pdh_edge.specs.Counts.{one_more}
-use Rattle.pdh_blocks.specs.Leaves.{Leaf}
+use Rattle.pdh_edge.specs.Files.{TellsFailed}
+use Rattle.pdh_blocks.specs.Leaves.{Leaf, IsNextBlock}
 use Rattle.pdh_blocks.specs.State.{over}
-use Rattle.pdh_blocks.specs.Held.{IsLeaf}
+use Rattle.pdh_blocks.specs.Held.{IsLeaf, IsLastCall}
 use Rattle.pdh_blocks.specs.Done.{ReadsAtMost}
 use Rattle.pdh_blocks.proofs.Results.{at_ok, at_err}
 use Rattle.pdh_blocks.proofs.Places.{get_set_same}
 use Rattle.pdh_blocks.proofs.Reading.{read_done, read_failed, read_leaf, nothing_waits}
+use Rattle.pdh_blocks.proofs.InBlock.{waits_here, waits_read}
 use Rattle.pdh_blocks.proofs.blocks.Blocks.read_due.Goals as goal
 
 pub returns-then-is_ok-clause-done : goal.returns-then-is_ok-clause-done
@@ -55,3 +58,37 @@ returns-clause-done g c =
 
 pub returns-clause-cause : goal.returns-clause-cause
 returns-clause-cause g c = rw c.feed_failed.ensures.counted refl
+
+pub returns-then-is_ok-clause-waits : goal.returns-then-is_ok-clause-waits
+returns-then-is_ok-clause-waits g c =
+    let leaves = c.args.self.now.leaves.items in
+    let k = c.args.leaf in
+    let old : Leaf = c.index_mut-list.result.now in
+    let at : slice_get leaves k ≡ Some old = slice_get_read _ _ k _ refl c.requires.held c.index_mut-list.ensures.value in
+    let none : old.waiting ≡ [] = nothing_waits old.waiting (sym c.waits.ensures ∙ c.if-waits.false) in
+    waits_read leaves k 0 old c.read.new.self at (ap length none)
+
+pub returns-clause-sure : goal.returns-clause-sure
+returns-clause-sure g c some =
+    let leaves = c.args.self.now.leaves.items in
+    let k = c.args.leaf in
+    let old : Leaf = c.index_mut-list.result.now in
+    let at : slice_get leaves k ≡ Some old = slice_get_read _ _ k _ refl c.requires.held c.index_mut-list.ensures.value in
+    let none : old.waiting ≡ [] = nothing_waits old.waiting (sym c.waits.ensures ∙ c.if-waits.false) in
+    absurd (omega (arith, waits_here leaves k old at, ap length none, some))
+
+pub returns-clause-unread : goal.returns-clause-unread
+returns-clause-unread g c =
+    let old : Leaf = c.index_mut-list.result.now in
+    let new : Leaf = c.read.new.self in
+    let no = sym c.is_ok.ensures.value ∙ c.if-is_ok.false in
+    let bad = at_err c.read.result no c.read.ensures.err in
+    let this : (leaf : Leaf) → slice_get (slice_set c.args.self.now.leaves.items c.args.leaf new) c.args.leaf ≡ Some leaf → old ≡ leaf =
+    λ leaf found. sym (at_err c.read.result no c.read.ensures.same) ∙ same_Some new leaf (sym (get_set_same c.args.self.now.leaves.items c.args.leaf new c.requires.held) ∙ found) in
+    rw c.feed_failed.ensures.counted
+    (λ failed. record {
+      range = bad.range;
+      block = λ leaf found. subst (λ (leaf : Leaf). IsNextBlock leaf.given bad.range) (this leaf found) bad.block;
+      last = λ leaf found. subst (λ (leaf : Leaf). IsLastCall (g.S.Shelf.state c.read.new.shelf) Read leaf.name) (this leaf found) bad.fails.fails.last;
+      asked = λ leaf found. subst (λ (leaf : Leaf). TellsFailed ((g.S.Shelf.state c.read.new.shelf).tells_name leaf.name) bad.range (g.S.Shelf.state c.read.new.shelf).failed_range) (this leaf found) bad.fails.asked;
+    })

@@ -1,17 +1,19 @@
-use Rattle.std.proofs.Common.{◌≡◌, ◌<◌, ◌≤◌, List, Bool, length, take, Some, slice_get, slice_set, refl, sym, subst, arith}
+use Rattle.std.proofs.Common.{◌≡◌, ℕ, ◌<◌, ◌≤◌, List, Bool, length, take, Some, slice_get, slice_set, refl, ap, ◌∙◌, sym, subst, arith}
 use Rattle.std.proofs.lemmas.Option.{slice_get_read}
 use Rattle.std.proofs.lemmas.Bool.{ltb-true}
+use Rattle.std.proofs.lemmas.List.{length-take-le}
 use Rattle.std.proofs.lemmas.Result.{err_from_is_err_and}
 use Rattle.pdh_packed.specs.Gaining.{gained}
 use Rattle.pdh_packed.proofs.GainingLaws.{gained_is}
-use Rattle.pdh_edge.specs.Ports.{Takes, for_leaf}
+use Rattle.pdh_edge.specs.Ports.{Takes, GivesWaiting, for_leaf}
 use Rattle.pdh_blocks.specs.Leaves.{Leaf, after_giving}
 use Rattle.pdh_blocks.specs.State.{PortState, over}
-use Rattle.pdh_blocks.specs.Lists.{inputs_of}
+use Rattle.pdh_blocks.specs.Lists.{inputs_of, waits_in}
 use Rattle.pdh_blocks.specs.Held.{IsPort}
 use Rattle.pdh_blocks.specs.Kept.{Feeds}
 use Rattle.pdh_blocks.specs.laws.PortLaws.{feeds_join, same_leaves}
 use Rattle.pdh_blocks.proofs.Giving.{takes_none, takes_after, give_port, give_feeds, give_takes}
+use Rattle.pdh_blocks.proofs.InBlock.{waits_given, waits_after}
 use Rattle.pdh_blocks.proofs.shelf_port.ShelfPortFeed.bits.Goals as goal
 
 pub returns-in_err-make_due-clause-err : goal.returns-in_err-make_due-clause-err
@@ -80,3 +82,17 @@ returns-clause-fed g c =
     let few : n ≤ length old.waiting = omega (arith, c.give.ensures.count) in
     let now = subst (λ (leaf : Leaf). Feeds a (record a { leaves = slice_set a.leaves k leaf })) (sym c.give.ensures.leaf) (give_feeds a k old n done.port at few) in
     feeds_join done.feeds now
+
+pub returns-clause-waits : goal.returns-clause-waits
+returns-clause-waits g c =
+    let k = c.args.leaf in
+    let leaves = c.make_due.new.self.leaves.items in
+    let old : Leaf = c.index_mut.result.now in
+    let within : k < length leaves = omega (arith, ltb-true _ _ c.requires.held, same_leaves c.in_ok-make_due.ensures.done.feeds.keeps) in
+    let at : slice_get leaves k ≡ Some old = slice_get_read _ _ k _ refl within c.index_mut.ensures.value in
+    let n = c.give.result in
+    let few : n ≤ length old.waiting = omega (arith, c.give.ensures.count) in
+    let long : length (gained c.args.into.now c.give.new.into) ≡ n = ap length (gained_is c.args.into.now c.give.new.into (take n old.waiting) c.give.ensures.given) ∙ length-take-le n old.waiting few in
+    let given = subst (λ (leaf : Leaf). GivesWaiting k n (waits_in leaves) (waits_in (slice_set leaves k leaf))) (sym c.give.ensures.leaf) (waits_given leaves k n old at few) in
+    subst (λ (n : ℕ). GivesWaiting k n (waits_in c.args.self.now.blocks.leaves.items) (waits_in (slice_set leaves k c.give.new.self))) (sym long)
+    (waits_after k n _ (waits_in leaves) _ c.in_ok-make_due.ensures.waits given)

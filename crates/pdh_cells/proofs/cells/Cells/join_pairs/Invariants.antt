@@ -9,4 +9,5 @@ invariant-loop-index l = record {
       ≡ joined (get_or l.fn.self.cells.items (2 * cell) blank) (get_or l.fn.self.cells.items (2 * cell + 1) blank);
   same : (cell : ℕ) → l.index ≤ cell → get_or l.self.cells.items cell blank ≡ get_or l.fn.self.cells.items cell blank;
   shift : l.self.shift ≡ l.fn.self.shift;
+  used : l.self.used ≡ l.fn.self.used;
 }

@@ -8,4 +8,5 @@ invariant-loop-index l = record {
   done : (cell : ℕ) → l.first ≤ cell → cell < l.index → get_or l.self.cells.items cell blank ≡ joined (get_or l.fn.self.cells.items cell blank) l.more;
   same : (cell : ℕ) → (cell < l.first) ⊎ (l.index ≤ cell) → get_or l.self.cells.items cell blank ≡ get_or l.fn.self.cells.items cell blank;
   shift : l.self.shift ≡ l.fn.self.shift;
+  used : l.end ≤ l.self.used;
 }

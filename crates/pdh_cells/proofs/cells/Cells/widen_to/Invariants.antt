@@ -1,4 +1,4 @@
-use Rattle.std.proofs.Common.{ℕ, suc, ◌-◌, ◌≤◌}
+use Rattle.std.proofs.Common.{ℕ, suc, ◌-◌}
 use Rattle.std.specs.Prelude.{max}
 use Rattle.pdh_cells.specs.Lanes.{Lanes}
 use Rattle.pdh_cells.specs.Standing.{StandsFor}

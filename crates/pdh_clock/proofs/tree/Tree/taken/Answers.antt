@@ -1,9 +1,8 @@
-use Rattle.std.proofs.Common.{◌≡◌, ℕ, List, Some, true, is_some, ap, ◌%◌, ◌/◌, ◌*◌, ◌<◌, ◌≤◌, ◌^◌, sym, subst, arith}
-use Rattle.std.proofs.lemmas.Nat.{mod_below}
+use Rattle.std.proofs.Common.{◌≡◌, ℕ, List, Some, true, is_some, ap, ◌/◌, ◌*◌, ◌≤◌, ◌^◌, arith}
 use Rattle.std.proofs.Math.Nat.{mul-le-mul_right, mul-le-mul_left}
 use Rattle.pdh_line.specs.Paths.{steps_of}
 use Rattle.pdh_levels.proofs.LevelLaws.{level_is}
-use Rattle.pdh_clock.proofs.Begins.{whole_frames-le, whole_frames-begun, part_small}
+use Rattle.pdh_clock.proofs.Begins.{whole_frames-begun}
 use Rattle.pdh_shape.specs.declared.place.Level.{Level}
 use Rattle.pdh_line.specs.Progress.{begun_by}
 use Rattle.pdh_levels.specs.Levels.{longest_frame, level_at}
@@ -13,17 +12,10 @@ use Rattle.pdh_clock.specs.Stored.{IsTree, rows_in, most_node_frames}
 use Rattle.pdh_clock.proofs.Served.{frames_few}
 use Rattle.pdh_clock.proofs.tree.Tree.taken.Goals as goal
 
-pub overflow_cast-frames : goal.overflow_cast-frames
-overflow_cast-frames c =
-    let level = level_is c.args.self.now.levels.items (steps_of c.args.node.now) c.level_of-level.result c.requires.tree.levels_are.each c.level_of-level.ensures in
-    let some : 0 < c.level_of-level.result.len = omega (arith, level.shortest) in
-    let few = whole_frames-le c.level_of-level.result.len c.args.bits 18446744073709551615 some (c.requires.few c.level_of-level.result c.level_of-level.ensures) in
-    record { fits = subst (λ len. c.args.bits / len < 2 ^ 64) (sym c.from-len.ensures) (omega arith) }
-
 pub nonzero_div-result : goal.nonzero_div-result
 nonzero_div-result c =
     let level = level_is c.args.self.now.levels.items (steps_of c.args.node.now) c.level_of-level.result c.requires.tree.levels_are.each c.level_of-level.ensures in
-    omega (arith, level.shortest, c.from-len.ensures)
+    omega (arith, level.shortest, c.from.ensures)
 
 -- so many bits of so few frames, where no store stands between
 whole_few : (tree : Tree) (path : List ℕ) (level : Level) (bits : ℕ) → IsTree tree → level_at tree.levels.items path ≡ Some level → level.locked ≡ true
@@ -38,25 +30,15 @@ pub overflow_mul-result : goal.overflow_mul-result
 overflow_mul-result c =
     let level = c.level_of-level.result in
     let few = whole_few c.args.self.now (steps_of c.args.node.now) level c.args.bits c.requires.tree c.level_of-level.ensures c.if-level.true (c.requires.enough level c.level_of-level.ensures) in
-    record { fits = omega (arith, ap (λ len. c.args.bits / len * c.from.result) c.from-len.ensures, ap (λ low. c.args.bits / level.len * low) c.from.ensures, few) }
+    record { fits = omega (arith, ap (λ len. c.args.bits / len * c.from-then-level.result) c.from.ensures, ap (λ low. c.args.bits / level.len * low) c.from-then-level.ensures, few) }
 
 pub returns-then-level-clause-few : goal.returns-then-level-clause-few
 returns-then-level-clause-few c =
     let level = c.level_of-level.result in
     let few = whole_few c.args.self.now (steps_of c.args.node.now) level c.args.bits c.requires.tree c.level_of-level.ensures c.if-level.true (c.requires.enough level c.level_of-level.ensures) in
-    omega (arith, ap (λ len. c.args.bits / len * c.from.result) c.from-len.ensures, ap (λ low. c.args.bits / level.len * low) c.from.ensures, few)
+    omega (arith, ap (λ len. c.args.bits / len * c.from-then-level.result) c.from.ensures, ap (λ low. c.args.bits / level.len * low) c.from-then-level.ensures, few)
 
-pub overflow_mul-result-2 : goal.overflow_mul-result-2
-overflow_mul-result-2 c =
+pub came_in-requires-clause-some : goal.came_in-requires-clause-some
+came_in-requires-clause-some c =
     let level = level_is c.args.self.now.levels.items (steps_of c.args.node.now) c.level_of-level.result c.requires.tree.levels_are.each c.level_of-level.ensures in
-    let some : 0 < c.from-len.result = omega (arith, level.shortest, c.from-len.ensures) in
-    let rest : c.args.bits % c.from-len.result ≤ longest_frame = omega (arith, mod_below c.args.bits c.from-len.result some, level.longest, c.from-len.ensures) in
-    let count : c.from-4.result ≤ 2 ^ 32 = omega (arith, c.from-4.ensures, c.count.type_inv) in
-    record { fits = omega (arith, mul-le-mul_right c.from-4.result rest, mul-le-mul_left longest_frame count) }
-
-pub returns-clause-few : goal.returns-clause-few
-returns-clause-few c =
-    let level = level_is c.args.self.now.levels.items (steps_of c.args.node.now) c.level_of-level.result c.requires.tree.levels_are.each c.level_of-level.ensures in
-    let some : 0 < c.from-len.result = omega (arith, level.shortest, c.from-len.ensures) in
-    let part = part_small (c.args.bits % c.from-len.result) c.from-4.result c.from-len.result (mod_below c.args.bits c.from-len.result some) in
-    omega (arith, part, c.from-4.ensures, c.count.type_inv, c.from-before.ensures, c.total.type_inv)
+    omega (arith, level.shortest)

@@ -1,7 +1,7 @@
 use Rattle.std.proofs.Common.{◌≡◌, ◌<◌, ◌-◌, ◌+◌, suc, refl, sym, ap, ◌∙◌, arith, [], ◌∷◌, map, length, take}
 use Rattle.std.proofs.lemmas.Result.{err_from_is_err_and}
 use Rattle.std.proofs.lemmas.List.{take_all}
-use Rattle.pdh_align.specs.Aligning.{frame_back}
+use Rattle.pdh_align.specs.Aligning.{Held, frame_back}
 use Rattle.pdh_edge.proofs.Runs.{cause_since}
 use Rattle.pdh_rx.proofs.Gains.{on_err_from}
 use Rattle.pdh_desync.specs.FarStore.FarPiece.{Frame}
@@ -14,7 +14,12 @@ loop-done-init g c = record {
   given = far_gives_nothing g.S.Shape.shape _ _ (λ j. []) (λ j. refl);
   unfailed = refl;
   drained = g.met.D.Drain.drained_same _;
+  aligner = refl;
+  ready = λ more. refl;
 }
+
+pub load-requires : goal.load-requires
+load-requires g c = omega (arith, c.requires.frames, ap (λ (h : Held). length h.ready) (c.loop-done.invariant.ready (omega arith)))
 
 pub give_piece-requires : goal.give_piece-requires
 give_piece-requires g c =
@@ -32,11 +37,15 @@ loop-done-preserved g c =
     let strip = c.load.new.self in
     let inside : n < length ready = omega (arith, c.requires.frames) in
     let is : length ready - suc back ≡ n = omega (arith, c.requires.frames) in
+    let same : c.loop-done.aligner ≡ c.args.aligner.now = inv.ready (omega arith) in
+    let frame : strip.frame ≡ frame_back ready back = c.load.ensures.frame ∙ ap (λ (h : Held). frame_back h.ready back) same in
     record {
       given = far_gives_join s (λ j. map Frame (take n ready)) (λ j. Frame (frame_back ready back) ∷ []) (λ j. map Frame (take (n + 1) ready)) _ _ _ _ _ _ (λ j. frames_push ready n back inside is) inv.given
-          (far_gives_same s (λ j. piece_of strip.gap strip.frame ∷ []) (λ j. Frame (frame_back ready back) ∷ []) _ _ _ _ (λ j lt. piece_frame strip.gap strip.frame (frame_back ready back) c.load.ensures.gap c.load.ensures.frame) ok.given);
+          (far_gives_same s (λ j. piece_of strip.gap strip.frame ∷ []) (λ j. Frame (frame_back ready back) ∷ []) _ _ _ _ (λ j lt. piece_frame strip.gap strip.frame (frame_back ready back) c.load.ensures.gap frame) ok.given);
       unfailed = ok.cause ∙ inv.unfailed;
       drained = g.met.D.Drain.drained_join _ _ _ inv.drained ok.drained;
+      aligner = c.load.ensures.aligner ∙ ap (λ (h : Held). record h { ready = c.load.new.aligner.ready }) same;
+      ready = λ more. c.load.ensures.ready (omega (arith, more, c.requires.frames, ap (λ (h : Held). length h.ready) same)) ∙ same;
     }
 
 pub returns-in_err-give_piece-clause-part : goal.returns-in_err-give_piece-clause-part
@@ -49,9 +58,13 @@ returns-in_err-give_piece-clause-part g c =
     let strip = c.load.new.self in
     let inside : n < length ready = omega (arith, c.requires.frames) in
     let is : length ready - suc back ≡ n = omega (arith, c.requires.frames) in
+    let frame : strip.frame ≡ frame_back ready back = c.load.ensures.frame ∙ ap (λ (h : Held). frame_back h.ready back) (inv.ready (omega arith)) in
     on_err_from _ c.from_residual.result
     (far_gives_part s (λ j. map Frame (take n ready)) (λ j. Frame (frame_back ready back) ∷ []) (λ j. map Frame ready) _ _ _ _ _ (λ j. frames_begin ready n back inside is) inv.given
-    (far_part_same s (λ j. piece_of strip.gap strip.frame ∷ []) (λ j. Frame (frame_back ready back) ∷ []) _ _ _ (λ j lt. piece_frame strip.gap strip.frame (frame_back ready back) c.load.ensures.gap c.load.ensures.frame) c.in_err-give_piece.ensures.part))
+    (far_part_same s (λ j. piece_of strip.gap strip.frame ∷ []) (λ j. Frame (frame_back ready back) ∷ []) _ _ _ (λ j lt. piece_frame strip.gap strip.frame (frame_back ready back) c.load.ensures.gap frame) c.in_err-give_piece.ensures.part))
+
+pub returns-in_err-give_piece-clause-aligner : goal.returns-in_err-give_piece-clause-aligner
+returns-in_err-give_piece-clause-aligner g c = c.load.ensures.aligner ∙ ap (λ (h : Held). record h { ready = c.load.new.aligner.ready }) (c.loop-done.invariant.ready (omega arith))
 
 pub returns-in_err-give_piece-clause-same : goal.returns-in_err-give_piece-clause-same
 returns-in_err-give_piece-clause-same g c = c.in_err-give_piece.ensures.same ∙ c.loop-done.invariant.given.same

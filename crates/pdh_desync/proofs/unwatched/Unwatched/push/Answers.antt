@@ -3,7 +3,7 @@ use Rattle.std.proofs.lemmas.Result.{on_ok_weaker, on_err_weaker}
 use Rattle.pdh_rx.proofs.NodeSteps.{gap_inside}
 use Rattle.pdh_desync.specs.States.{FarState}
 use Rattle.pdh_desync.specs.FarNode.{IsReady}
-use Rattle.pdh_desync.proofs.SmoothSteps.{stores_ready, push_stands, push_gains, push_part}
+use Rattle.pdh_desync.proofs.SmoothSteps.{stores_ready, push_stands, smooth_taken, push_gains, push_part}
 use Rattle.pdh_desync.proofs.unwatched.Unwatched.push.Goals as goal
 
 pub give_step-requires-clause-ready : goal.give_step-requires-clause-ready
@@ -16,7 +16,7 @@ returns-clause-taken g c =
     let s = g.S.Shape.shape in
     let shape = g.met.S.Shape.is_frame in
     rw (← c.self.view_is) (on_ok_weaker c.give_step.result (λ p. record {
-      stands = λ line st. push_stands s shape _ _ c.push-step.result c.args.bit line st (c.push-step.ensures.tracks line st.node.aligner) c.gap_after-self-inside.result c.gap_after-self-inside.ensures _ _ _ _ c.frames_after-self-inside.ensures p;
+      stands = λ line st. smooth_taken s _ _ _ c.give_step.ensures.aligner (push_stands s shape _ _ c.push-step.result c.args.bit line st (c.push-step.ensures.tracks line st.node.aligner) c.gap_after-self-inside.result c.gap_after-self-inside.ensures _ _ _ _ c.frames_after-self-inside.ensures p);
       gains = λ line st. push_gains s shape _ _ c.push-step.result c.args.bit line st (c.push-step.ensures.tracks line st.node.aligner) c.gap_after-self-inside.result c.gap_after-self-inside.ensures _ _ _ p;
     }) c.give_step.ensures.given)
 

@@ -6,6 +6,7 @@ use Rattle.pdh_packed.proofs.GainingLaws.{gained_is, grown_by}
 use Rattle.pdh_edge.specs.Ports.{Takes, for_leaf}
 use Rattle.pdh_edge.specs.MemLists.{rest_of, inputs_of}
 use Rattle.pdh_edge.proofs.ListSteps.{within_lists, takes_front}
+use Rattle.pdh_edge.proofs.Waits.{gives_all, none_left}
 use Rattle.pdh_edge.proofs.mem_port.MemPortFeed.bits.Goals as goal
 
 pub returns-then-list-len-clause-grown : goal.returns-then-list-len-clause-grown
@@ -31,3 +32,16 @@ returns-then-list-len-clause-ok c =
     let P : List (List Bool) → Type 0 = λ l. Takes (for_leaf c.args.leaf (gained c.args.into.now c.append_from.new.self)) (inputs_of (map rest_of inputs)) (inputs_of l) in
     subst P (sym (map-set rest_of inputs c.args.leaf _ ∙ ap (slice_set (map rest_of inputs) c.args.leaf) (sym rest)))
     (subst (λ bits. Takes (for_leaf c.args.leaf bits) (inputs_of (map rest_of inputs)) (inputs_of (slice_set (map rest_of inputs) c.args.leaf (drop n xs)))) (sym got) takes)
+
+pub returns-then-list-len-clause-waits : goal.returns-then-list-len-clause-waits
+returns-then-list-len-clause-waits c = gives_all c.args.leaf (gained c.args.into.now c.append_from.new.self) (returns-then-list-len-clause-ok c)
+
+pub returns-clause-ended : goal.returns-clause-ended
+returns-clause-ended c =
+    let list = c.index_mut-list.result.now in
+    let inputs = c.args.self.now.inputs.items in
+    let at : slice_get inputs c.args.leaf ≡ Some list = slice_get_read _ _ c.args.leaf _ refl (within_lists rest_of inputs c.args.leaf c.requires.held) c.index_mut-list.ensures.value in
+    λ ended. none_left inputs c.args.leaf list at (omega (arith, c.if-list-len.false, c.len.ensures.count))
+
+pub returns-clause-sure : goal.returns-clause-sure
+returns-clause-sure c = λ some. let none = returns-clause-ended c refl in absurd (omega (arith, none, some))

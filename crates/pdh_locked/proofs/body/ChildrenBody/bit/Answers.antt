@@ -1,6 +1,7 @@
-use Rattle.std.proofs.Common.{rules, ◌≡◌, ℕ, Err, map, sym, arith}
+use Rattle.std.proofs.Common.{rules, ◌≡◌, ℕ, [], Err, map, sym, ap, ◌∙◌, arith}
 use Rattle.std.proofs.lemmas.Result.{IfOk-weaker, IfErr-weaker}
 use Rattle.pdh_tx.specs.Meaning.{plan_in}
+use Rattle.pdh_tx.specs.Node.{overhead_bit}
 use Rattle.pdh_tx.specs.declared.tx.TxStop.{TxStop}
 use Rattle.pdh_tx.specs.declared.tx.TxStop.TheVariants.{NoFrame, LogFailed}
 use Rattle.pdh_tx.proofs.Gaining.{if_err_from}
@@ -42,7 +43,7 @@ returns-in-None-clause-made g c =
     let reads = sym c.in-None.ensures.carried in
     record {
       gives = bit_none g.C.Tx s c.args.path plan c.args.self.now.list.items c.args.frame c.args.slot c.args.say.now c.args.odd _ _ c.args.self.now.locked reads
-          c.in_ok-begin.ensures.scheduled c.in_ok-begin.ensures.bounded c.requires.placed.made c.overhead_of.ensures;
+          c.in_ok-begin.ensures.scheduled c.in_ok-begin.ensures.bounded c.requires.placed.made (c.overhead_of.ensures ∙ ap (overhead_bit s c.args.say.now c.args.odd []) c.role.ensures);
       free = λ size fit. none_free s c.args.path plan _ size c.args.frame c.args.slot c.in_ok-begin.ensures.free (read_none (s.role c.args.slot) reads);
     }
 

@@ -1,4 +1,4 @@
-use Rattle.std.proofs.Common.{◌≡◌, ℕ, ◌+◌, ◌-◌, ◌*◌, ◌/◌, ◌%◌, ◌^◌, ◌<◌, ◌++◌, [], Bool, List, length, bit_and, ap, sym, ◌∙◌, arith}
+use Rattle.std.proofs.Common.{◌≡◌, ℕ, ◌-◌, ◌*◌, ◌%◌, ◌^◌, ◌<◌, ◌++◌, [], Bool, List, length, bit_and, ap, sym, ◌∙◌, arith}
 use Rattle.std.proofs.lemmas.List.{nil_from_length, append-nil}
 use Rattle.std.proofs.lemmas.Nat.{one_shl, pow_pos}
 use Rattle.pdh_packed.specs.Words.{low_bits}
@@ -24,12 +24,10 @@ overflow_sub-self c =
 pub returns-clause-bits : goal.returns-clause-bits
 returns-clause-bits c =
     let tail = c.args.self.now in
-    let t = c.self.inside.number in
     let h = c.self.inside.count in
     let n = c.args.number in
-    let long : length tail ≡ h = ap length (sym c.self.view_is) ∙ length-low_bits h t in
-    let some : 0 < h = omega (arith, c.if-held-eq0.false) in
+    let x = c.filled-full.result in
+    let long : length tail ≡ h = ap length (sym c.self.view_is) ∙ length-low_bits h c.self.inside.number in
     let few : h < 64 = omega (arith, long, c.requires) in
-    let x : ℕ = (t * 2 ^ (64 - h) % 2 ^ 64 + n / 2 ^ h) % 2 ^ 64 in
-    let rest : low_bits h (bit_and n (1 * 2 ^ h % 2 ^ 64 - 1)) ≡ low_bits h n = ap (low_bits h) (low_mask n h few) ∙ low_bits-mod h n in
-    ap (λ (bits : List Bool). low_bits 64 x ++ bits) rest ∙ whole_filled tail t n h some few c.ranges.number.fits c.self.view_is
+    let rest : low_bits h (bit_and n (1 * 2 ^ h % 2 ^ 64 - 1)) ≡ low_bits (length tail) n = ap (low_bits h) (low_mask n h few) ∙ low_bits-mod h n ∙ ap (λ (k : ℕ). low_bits k n) (sym long) in
+    ap (λ (bits : List Bool). low_bits 64 x ++ bits) rest ∙ whole_filled tail x n c.requires c.filled-full.ensures

@@ -4,6 +4,7 @@ use Rattle.pdh_packed.specs.Gaining.{gained}
 use Rattle.pdh_packed.proofs.GainingLaws.{gained_is, grown_by}
 use Rattle.pdh_edge.specs.Ports.{Takes, for_leaf}
 use Rattle.pdh_edge.proofs.ListSteps.{within_lists}
+use Rattle.pdh_edge.proofs.Waits.{gives_all}
 use Rattle.pdh_patterns.specs.Pattern.{bits_from}
 use Rattle.pdh_patterns.specs.Patterns.{rest_of, pattern_inputs}
 use Rattle.pdh_patterns.specs.declared.patterns.LeafPattern.{LeafPattern}
@@ -24,3 +25,6 @@ returns-clause-ok c =
 
 pub returns-clause-grown : goal.returns-clause-grown
 returns-clause-grown c = grown_by c.args.into.now c.append.new.self c.word.result c.min-count.result c.append.ensures c.word.ensures.count
+
+pub returns-clause-waits : goal.returns-clause-waits
+returns-clause-waits c = gives_all c.args.leaf (gained c.args.into.now c.append.new.self) (returns-clause-ok c)

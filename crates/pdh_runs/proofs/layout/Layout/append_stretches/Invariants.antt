@@ -8,7 +8,7 @@ abbrev pub invariant-loop-slot : goal.invariant-loop-slot
 invariant-loop-slot g l = record {
   begun : l.first ≤ l.slot;
   within : l.slot ≤ l.first + l.len;
-  bits : l.into ≡ bounded l.initial.into.capacity (l.initial.into.bits ++ slot_bits g.S.Shape.shape l.first l.skipped l.payload.bits l.overhead.bits (l.slot - l.first));
+  bits : bounded l.into.capacity (l.into.bits ++ l.held) ≡ bounded l.initial.into.capacity (l.initial.into.bits ++ slot_bits g.S.Shape.shape l.first l.skipped l.payload.bits l.overhead.bits (l.slot - l.first));
 }
 
 abbrev pub decreases-loop-slot : goal.decreases-loop-slot

@@ -1,7 +1,5 @@
-use Rattle.std.proofs.Common.{◌≡◌, ◌<◌, ◌≤◌, ◌+◌, ◌-◌, ℕ, suc, Bool, true, false, cond, nat_lt, List, length, sym, ap, ◌∙◌, refl, inl, inr, arith}
-use Rattle.std.proofs.lemmas.Bool.{cases_Bool}
-use Rattle.pdh_shape.specs.Frame.{FrameShape}
-use Rattle.pdh_shape.specs.Tributary.{carries_more, stripped}
+use Rattle.std.proofs.Common.{◌≡◌, ◌<◌, ◌≤◌, suc, Bool, cond, length, sym, ap, ◌∙◌, arith}
+use Rattle.pdh_shape.specs.Tributary.{carries_more}
 use Rattle.std.proofs.lemmas.Bool.{lt-ltb}
 use Rattle.pdh_runs.proofs.TakingLaws.{length-stripped, few_bits, both_same, later_turn}
 use Rattle.pdh_runs.proofs.parts.Parts.turn.Goals as goal

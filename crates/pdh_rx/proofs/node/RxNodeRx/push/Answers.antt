@@ -4,7 +4,7 @@ use Rattle.pdh_line.specs.Tracking.{track}
 use Rattle.pdh_rx.specs.Node.{received_lines, node_meaning}
 use Rattle.pdh_rx.specs.laws.NodeLaws.{all_sound}
 use Rattle.pdh_rx.proofs.Gains.{on_ok_both, on_ok_each, on_err_each}
-use Rattle.pdh_rx.proofs.NodePlays.{node_stands, told_gains, told_part, told_sees, told_sees_part}
+use Rattle.pdh_rx.proofs.NodePlays.{node_stands, stands_taken, told_gains, told_part, told_sees, told_sees_part}
 use Rattle.pdh_rx.proofs.node.RxNodeRx.push.Goals as goal
 
 pub act-requires-clause-told : goal.act-requires-clause-told
@@ -18,8 +18,8 @@ returns-clause-stands g c =
     on_ok_each _ c.act.result (λ line told.
     let acted = c.act.ensures.acted (track g.S.Shape.shape line) told.remembers in
     on_ok_weaker c.act.result (λ both.
-    node_stands g.W.Watch.saw g.met.W.Watch.saw_join c.args.self.now.path g.met.S.Shape.is_frame told (c.push-step.ensures.tracks line told.node.aligner) c.gap_after-self.ensures _ _ _ (c.note.ensures.seen line told.ones_are)
-    _ _ _ _ _ _ _ _ c.frames_after-self.ensures c.judged_after-self.ensures c.saturating_add-self.ensures c.note.ensures.long (c.note.ensures.counts line told.ones_are) (both.1 (track g.S.Shape.shape line) told.remembers) acted.kept.same both.0)
+    stands_taken g.C.Rx.stands g.C.Rx.meaning g.S.Shape.shape _ _ _ _ _ _ _ _ _ _ c.act.ensures.aligner (node_stands g.W.Watch.saw g.met.W.Watch.saw_join c.args.self.now.path g.met.S.Shape.is_frame told (c.push-step.ensures.tracks line told.node.aligner) c.gap_after-self.ensures _ _ _ (c.note.ensures.seen line told.ones_are)
+    _ _ _ _ _ _ _ _ c.frames_after-self.ensures c.judged_after-self.ensures c.saturating_add-self.ensures c.note.ensures.long (c.note.ensures.counts line told.ones_are) (both.1 (track g.S.Shape.shape line) told.remembers) acted.kept.same both.0))
     (on_ok_both _ _ c.act.result acted.played c.act.ensures.remembers))
 
 pub returns-clause-put : goal.returns-clause-put

@@ -22,13 +22,8 @@ loop-made-init g c =
       makes = λ x was. made_none _ _ _ _ x (x + 0) (gained c.args.into.now c.args.into.now) _ (omega arith) (gained_none c.args.into.now) was;
     }
 
-pub overflow_sub-rest : goal.overflow_sub-rest
-overflow_sub-rest g c =
-    let here = c.loop-made.invariant.makes c.requires.clear.0 c.requires.clear.1 in
-    omega (arith, here.place.inside, c.LEN.ensures, g.met.S.Shape.len_is)
-
-pub piece-requires-clause-fed : goal.piece-requires-clause-fed
-piece-requires-clause-fed g c =
+pub batch-requires-clause-fed : goal.batch-requires-clause-fed
+batch-requires-clause-fed g c =
     let inv = c.loop-made.invariant in
     let self = c.loop-made.self in
     let P : (ℕ → Bool) → ℕ → Type 0 = λ holds k. IsTrue (holds k) in
@@ -36,16 +31,14 @@ piece-requires-clause-fed g c =
     (λ k leaf. subst (λ (holds : ℕ → Bool). P holds k) (sym (g.met.F.Feed.fed_holds c.args.feed.now c.loop-made.feed inv.fed)) (c.requires.fed.lists k (subst (λ (m : Meaning). IsTrue (m.leaves k)) inv.same leaf)))
     (subst (λ (m : Meaning). All (IsNodeOf c.args.clock.now.levels) m.nodes) (sym inv.same) c.requires.fed.nodes)
 
-pub piece-requires-clause-piece : goal.piece-requires-clause-piece
-piece-requires-clause-piece g c =
-    let here = c.loop-made.invariant.makes c.requires.clear.0 c.requires.clear.1 in
-    record {
-      some = omega (arith, here.place.inside, c.min-len.ensures, c.LEN.ensures, g.met.S.Shape.len_is, c.loop-made-test.true);
-      inside = omega (arith, here.place.inside, c.min-len.ensures, c.LEN.ensures, g.met.S.Shape.len_is);
-    }
+pub batch-requires-clause-few : goal.batch-requires-clause-few
+batch-requires-clause-few g c = record {
+  some = omega (arith, c.min-len.ensures, c.LEN.ensures, g.met.S.Shape.len_is, g.met.S.Shape.is_frame.some_slots, c.loop-made-test.true);
+  few = omega (arith, c.min-len.ensures, c.LEN.ensures);
+}
 
-pub piece-requires-clause-clear : goal.piece-requires-clause-clear
-piece-requires-clause-clear g c =
+pub batch-requires-clause-clear : goal.batch-requires-clause-clear
+batch-requires-clause-clear g c =
     let inv = c.loop-made.invariant in
     let made : ℕ = c.requires.clear.0 + c.loop-made.made in
     let here = inv.makes c.requires.clear.0 c.requires.clear.1 in
@@ -60,13 +53,12 @@ returns-in-Err-clause-halts g c x was =
     (λ n k. g.met.B.Body.grows c.args.self.now.body c.args.self.now.path (plan_in c.args.clock.now g.G.SlipLog.takes) n k) before (c.in-Err.ensures.halts made before.place)
 
 pub returns-in-Err-clause-told : goal.returns-in-Err-clause-told
-returns-in-Err-clause-told g c = all_join g.G.SlipLog (record { nothing = g.met.G.SlipLog.logged_nothing; joins = g.met.G.SlipLog.logged_join; breaks = g.met.G.SlipLog.broken_join }) _ _ _ [] [] c.loop-made.invariant.told c.piece.ensures.told
+returns-in-Err-clause-told g c = all_join g.G.SlipLog (record { nothing = g.met.G.SlipLog.logged_nothing; joins = g.met.G.SlipLog.logged_join; breaks = g.met.G.SlipLog.broken_join }) _ _ _ [] [] c.loop-made.invariant.told c.batch.ensures.told
 
 pub loop-made-smaller : goal.loop-made-smaller
 loop-made-smaller g c =
     let inv = c.loop-made.invariant in
-    let here = inv.makes c.requires.clear.0 c.requires.clear.1 in
-    let some : 0 < c.min-len.result = omega (arith, here.place.inside, c.min-len.ensures, c.LEN.ensures, g.met.S.Shape.len_is, c.loop-made-test.true) in
+    let some : 0 < c.min-len.result = omega (arith, c.min-len.ensures, c.LEN.ensures, g.met.S.Shape.len_is, g.met.S.Shape.is_frame.some_slots, c.loop-made-test.true) in
     omega (arith, some, inv.upto, c.min-len.ensures)
 
 pub loop-made-preserved : goal.loop-made-preserved
@@ -74,17 +66,17 @@ loop-made-preserved g c =
     let inv = c.loop-made.invariant in
     let old = c.args.into.now in
     let mid = c.loop-made.into in
-    let new = c.piece.new.into in
+    let new = c.batch.new.into in
     let ok = c.in-Ok.ensures in
     record {
       upto = omega (arith, inv.upto, c.min-len.ensures);
       grown = grown_then old mid new c.loop-made.made c.min-len.result inv.grown ok.appended.grown;
-      running = c.piece.ensures.running ∙ inv.running;
-      same = c.piece.ensures.kept.same ∙ inv.same;
-      same_says = c.piece.ensures.kept.same_says ∙ inv.same_says;
+      running = c.batch.ensures.running ∙ inv.running;
+      same = c.batch.ensures.kept.same ∙ inv.same;
+      same_says = c.batch.ensures.kept.same_says ∙ inv.same_says;
       unfailed = ok.fed.cause ∙ inv.unfailed;
-      fed = g.met.F.Feed.fed_join _ _ _ inv.fed c.piece.ensures.fed.fed;
-      told = all_join g.G.SlipLog (record { nothing = g.met.G.SlipLog.logged_nothing; joins = g.met.G.SlipLog.logged_join; breaks = g.met.G.SlipLog.broken_join }) _ _ _ [] [] inv.told c.piece.ensures.told;
+      fed = g.met.F.Feed.fed_join _ _ _ inv.fed c.batch.ensures.fed.fed;
+      told = all_join g.G.SlipLog (record { nothing = g.met.G.SlipLog.logged_nothing; joins = g.met.G.SlipLog.logged_join; breaks = g.met.G.SlipLog.broken_join }) _ _ _ [] [] inv.told c.batch.ensures.told;
       makes = λ x was.
           let before = inv.makes x was in
           all_more _ _ _ _ _ _ _ _ x (x + c.loop-made.made) (x + c.loop-made.made + c.min-len.result) (x + (c.loop-made.made + c.min-len.result)) (gained old mid) (gained mid new) _ _ _ _ inv.same inv.same_says (omega arith)

@@ -15,4 +15,6 @@ invariant_of-result g c =
       stores = ne_eqb g.S.Shape.shape.copies 0 (λ z. absurd (omega (arith, z, c.requires.stores, g.met.S.Shape.copies_is)));
       disjoint = subst IsDisjoint (sym (meanings g.C.Tx ws ∙ ap (map g.C.Tx.meaning) children)) c.requires.disjoint;
       room = c.in_ok-scratch.ensures;
+      queue_count = c.in_ok-queues.ensures.count;
+      queue_room = c.in_ok-queues.ensures.room;
     }

@@ -7,7 +7,7 @@ use Rattle.pdh_tx.specs.Held.{stops, slips, slip_if}
 use Rattle.pdh_tx.specs.Meaning.{faults_met}
 use Rattle.pdh_tx.specs.Tributary.{placed_in, held_in, meaning_in, share_in}
 use Rattle.pdh_tx.specs.Tributaries.{GiveNext}
-use Rattle.pdh_tx.specs.Node.{below, line_of, place_at, read_slips, source_of}
+use Rattle.pdh_tx.specs.Node.{below, line_of, overhead_bit, place_at, read_slips, source_of}
 use Rattle.pdh_tx.proofs.Reading.{carried_some, carried_none, overhead_is, read_is, bit_is, read_same, read_set, no_read, none_told, one_told, read_free, read_stop}
 use Rattle.pdh_tx.proofs.Storing.{on_ok_if}
 use Rattle.pdh_tx.proofs.Telling.{tells_ok, tells_same, all_none, not_log_failed}
@@ -145,7 +145,7 @@ returns-in-None-clause-bit g c supply is arrived decided said parity each =
     let long : length ws ≡ s.tribs = c.args.self.now.count ∙ sym g.met.S.Shape.tribs_is in
     let within : t < s.len = omega (arith, c.requires, g.met.S.Shape.len_is) in
     let none = carried_none share_in s g.met.S.Shape.has_tributaries c.args.path supply.plan n ws long decided t (s.role t) within refl (sym c.in-None.ensures.carried) in (
-      c.overhead_of.ensures ∙ overhead_is share_in s g.met.S.Shape.has_tributaries c.args.path supply.plan n ws long decided (map (meaning_in g.C.Tx) ws) supply.lists supply.says c.args.say.now c.args.odd t (s.role t) within refl (sym c.in-None.ensures.carried) said parity,
+      c.overhead_of.ensures ∙ ap (overhead_bit s c.args.say.now c.args.odd (map share_in ws)) c.role.ensures ∙ overhead_is share_in s g.met.S.Shape.has_tributaries c.args.path supply.plan n ws long decided (map (meaning_in g.C.Tx) ws) supply.lists supply.says c.args.say.now c.args.odd t (s.role t) within refl (sym c.in-None.ensures.carried) said parity,
       λ j w e. subst (held_in g.C.Tx w (below supply) (came_before s (supply.plan.counts c.args.path j) n (suc t))) (read_same s g.met.S.Shape.is_frame c.args.self.now.stores c.args.path supply.plan n t none j) (each j w e),
     )
 

@@ -35,33 +35,17 @@ stays_inside-requires-clause-in_range g c = stored _ _ _ _ c.requires.trib g.met
 pub stays_inside-requires-clause-scheduled : goal.stays_inside-requires-clause-scheduled
 stays_inside-requires-clause-scheduled g c = c.requires.next.scheduled
 
-pub taken-before-requires-clause-in_range : goal.taken-before-requires-clause-in_range
-taken-before-requires-clause-in_range g c = stored _ _ _ _ c.requires.trib g.met.S.Shape.tribs_is (node_stores g.S.Shape.shape c.args.next.path c.args.clock.now.levels c.requires.stores c.requires.next.node)
+pub arriving-arriving-requires-clause-in_range : goal.arriving-arriving-requires-clause-in_range
+arriving-arriving-requires-clause-in_range g c = stored _ _ _ _ c.requires.trib g.met.S.Shape.tribs_is (node_stores g.S.Shape.shape c.args.next.path c.args.clock.now.levels c.requires.stores c.requires.next.node)
 
-pub taken-behind-requires-clause-in_range : goal.taken-behind-requires-clause-in_range
-taken-behind-requires-clause-in_range g c = stored _ _ _ _ c.requires.trib g.met.S.Shape.tribs_is (node_stores g.S.Shape.shape c.args.next.path c.args.clock.now.levels c.requires.stores c.requires.next.node)
+-- the bits up to the last one are scheduled
+scheduled : (end frames most len LEN : ℕ) → end ≤ frames * len → frames ≤ most → LEN ≡ len → end ≤ most * LEN
+scheduled end frames most len LEN last all is = omega (arith, last, mul-le-mul_right len all, ap (λ n. most * n) is)
 
--- bits up to the last one are scheduled
-scheduled : (bits end frames most len LEN : ℕ) → bits ≤ end → end ≤ frames * len → frames ≤ most → LEN ≡ len → bits ≤ most * LEN
-scheduled bits end frames most len LEN upto last all is = omega (arith, upto, last, mul-le-mul_right len all, ap (λ n. most * n) is)
-
-pub taken-before-requires-clause-scheduled : goal.taken-before-requires-clause-scheduled
-taken-before-requires-clause-scheduled g c =
+pub arriving-arriving-requires-clause-scheduled : goal.arriving-arriving-requires-clause-scheduled
+arriving-arriving-requires-clause-scheduled g c =
     let next = c.requires.next in
-    scheduled _ _ _ _ _ _ next.longer next.last next.scheduled (node_len g.S.Shape.shape c.args.next.path c.args.clock.now.levels c.requires.stores next.node)
-
-pub taken-behind-requires-clause-scheduled : goal.taken-behind-requires-clause-scheduled
-taken-behind-requires-clause-scheduled g c =
-    let next = c.requires.next in
-    scheduled _ _ _ _ _ _ (omega arith) next.last next.scheduled (node_len g.S.Shape.shape c.args.next.path c.args.clock.now.levels c.requires.stores next.node)
-
-pub overflow_sub-behind : goal.overflow_sub-behind
-overflow_sub-behind g c =
-    let is = c.requires.next in
-    let next = c.args.next in
-    let takes = node_takes g.S.Shape.shape next.path c.args.clock.now.levels c.requires.stores is.node (plan_in c.args.clock.now g.G.SlipLog.takes) c.args.trib next.frame next.slot next.made next.end c.taken-before.result c.taken-behind.result
-    g.met.S.Shape.is_frame is.first is.inside is.longer (c.taken-before.ensures is.node.level is.node.at) (c.taken-behind.ensures is.node.level is.node.at) in
-    takes.grows
+    scheduled _ _ _ _ _ next.last next.scheduled (node_len g.S.Shape.shape c.args.next.path c.args.clock.now.levels c.requires.stores next.node)
 
 pub quiet-requires-clause-stands : goal.quiet-requires-clause-stands
 quiet-requires-clause-stands g c = (_, c.requires.stands.placed.place)
@@ -79,8 +63,7 @@ returns g c = λ yes.
     let frames : ℕ = next.end_frame - next.frame in
     let inside : StaysInside s.low counts next.frame fill frames =
     subst (λ (low : ℕ). StaysInside low counts next.frame fill frames) (node_low s next.path c.args.clock.now.levels c.requires.stores is.node) (c.stays_inside.ensures c.if-not-stays_inside.false) in
-    let took = node_takes s next.path c.args.clock.now.levels c.requires.stores is.node plan c.args.trib next.frame next.slot next.made next.end c.taken-before.result c.taken-behind.result
-    laws.is_frame is.first is.inside is.longer (c.taken-before.ensures is.node.level is.node.at) (c.taken-behind.ensures is.node.level is.node.at) in
+    let took = node_takes s next.path c.args.clock.now.levels c.requires.stores is.node plan c.args.trib next.frame next.slot next.made next.end c.arriving-arriving.result is.first is.inside (c.arriving-arriving.ensures is.node.level is.node.at) in
     record {
       events = λ m u slot from to.
           let upto : m < next.end_frame = lt_of_mul m next.end_frame s.len (omega (arith, to, is.last)) in
@@ -88,7 +71,7 @@ returns g c = λ yes.
           let held : HoldsFrom plan.mode s c.args.trib counts next.frame next.slot fill = c.start_fill-fill.ensures plan c.requires.stands (omega (arith, first_inside s.low counts next.frame fill frames inside (omega (arith, upto, later)))) in
           calm s c.args.trib counts laws.is_frame laws.has_tributaries c.requires.stores laws.reads_evenly known plan.mode (steps_of next.path) next.frame next.slot fill frames m u is.inside held inside (omega (arith, later)) (omega (arith, upto, later)) slot (omega (arith, from, is.first));
       free =
-          let all : taken_to s next.path plan next.frame next.slot c.args.trib + c.quiet.result ≡ taken s counts next.end = omega (arith, eqb-true _ _ yes, c.in-Ok.ensures, took.now, took.then_is, took.grows) in
+          let all : taken_to s next.path plan next.frame next.slot c.args.trib + c.quiet.result ≡ taken s counts next.end = omega (arith, eqb-true _ _ yes, c.in-Ok.ensures, took) in
           subst (λ (n : ℕ). IsUneventful (meaning_in g.C.Tx c.args.self.now) plan (taken_to s next.path plan next.frame next.slot c.args.trib) n (g.F.Feed.inputs c.args.feed.now)) all
           (c.quiet.ensures.free _ c.requires.stands.placed.place);
     }

@@ -1,7 +1,0 @@
-use Rattle.std.proofs.Common.{ap}
-use Rattle.pdh_rx.specs.Meaning.{Meaning}
-use Rattle.pdh_tests_of_frames.proofs.FourTails.{lists_for_all}
-use Rattle.pdh_tests_of_frames.proofs.rx.counted.Goals as goal
-
-pub take_watched-requires-clause-lists : goal.take_watched-requires-clause-lists
-take_watched-requires-clause-lists c = lists_for_all _ _ (ap (λ (m : Meaning). m.leaves) c.in_ok-node.ensures.meaning) c.in_ok-port.ensures

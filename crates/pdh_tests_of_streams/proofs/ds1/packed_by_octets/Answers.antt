@@ -1,0 +1,8 @@
+use Rattle.std.proofs.Common.{ap, ◌∙◌}
+use Rattle.pdh_tests_of_streams.proofs.ds1.packed_by_octets.Goals as goal
+
+pub loop-place-preserved : goal.loop-place-preserved
+loop-place-preserved c = record {
+  stands = c.in_ok-pack_next.ensures.stands;
+  list = ap (λ h. h 0) c.pack_next.ensures.holds ∙ c.loop-place.invariant.list;
+}

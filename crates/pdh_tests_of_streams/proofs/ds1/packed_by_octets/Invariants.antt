@@ -1,0 +1,10 @@
+use Rattle.std.proofs.Common.{Bool, List, IsTrue}
+use Rattle.pdh_edge.specs.MemLists.{mem_outputs}
+use Rattle.pdh_ds1.specs.View.{PacksFor}
+use Rattle.pdh_tests_of_streams.proofs.ds1.packed_by_octets.Given as goal
+
+abbrev pub invariant-loop-place : goal.invariant-loop-place
+invariant-loop-place l = record {
+  stands : (payload : List Bool) × PacksFor l.packer payload;
+  list : IsTrue ((mem_outputs l.port.outputs.items).holds 0);
+}
