@@ -7,6 +7,7 @@ ghost use Rattle.pdh_folder.specs.Untold.{untold_files, folder_state, CountsSize
 use crate::beside::{create, replace};
 use crate::open_files::{FileId, OpenFile, OpenFiles};
 use pdh_edge::{Failed, Shelf};
+use std::alloc::Global;
 use std::fs::{self, File, Metadata, OpenFile as _, OpenOptions};
 use std::io::{self, ErrorKind, Read, Seek, SeekFrom, Write};
 use std::rt::Files;
@@ -31,12 +32,12 @@ pub struct Folder<R: Files + Drop> {
 
 impl<R: Files + Drop> Folder<R> {
     /// No call has failed, and no file was missed.
-    pub fn new(rt: R) -> Folder<R>
+    pub fn new(alloc: Global, rt: R) -> Folder<R>
         ensures { folder_state result ≡ untold_files 0 0 0 }
     {
         Folder {
             rt,
-            open: OpenFiles::new(),
+            open: OpenFiles::new(alloc),
             read_faults: 0,
             write_faults: 0,
             misses: 0,

@@ -1,5 +1,9 @@
 //! Files that stay open between calls.
-use arrayvec::{ArrayString, ArrayVec};
+
+ghost use Rattle.std.specs.Prelude.{◌<◌, length, IfSome};
+
+use arrayvec::ArrayString;
+use std::alloc::Global;
 use std::fs::Metadata;
 use std::os::unix::fs::MetadataExt;
 
@@ -40,48 +44,46 @@ struct Entry<F: Drop> {
 }
 
 /// Files that stay open, to be read or to be appended to: the first 132 that are kept, of names of at
-/// most 32 bytes.
+/// most 32 bytes, as long as memory is found for them.
 #[derive(Drop)]
 pub(crate) struct OpenFiles<F: Drop> {
-    entries: ArrayVec<Option<Entry<F>>, MOST_FILES>,
+    entries: Vec<Entry<F>>,
 }
 
 impl<F: Drop> OpenFiles<F> {
     /// None.
-    pub(crate) fn new() -> OpenFiles<F> {
+    pub(crate) fn new(alloc: Global) -> OpenFiles<F> {
         OpenFiles {
-            entries: ArrayVec::new(),
+            entries: Vec::new(alloc),
         }
     }
 
     // Where the file of this name stands that is read, or the one that is appended to.
-    fn place(&self, name: &str, is_read: bool) -> Option<usize> {
-        for place in 0..self.entries.as_slice().len() {
-            if let Some(entry) = &self.entries.as_slice()[place] {
-                if entry.is_read == is_read && entry.name.as_str() == name {
-                    return Some(place);
-                }
-            }
-        }
-        None
+    fn place(&self, name: &str, is_read: bool) -> Option<usize>
+        ensures { IfSome result (λ place. place < length self.now.entries.items) }
+    {
+        self.entries.iter().position(|entry| entry.is_read == is_read
+            && entry.name.as_str() == name)
     }
 
     /// Takes out the file of this name that is read, or else the one that is appended to.
     pub(crate) fn take(&mut self, name: &str, is_read: bool) -> Option<OpenFile<F>> {
         let place = self.place(name, is_read)?;
-        let entry = self.entries.swap_pop(place)??;
-        Some(entry.open)
+        Some(self.entries.swap_remove(place).open)
     }
 
     /// Keeps a file open that is read, or else one that is appended to, where there is room for it and
     /// for its name; else it is closed.
     pub(crate) fn keep(&mut self, name: &str, is_read: bool, open: OpenFile<F>) {
+        if self.entries.len() >= MOST_FILES {
+            return;
+        }
         if let Ok(name) = ArrayString::from(name) {
-            let _ = self.entries.try_push(Some(Entry {
+            let _ = self.entries.push(Entry {
                 name,
                 is_read,
                 open,
-            }));
+            });
         }
     }
 
@@ -93,14 +95,8 @@ impl<F: Drop> OpenFiles<F> {
 
     /// Whether a file is one that is read by another name.
     pub(crate) fn is_read_as_another(&self, id: FileId, name: &str) -> bool {
-        for entry in self.entries.as_slice() {
-            if let Some(entry) = entry {
-                let is_same = entry.is_read && entry.open.id == Some(id);
-                if is_same && entry.name.as_str() != name {
-                    return true;
-                }
-            }
-        }
-        false
+        self.entries.iter().any(|entry| entry.is_read
+            && entry.open.id == Some(id)
+            && entry.name.as_str() != name)
     }
 }

@@ -73,7 +73,12 @@ pub fn pdh_main(rt: HostRuntime) -> ExitCode {
     let Ok(print) = rt.clone() else {
         return end(&rt, "memory", 1);
     };
-    let Ok(ran) = run_with_monitors(rt.alloc(), &words, Folder::new(files), Out::new(print)) else {
+    let Ok(ran) = run_with_monitors(
+        rt.alloc(),
+        &words,
+        Folder::new(rt.alloc(), files),
+        Out::new(print),
+    ) else {
         return end(&rt, "memory", 1);
     };
     ExitCode::from(ran.status)

@@ -1,5 +1,5 @@
 -- `muxslip` over a port: what was put, what was told, and how the command ends.
-use Rattle.std.proofs.Common.{◌≡◌, ◌≢◌, ℕ, ◌+◌, ◌^◌, ◌<◌, List, [], ◌++◌, length, None, Some, Ok, ap, sym, ◌∙◌, arith}
+use Rattle.std.proofs.Common.{◌≡◌, ◌≢◌, ℕ, ◌^◌, ◌<◌, List, [], ◌++◌, length, None, Some, Ok, ap, sym, ◌∙◌, arith}
 use Rattle.std.specs.Result.{result_unwrap_or}
 use Rattle.pdh_bits.specs.Bits.{bytes_of}
 use Rattle.pdh_edge.specs.Files.{ShelfState}

@@ -10,5 +10,5 @@ mod schedule;
 mod slipping;
 
 pub use drilling::drill;
-pub use muxing::mux;
-pub use slipping::muxslip;
+pub use muxing::Mux;
+pub use slipping::MuxSlip;

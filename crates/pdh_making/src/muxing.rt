@@ -1,35 +1,30 @@
 //! `mux`: a schedule and a file for each leaf to a line's file.
 
-ghost use Rattle.std.specs.Prelude.{if◌then◌else◌, ◌≡◌, ◌≢◌, ◌⊎◌, Bool, ℕ, [], ◌∷◌, ◌<◌, IfOk, OnOk, IfErr, IfSome, All, Option, map};
-ghost use Rattle.pdh_edge.specs.Files.{ShelfState, Looks};
-ghost use Rattle.pdh_blocks.specs.State.{over};
-ghost use Rattle.pdh_blocks.specs.Kept.{Keeps};
+ghost use Rattle.std.specs.Prelude.{if◌then◌else◌, ◌≡◌, ◌≢◌, ◌⊎◌, Bool, ℕ, [], ◌∷◌, ◌<◌, IfOk, OnOk, IfErr, IfSome, All};
+ghost use Rattle.pdh_edge.specs.Files.{Looks};
 ghost use Rattle.pdh_shape.specs.declared.place.Path.{Path};
 ghost use Rattle.pdh_shape.specs.declared.place.Place.{Place};
 ghost use Rattle.pdh_clock.specs.Contents.{IsRowOf};
 ghost use Rattle.pdh_chain.specs.Chains.{levels_of};
 ghost use Rattle.pdh_chain.specs.declared.stop.MuxStop.TheVariants.{Memory, Event, NoFrame, Ended as LeafEnded, ReadFailed, WriteFailed};
-ghost use Rattle.pdh_runner.specs.Running.{ComesOut, IsCountedBy};
 ghost use Rattle.pdh_runner.specs.declared.running.Outcome.TheVariants.{Whole, Memory as WantsMemory, Failed};
-ghost use Rattle.pdh_runner.specs.Performing.{Performs, IsCounted, IsWatched};
+ghost use Rattle.pdh_runner.specs.Performing.{IsCounted};
 ghost use Rattle.pdh_runner.specs.Refusing.{Refuses};
 ghost use Rattle.pdh_answers.specs.declared.answer.Stop.TheVariants.{Overflow, Underflow};
 ghost use Rattle.pdh_answers.specs.declared.file.File.TheVariants.{Line};
-ghost use Rattle.pdh_answers.specs.SlipLines.{log_state};
 ghost use Rattle.pdh_making.specs.MuxSteps.{AreSizes, AllHeld, AreEnough, IsEnoughStop, IsScheduled, IsPlanned, AreLeafInputs, CanMake, IsMuxPort};
 ghost use Rattle.pdh_making.specs.Mux.{Job, mux_says, muxing, making_line};
 ghost use Rattle.pdh_making.specs.Mux.Job.{Plainly};
 
 use crate::schedule::read_schedule;
-use pdh_answers::{Done, File, SinkLog, Stop, chain_counted, leaf_count};
+use pdh_answers::{Done, File, Stop, chain_counted, leaf_count};
 use pdh_blocks::ShelfPort;
 use pdh_chain::{Chain, MuxStop};
 use pdh_clock::Schedule;
-use pdh_edge::{Shelf, Sink};
+use pdh_edge::Shelf;
 use pdh_runner::files::size;
-use pdh_runner::{Ended, Input, Outcome, PortFiles, Work, Worked, run_over};
+use pdh_runner::{Input, Nobody, Outcome, PortCommand, PortFiles, Worked};
 use pdh_shape::{MOST_FRAMES, Place, TOP};
-use pdh_watch::Monitor;
 use std::alloc::{AllocError, Global};
 
 // The sizes of the inputs, in bytes. Where a chain has fewer leaves than 64, the rest is 0.
@@ -48,12 +43,15 @@ pub struct Plan {
     pub frames: u64,
 }
 
-// What is made: the chain's line by this plan, and the code that it sends.
+/// `mux` of the line of a chain: it reads the schedule and the leaves, makes the line, writes its whole frames up to the first event,
+/// and answers the number of frames. The line sends a code over the far end alarm and control channel of its top, where one is
+/// asked for.
 #[derive(Drop)]
-struct MuxPlan {
-    chain: Chain,
-    feac: Option<u8>,
-    plan: Plan,
+pub struct Mux {
+    /// The chain.
+    pub chain: Chain,
+    /// The code.
+    pub feac: Option<u8>,
 }
 
 // The sizes of the inputs, in order.
@@ -162,68 +160,46 @@ fn outcome_of(stop: MuxStop) -> Outcome
     }
 }
 
-impl MuxPlan {
+impl PortCommand<Nobody> for Mux {
+    type Plan = Plan;
+
+    ghost operation = { λ c. muxing c.chain c.feac };
+
+    ghost known = { λ c. IfSome c.feac (λ code. code < 64) };
+
+    ghost planned = { λ c plan state. IsPlanned c.chain plan state × IfSome c.feac (λ code. code < 64) };
+
+    ghost opened = { λ c plan port. CanMake c.chain c.feac plan port };
+
+    ghost gives = { λ c plan begun port. IsMuxPort c.chain (Plainly c.feac) plan.clock.rows begun port };
+
+    fn prepare<S: Shelf>(&self, alloc: Global, shelf: &mut S) -> Result<Plan, Stop> {
+        read_plan(alloc, self.chain, shelf)
+    }
+
+    fn files(&self, alloc: Global, plan: &Plan) -> Result<PortFiles, AllocError> {
+        port_files(alloc, self.chain, plan)
+    }
+
     // Makes the line into the port, whole frames up to the first event.
-    fn send<S: Shelf>(&self, alloc: Global, port: &mut ShelfPort<S>) -> Outcome
-        requires { CanMake self.now.chain self.now.feac self.now.plan (over (S.state port.old.shelf) port.old.blocks) }
-        ensures kept { Keeps (over (S.state port.old.shelf) port.old.blocks) (over (S.state port.new.shelf) port.new.blocks) }
-        ensures counted { IsCountedBy (over (S.state port.new.shelf) port.new.blocks) result }
-        ensures comes { (begun : ShelfState) → IsMuxPort self.now.chain (Plainly self.now.feac) self.now.plan.clock.rows begun (over (S.state port.old.shelf) port.old.blocks)
-            → ComesOut (muxing self.now.chain self.now.feac) begun (over (S.state port.old.shelf) port.old.blocks) (over (S.state port.new.shelf) port.new.blocks) result }
-    {
-        let frames = self.plan.frames;
-        match pdh_mux::mux(alloc, self.chain, &self.plan.clock, frames, self.feac, port) {
-            Ok(()) => Outcome::Whole(Ok(says(self.chain, frames))),
-            // The schedule and the leaves are long enough.
-            Err(stop) => outcome_of(stop),
-        }
-    }
-}
-
-impl Work for MuxPlan {
-    ghost operation = { λ p. muxing p.chain p.feac };
-
-    ghost planned = { λ p state. IsPlanned p.chain p.plan state × IfSome p.feac (λ code. code < 64) };
-
-    ghost opened = { λ p port. CanMake p.chain p.feac p.plan port };
-
-    ghost gives = { λ p begun port. IsMuxPort p.chain (Plainly p.feac) p.plan.clock.rows begun port };
-
-    fn files(&self, alloc: Global) -> Result<PortFiles, AllocError> {
-        port_files(alloc, self.chain, &self.plan)
-    }
-
-    fn work<S: Shelf, K: Sink>(
+    fn work<S: Shelf>(
         &self,
         alloc: Global,
+        plan: &Plan,
         mut port: ShelfPort<S>,
-        _monitors: &mut Vec<Box<dyn Monitor>>,
-        _log: &mut SinkLog<K>,
+        _nobody: &mut Nobody,
     ) -> Worked<S> {
-        let outcome = self.send(alloc, &mut port);
-        Worked { port, outcome }
-    }
-}
-
-/// Reads the schedule and the leaves, makes the line, writes its whole frames up to the first event,
-/// and answers the number of frames. The line sends a code over the far end alarm and control channel
-/// of its top, where one is asked for.
-pub fn mux<S: Shelf, K: Sink>(
-    alloc: Global,
-    chain: Chain,
-    feac: Option<u8>,
-    mut shelf: S,
-    monitors: &mut Vec<Box<dyn Monitor>>,
-    log: &mut SinkLog<K>,
-) -> Ended<S>
-    requires fresh { log.old.told ≡ 0 }
-    requires code { IfSome feac (λ code. code < 64) }
-    ensures performs { Performs (muxing chain feac) (S.state shelf) (S.state result.shelf) result.answer }
-    ensures watches { IsWatched (muxing chain feac) (S.state shelf) (S.state result.shelf) result.answer (map ⟦<Box<dyn Monitor> as Monitor>⟧.state monitors.old.items) (map ⟦<Box<dyn Monitor> as Monitor>⟧.state monitors.new.items) }
-    ensures hears { log_state (K.state log.new.out) log.new.told ≡ log_state (K.state log.old.out) log.old.told }
-{
-    match read_plan(alloc, chain, &mut shelf) {
-        Ok(plan) => run_over(alloc, &MuxPlan { chain, feac, plan }, shelf, monitors, log),
-        Err(stop) => Ended::new(shelf, Err(stop)),
+        let frames = plan.frames;
+        match pdh_mux::mux(alloc, self.chain, &plan.clock, frames, self.feac, &mut port) {
+            Ok(()) => Worked {
+                port,
+                outcome: Outcome::Whole(Ok(says(self.chain, frames))),
+            },
+            // The schedule and the leaves are long enough.
+            Err(stop) => Worked {
+                port,
+                outcome: outcome_of(stop),
+            },
+        }
     }
 }

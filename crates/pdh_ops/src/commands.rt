@@ -1,4 +1,5 @@
-//! The one place that tells the commands apart: each is a call of `pdh_making`, `pdh_recorded`, `pdh_linking` or `pdh_streams`.
+//! The one place that tells the commands apart: each is a record or a call of `pdh_making`, `pdh_recorded`, `pdh_linking` or
+//! `pdh_streams`.
 
 ghost use Rattle.std.specs.Prelude.{◌≡◌, map};
 ghost use Rattle.std.specs.String.{string_bytes};
@@ -9,10 +10,10 @@ ghost use Rattle.pdh_ops.specs.Run.{Does, Watches, Hears};
 use pdh_answers::{SinkLog, Stop};
 use pdh_edge::{Shelf, Sink};
 use pdh_linking::duplex;
-use pdh_making::{clock, drill, mux, muxslip};
-use pdh_recorded::{demux, disturb, inspect, show, smooth};
-use pdh_runner::Ended;
-use pdh_streams::{inspect_e1, pack_ds1, pack_e1, unpack_ds1, unpack_e1};
+use pdh_making::{Mux, MuxSlip, clock, drill};
+use pdh_recorded::{Demux, Disturb, Inspect, Show, Smooth};
+use pdh_runner::{Ended, Nobody, perform};
+use pdh_streams::{InspectE1, PackDs1, UnpackDs1, pack_e1, unpack_e1};
 use pdh_watch::Monitor;
 use pdh_words::{Command, command_for};
 use std::alloc::Global;
@@ -34,14 +35,29 @@ pub fn answer<S: Shelf, K: Sink>(
         return Ended::new(shelf, Err(Stop::Usage));
     };
     match command {
-        Command::Demux { chain, bits } => demux(alloc, chain, bits, shelf, monitors, log),
-        Command::Mux { chain, feac } => mux(alloc, chain, feac, shelf, monitors, log),
-        Command::MuxSlip { chain } => muxslip(alloc, chain, shelf, monitors, log),
-        Command::Inspect { chain, bits } => inspect(alloc, chain, bits, shelf, monitors, log),
-        Command::InspectE1 => inspect_e1(alloc, shelf, monitors, log),
-        Command::Show { chain, frame } => show(alloc, chain, frame, shelf, monitors, log),
-        Command::Smooth { chain } => smooth(alloc, chain, shelf, monitors, log),
-        Command::Disturb { chain } => disturb(alloc, chain, shelf, monitors, log),
+        Command::Demux { chain, bits } => perform(
+            alloc,
+            &Demux { chain, bits },
+            shelf,
+            &mut Nobody,
+        ),
+        Command::Mux { chain, feac } => perform(alloc, &Mux { chain, feac }, shelf, &mut Nobody),
+        Command::MuxSlip { chain } => perform(alloc, &MuxSlip { chain }, shelf, log),
+        Command::Inspect { chain, bits } => perform(
+            alloc,
+            &Inspect { chain, bits },
+            shelf,
+            monitors,
+        ),
+        Command::InspectE1 => perform(alloc, &InspectE1, shelf, monitors),
+        Command::Show { chain, frame } => perform(
+            alloc,
+            &Show { chain, frame },
+            shelf,
+            &mut Nobody,
+        ),
+        Command::Smooth { chain } => perform(alloc, &Smooth { chain }, shelf, &mut Nobody),
+        Command::Disturb { chain } => perform(alloc, &Disturb { chain }, shelf, &mut Nobody),
         Command::ClockCheck { chain } => {
             let answer = clock::check(alloc, chain, &mut shelf);
             Ended::new(shelf, answer)
@@ -62,8 +78,13 @@ pub fn answer<S: Shelf, K: Sink>(
             let answer = unpack_e1(alloc, &mut shelf);
             Ended::new(shelf, answer)
         }
-        Command::Ds1Pack { frame } => pack_ds1(alloc, frame, shelf, monitors, log),
-        Command::Ds1Unpack { frame } => unpack_ds1(alloc, frame, shelf, monitors, log),
+        Command::Ds1Pack { frame } => perform(alloc, &PackDs1 { form: frame }, shelf, &mut Nobody),
+        Command::Ds1Unpack { frame } => perform(
+            alloc,
+            &UnpackDs1 { form: frame },
+            shelf,
+            &mut Nobody,
+        ),
         Command::Drill {
             chain,
             seed,

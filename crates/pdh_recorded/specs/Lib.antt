@@ -6,4 +6,3 @@ pub mod DemuxSteps
 pub mod DisturbSteps
 pub mod ShowSteps
 pub mod SmoothSteps
-pub mod laws

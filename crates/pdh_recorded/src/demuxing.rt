@@ -1,32 +1,28 @@
 //! `demux`: a line's file to a file for each leaf.
 
-ghost use Rattle.std.specs.Prelude.{◌≡◌, ◌∷◌, [], map, IfOk};
-ghost use Rattle.pdh_edge.specs.Files.{ShelfState};
-ghost use Rattle.pdh_blocks.specs.State.{over};
-ghost use Rattle.pdh_blocks.specs.Kept.{Keeps};
+ghost use Rattle.std.specs.Prelude.{◌≡◌, ◌∷◌, [], IfOk};
 ghost use Rattle.pdh_answers.specs.Names.{line_file};
-ghost use Rattle.pdh_answers.specs.SlipLines.{log_state};
 ghost use Rattle.pdh_recorded.specs.Demux.{demux_says, demuxing};
-ghost use Rattle.pdh_runner.specs.Performing.{Performs, IsWatched};
-ghost use Rattle.pdh_runner.specs.Running.{ComesOut, IsCountedBy};
-ghost use Rattle.pdh_runner.specs.Lines.{IsLine};
 ghost use Rattle.pdh_recorded.specs.DemuxSteps.{AreLeafOutputs, CanReceive, IsDemuxPort};
+ghost use Rattle.pdh_runner.specs.Lines.{IsLine};
 
-use crate::apart::outcome_of;
-use pdh_answers::{Bits, Done, File, SinkLog, Stop, chain_counted, leaf_count};
+use crate::apart::{outcome_of, received};
+use pdh_answers::{Bits, Done, File, Stop, chain_counted, leaf_count};
 use pdh_blocks::ShelfPort;
 use pdh_chain::Chain;
-use pdh_edge::{Shelf, Sink};
-use pdh_runner::{Ended, Input, Outcome, PortFiles, Work, Worked, line_of, run_over};
-use pdh_watch::{Monitor, Quiet};
+use pdh_edge::Shelf;
+use pdh_runner::{Input, Nobody, PortCommand, PortFiles, Worked, line_of};
+use pdh_watch::Quiet;
 use std::alloc::{AllocError, Global};
 
-// The line that is taken apart.
+/// `demux` of the line of a chain: it reads the line, writes each leaf's bits, and answers the number of frames that were
+/// delivered, or that none was.
 #[derive(Drop)]
-struct DemuxPlan {
-    chain: Chain,
-    bits: Bits,
-    line: Input,
+pub struct Demux {
+    /// The chain.
+    pub chain: Chain,
+    /// Where the line stands.
+    pub bits: Bits,
 }
 
 /// The files of the port: the line, and what each leaf receives.
@@ -50,77 +46,43 @@ fn says(chain: Chain, frames: u64) -> Done
     Done::Line(chain_counted("demux ", chain, ": frames ", frames))
 }
 
-impl DemuxPlan {
-    // Gives the receivers of the chain the line's bits.
-    fn receive<S: Shelf>(&self, alloc: Global, port: &mut ShelfPort<S>) -> Outcome
-        requires { CanReceive self.now.chain self.now.line.bits (over (S.state port.old.shelf) port.old.blocks) }
-        ensures kept { Keeps (over (S.state port.old.shelf) port.old.blocks) (over (S.state port.new.shelf) port.new.blocks) }
-        ensures counted { IsCountedBy (over (S.state port.new.shelf) port.new.blocks) result }
-        ensures comes { (begun : ShelfState) → IsDemuxPort self.now.chain self.now.bits self.now.line begun (over (S.state port.old.shelf) port.old.blocks)
-            → ComesOut (demuxing self.now.chain self.now.bits) begun (over (S.state port.old.shelf) port.old.blocks) (over (S.state port.new.shelf) port.new.blocks) result }
-    {
-        let bits = self.line.bits;
-        match pdh_demux::demux(alloc, self.chain, bits, port, &mut Quiet) {
-            Ok(frames) => {
-                if frames == 0 {
-                    return Outcome::Whole(Err(Stop::NoAlignment(bits)));
-                }
-                Outcome::Whole(Ok(says(self.chain, frames)))
-            }
-            // The line has its bits.
-            Err(stop) => outcome_of(stop),
-        }
-    }
-}
+impl PortCommand<Nobody> for Demux {
+    type Plan = Input;
 
-impl Work for DemuxPlan {
-    ghost operation = { λ p. demuxing p.chain p.bits };
+    ghost operation = { λ c. demuxing c.chain c.bits };
 
-    ghost planned = { λ p state. (p.line.file ≡ line_file p.bits) × IsLine p.chain p.line state };
+    ghost planned = { λ c line state. (line.file ≡ line_file c.bits) × IsLine c.chain line state };
 
-    ghost opened = { λ p port. CanReceive p.chain p.line.bits port };
+    ghost opened = { λ c line port. CanReceive c.chain line.bits port };
 
-    ghost gives = { λ p begun port. IsDemuxPort p.chain p.bits p.line begun port };
+    ghost gives = { λ c line begun port. IsDemuxPort c.chain c.bits line begun port };
 
-    fn files(&self, alloc: Global) -> Result<PortFiles, AllocError> {
-        port_files(alloc, self.chain, self.line)
+    fn prepare<S: Shelf>(&self, _alloc: Global, shelf: &mut S) -> Result<Input, Stop> {
+        line_of(self.chain, File::of_line(self.bits), shelf)
     }
 
-    fn work<S: Shelf, K: Sink>(
+    fn files(&self, alloc: Global, line: &Input) -> Result<PortFiles, AllocError> {
+        port_files(alloc, self.chain, *line)
+    }
+
+    fn work<S: Shelf>(
         &self,
         alloc: Global,
+        line: &Input,
         mut port: ShelfPort<S>,
-        _monitors: &mut Vec<Box<dyn Monitor>>,
-        _log: &mut SinkLog<K>,
+        _nobody: &mut Nobody,
     ) -> Worked<S> {
-        let outcome = self.receive(alloc, &mut port);
-        Worked { port, outcome }
-    }
-}
-
-/// Reads the line, writes each leaf's bits, and answers the number of frames that were delivered,
-/// or that none was.
-pub fn demux<S: Shelf, K: Sink>(
-    alloc: Global,
-    chain: Chain,
-    bits: Bits,
-    mut shelf: S,
-    monitors: &mut Vec<Box<dyn Monitor>>,
-    log: &mut SinkLog<K>,
-) -> Ended<S>
-    requires fresh { log.old.told ≡ 0 }
-    ensures performs { Performs (demuxing chain bits) (S.state shelf) (S.state result.shelf) result.answer }
-    ensures watches { IsWatched (demuxing chain bits) (S.state shelf) (S.state result.shelf) result.answer (map ⟦<Box<dyn Monitor> as Monitor>⟧.state monitors.old.items) (map ⟦<Box<dyn Monitor> as Monitor>⟧.state monitors.new.items) }
-    ensures hears { log_state (K.state log.new.out) log.new.told ≡ log_state (K.state log.old.out) log.old.told }
-{
-    match line_of(chain, File::of_line(bits), &mut shelf) {
-        Ok(line) => run_over(
-            alloc,
-            &DemuxPlan { chain, bits, line },
-            shelf,
-            monitors,
-            log,
-        ),
-        Err(stop) => Ended::new(shelf, Err(stop)),
+        let bits = line.bits;
+        match pdh_demux::demux(alloc, self.chain, bits, &mut port, &mut Quiet) {
+            Ok(frames) => Worked {
+                port,
+                outcome: received(says(self.chain, frames), bits, frames),
+            },
+            // The line has its bits.
+            Err(stop) => Worked {
+                port,
+                outcome: outcome_of(stop),
+            },
+        }
     }
 }

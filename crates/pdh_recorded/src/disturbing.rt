@@ -1,29 +1,24 @@
 //! `disturb`: a line's file changed by a script.
 
-ghost use Rattle.std.specs.Prelude.{◌≡◌, ◌≢◌, ◌*◌, map, IfOk, IfErr, Ok};
-ghost use Rattle.pdh_edge.specs.Files.{ShelfState, Looks};
-ghost use Rattle.pdh_blocks.specs.State.{over};
-ghost use Rattle.pdh_blocks.specs.Kept.{Keeps};
+ghost use Rattle.std.specs.Prelude.{◌≡◌, ◌≢◌, ◌*◌, IfOk, IfErr, Ok};
+ghost use Rattle.pdh_edge.specs.Files.{Looks};
 ghost use Rattle.pdh_script.specs.Scripts.{FitIn};
 ghost use Rattle.pdh_script.specs.declared.stop.ApplyStop.TheVariants.{Ended as LineEnded};
 ghost use Rattle.pdh_recorded.specs.Disturb.{disturb_says, disturbing};
 ghost use Rattle.pdh_recorded.specs.DisturbSteps.{HasSizes, ScriptIs, IsBendPlan, CanBend, IsBendPort};
-ghost use Rattle.pdh_runner.specs.Running.{ComesOut, IsCountedBy};
 ghost use Rattle.pdh_runner.specs.declared.running.Outcome.TheVariants.{Failed};
 ghost use Rattle.pdh_runner.specs.Refusing.{Refuses};
-ghost use Rattle.pdh_runner.specs.Performing.{IsCounted, Performs, IsWatched};
-ghost use Rattle.pdh_answers.specs.SlipLines.{log_state};
+ghost use Rattle.pdh_runner.specs.Performing.{IsCounted};
 
-use pdh_answers::{Done, File, SinkLog, Stop, chain_counted};
+use pdh_answers::{Done, File, Stop, chain_counted};
 use pdh_blocks::ShelfPort;
 use pdh_chain::{Chain, frame_bytes};
-use pdh_edge::{Shelf, Sink};
+use pdh_edge::Shelf;
 use pdh_packed::Packed;
 use pdh_runner::files::{read, size};
-use pdh_runner::{Ended, Input, Outcome, PortFiles, Work, Worked, run_over};
+use pdh_runner::{Input, Nobody, Outcome, PortCommand, PortFiles, Worked};
 use pdh_script::{ApplyStop, MOST_SCRIPT_BYTES, Script};
 use pdh_shape::MOST_FRAMES;
-use pdh_watch::Monitor;
 use std::alloc::{AllocError, Global};
 
 // The sizes of the inputs, in bytes.
@@ -33,18 +28,21 @@ struct Sizes {
     script: u64,
 }
 
-// What a line is disturbed by, and how many bits the line has.
+/// What a line is disturbed by.
 #[derive(Drop)]
-struct Plan {
-    script: Script,
-    bits: u64,
+pub struct Plan {
+    /// The script.
+    pub script: Script,
+    /// How many bits the line has.
+    pub bits: u64,
 }
 
-// What is disturbed: the chain's line, by this plan.
+/// `disturb` of the line of a chain: it reads the line and the script, writes the disturbed line, and answers how many bits it has,
+/// of which the file holds the whole bytes.
 #[derive(Drop)]
-struct DisturbPlan {
-    chain: Chain,
-    plan: Plan,
+pub struct Disturb {
+    /// The chain.
+    pub chain: Chain,
 }
 
 // The sizes of the inputs, in order, if the line has no more frames than a line may have.
@@ -84,21 +82,6 @@ fn read_script<S: Shelf>(
     Ok(Script::read(alloc, &text, 8 * sizes.line)?)
 }
 
-// What a line is disturbed by, where no step refuses the inputs: the script, and the line's bits.
-fn read_plan<S: Shelf>(alloc: Global, chain: Chain, shelf: &mut S) -> Result<Plan, Stop>
-    ensures looks { Looks (S.state shelf.old) (S.state shelf.new) }
-    ensures ok { IfOk result (λ plan. IsBendPlan chain plan (S.state shelf.new)) }
-    ensures err { IfErr result (Refuses (disturbing chain) (S.state shelf.old) (S.state shelf.new)) }
-    ensures counted { IsCounted (S.state shelf.old) (S.state shelf.new) result }
-{
-    let sizes = read_sizes(chain, shelf)?;
-    let script = read_script(alloc, chain, shelf, sizes)?;
-    Ok(Plan {
-        script,
-        bits: 8 * sizes.line,
-    })
-}
-
 // What it says of so many bits.
 fn says(chain: Chain, bits: u64) -> Done
     ensures { result ≡ disturb_says chain bits }
@@ -114,73 +97,55 @@ fn outcome_of(_stop: ApplyStop) -> Outcome
     Outcome::Failed
 }
 
-impl DisturbPlan {
-    // Puts the disturbed line to the port.
-    fn apply<S: Shelf>(&self, alloc: Global, port: &mut ShelfPort<S>) -> Outcome
-        requires { CanBend self.now.plan (over (S.state port.old.shelf) port.old.blocks) }
-        ensures kept { Keeps (over (S.state port.old.shelf) port.old.blocks) (over (S.state port.new.shelf) port.new.blocks) }
-        ensures counted { IsCountedBy (over (S.state port.new.shelf) port.new.blocks) result }
-        ensures comes { (begun : ShelfState) → IsBendPort self.now.chain self.now.plan.script begun (over (S.state port.old.shelf) port.old.blocks)
-            → ComesOut (disturbing self.now.chain) begun (over (S.state port.old.shelf) port.old.blocks) (over (S.state port.new.shelf) port.new.blocks) result }
-    {
-        let mut buffer = Packed::short(alloc);
-        let bits = self.plan.bits;
-        match self.plan.script.apply(bits, &mut buffer, port) {
-            Ok(()) => {
-                let bent = self.plan.script.bits_of(bits);
-                Outcome::Whole(Ok(says(self.chain, bent)))
-            }
-            // The line has its bits.
-            Err(stop) => outcome_of(stop),
-        }
+impl PortCommand<Nobody> for Disturb {
+    type Plan = Plan;
+
+    ghost operation = { λ c. disturbing c.chain };
+
+    ghost planned = { λ c plan state. IsBendPlan c.chain plan state };
+
+    ghost opened = { λ c plan port. CanBend plan port };
+
+    ghost gives = { λ c plan begun port. IsBendPort c.chain plan.script begun port };
+
+    fn prepare<S: Shelf>(&self, alloc: Global, shelf: &mut S) -> Result<Plan, Stop> {
+        let sizes = read_sizes(self.chain, shelf)?;
+        let script = read_script(alloc, self.chain, shelf, sizes)?;
+        Ok(Plan {
+            script,
+            bits: 8 * sizes.line,
+        })
     }
-}
 
-impl Work for DisturbPlan {
-    ghost operation = { λ p. disturbing p.chain };
-
-    ghost planned = { λ p state. IsBendPlan p.chain p.plan state };
-
-    ghost opened = { λ p port. CanBend p.plan port };
-
-    ghost gives = { λ p begun port. IsBendPort p.chain p.plan.script begun port };
-
-    fn files(&self, alloc: Global) -> Result<PortFiles, AllocError> {
+    fn files(&self, alloc: Global, plan: &Plan) -> Result<PortFiles, AllocError> {
         let line = Input {
             file: File::Line,
-            bits: self.plan.bits,
+            bits: plan.bits,
         };
         PortFiles::line_to_line(alloc, line, File::Bent)
     }
 
-    fn work<S: Shelf, K: Sink>(
+    fn work<S: Shelf>(
         &self,
         alloc: Global,
+        plan: &Plan,
         mut port: ShelfPort<S>,
-        _monitors: &mut Vec<Box<dyn Monitor>>,
-        _log: &mut SinkLog<K>,
+        _nobody: &mut Nobody,
     ) -> Worked<S> {
-        let outcome = self.apply(alloc, &mut port);
-        Worked { port, outcome }
-    }
-}
-
-/// Reads the line and the script, writes the disturbed line, and answers how many bits it has, of which the file holds the
-/// whole bytes.
-pub fn disturb<S: Shelf, K: Sink>(
-    alloc: Global,
-    chain: Chain,
-    mut shelf: S,
-    monitors: &mut Vec<Box<dyn Monitor>>,
-    log: &mut SinkLog<K>,
-) -> Ended<S>
-    requires fresh { log.old.told ≡ 0 }
-    ensures performs { Performs (disturbing chain) (S.state shelf) (S.state result.shelf) result.answer }
-    ensures watches { IsWatched (disturbing chain) (S.state shelf) (S.state result.shelf) result.answer (map ⟦<Box<dyn Monitor> as Monitor>⟧.state monitors.old.items) (map ⟦<Box<dyn Monitor> as Monitor>⟧.state monitors.new.items) }
-    ensures hears { log_state (K.state log.new.out) log.new.told ≡ log_state (K.state log.old.out) log.old.told }
-{
-    match read_plan(alloc, chain, &mut shelf) {
-        Ok(plan) => run_over(alloc, &DisturbPlan { chain, plan }, shelf, monitors, log),
-        Err(stop) => Ended::new(shelf, Err(stop)),
+        let mut buffer = Packed::short(alloc);
+        match plan.script.apply(plan.bits, &mut buffer, &mut port) {
+            Ok(()) => {
+                let bent = plan.script.bits_of(plan.bits);
+                Worked {
+                    port,
+                    outcome: Outcome::Whole(Ok(says(self.chain, bent))),
+                }
+            }
+            // The line has its bits.
+            Err(stop) => Worked {
+                port,
+                outcome: outcome_of(stop),
+            },
+        }
     }
 }

@@ -1,28 +1,29 @@
 //! `inspect`: the events of a line's file, shown to the monitors.
 
-ghost use Rattle.std.specs.Prelude.{◌≡◌, map};
+ghost use Rattle.std.specs.Prelude.{◌≡◌};
 ghost use Rattle.pdh_answers.specs.Names.{line_file};
-ghost use Rattle.pdh_answers.specs.SlipLines.{log_state};
 ghost use Rattle.pdh_recorded.specs.Inspect.{inspect_says, inspecting, inspected};
-ghost use Rattle.pdh_runner.specs.Performing.{Performs, IsWatched};
-ghost use Rattle.pdh_recorded.specs.laws.InspectLaws.{inspect_reads};
+ghost use Rattle.pdh_runner.specs.Lines.{IsLine};
+ghost use Rattle.pdh_runner.specs.LineSteps.{CanRead, IsLinePort};
 
-use crate::line_work::{LineWork, run_line};
-use pdh_answers::{Bits, Done, File, SinkLog};
+use pdh_answers::{Bits, Done, File, Stop};
 use pdh_blocks::ShelfPort;
 use pdh_chain::Chain;
-use pdh_edge::{Shelf, Sink};
+use pdh_edge::Shelf;
 use pdh_inspect::{LineStop, inspect_line};
-use pdh_runner::{Ended, Outcome, Worked};
+use pdh_runner::{Input, Outcome, PortCommand, PortFiles, Worked, line_of};
 use pdh_text::Text;
 use pdh_watch::Monitor;
-use std::alloc::Global;
+use std::alloc::{AllocError, Global};
 
-// The inspection of a line of a chain.
+/// `inspect` of the line of a chain: it reads the line, shows its events to the monitors, and answers the numbers of its delivered
+/// frames and of its events.
 #[derive(Drop)]
-struct Inspection {
-    chain: Chain,
-    bits: Bits,
+pub struct Inspect {
+    /// The chain.
+    pub chain: Chain,
+    /// Where the line stands.
+    pub bits: Bits,
 }
 
 // The line of what an inspection of a chain's line found.
@@ -41,31 +42,33 @@ fn says(chain: Chain, frames: u64, events: u64) -> Done
     Done::Watched(text)
 }
 
-impl LineWork for Inspection {
-    ghost operation = { λ p. inspecting p.chain p.bits };
+impl<M: Monitor> PortCommand<Vec<M>> for Inspect {
+    type Plan = Input;
 
-    ghost file = { λ p. line_file p.bits };
+    ghost operation = { λ c. inspecting c.chain c.bits };
 
-    ghost chain = { λ p. p.chain };
+    ghost planned = { λ c line state. (line.file ≡ line_file c.bits) × IsLine c.chain line state };
 
-    ghost next = { λ p. inspected p.chain };
+    ghost opened = { λ c line port. CanRead line.bits port };
 
-    fn file(&self) -> File {
-        File::of_line(self.bits)
+    ghost gives = { λ c line begun port. IsLinePort (inspecting c.chain c.bits) (line_file c.bits) (inspected c.chain) line begun port };
+
+    fn prepare<S: Shelf>(&self, _alloc: Global, shelf: &mut S) -> Result<Input, Stop> {
+        line_of(self.chain, File::of_line(self.bits), shelf)
     }
 
-    fn chain(&self) -> Chain {
-        self.chain
+    fn files(&self, alloc: Global, line: &Input) -> Result<PortFiles, AllocError> {
+        PortFiles::line(alloc, *line)
     }
 
-    fn read<S: Shelf>(
+    fn work<S: Shelf>(
         &self,
         alloc: Global,
-        bits: u64,
+        line: &Input,
         port: ShelfPort<S>,
-        monitors: &mut Vec<Box<dyn Monitor>>,
+        monitors: &mut Vec<M>,
     ) -> Worked<S> {
-        let seen = inspect_line(alloc, self.chain, bits, port, monitors);
+        let seen = inspect_line(alloc, self.chain, line.bits, port, monitors);
         let outcome = match seen.result {
             Ok(found) => {
                 let done = says(self.chain, found.frames, found.events);
@@ -79,23 +82,4 @@ impl LineWork for Inspection {
             outcome,
         }
     }
-
-    ghost reads = { λ p. inspect_reads p.chain p.bits };
-}
-
-/// Reads the line, shows its events to the monitors, and answers the numbers of its delivered frames and of its events.
-pub fn inspect<S: Shelf, K: Sink>(
-    alloc: Global,
-    chain: Chain,
-    bits: Bits,
-    shelf: S,
-    monitors: &mut Vec<Box<dyn Monitor>>,
-    log: &mut SinkLog<K>,
-) -> Ended<S>
-    requires fresh { log.old.told ≡ 0 }
-    ensures performs { Performs (inspecting chain bits) (S.state shelf) (S.state result.shelf) result.answer }
-    ensures watches { IsWatched (inspecting chain bits) (S.state shelf) (S.state result.shelf) result.answer (map ⟦<Box<dyn Monitor> as Monitor>⟧.state monitors.old.items) (map ⟦<Box<dyn Monitor> as Monitor>⟧.state monitors.new.items) }
-    ensures hears { log_state (K.state log.new.out) log.new.told ≡ log_state (K.state log.old.out) log.old.told }
-{
-    run_line(alloc, Inspection { chain, bits }, shelf, monitors, log)
 }

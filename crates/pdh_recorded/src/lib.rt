@@ -6,12 +6,11 @@ mod apart;
 mod demuxing;
 mod disturbing;
 mod inspecting;
-mod line_work;
 mod showing;
 mod smoothing;
 
-pub use demuxing::demux;
-pub use disturbing::disturb;
-pub use inspecting::inspect;
-pub use showing::show;
-pub use smoothing::smooth;
+pub use demuxing::Demux;
+pub use disturbing::Disturb;
+pub use inspecting::Inspect;
+pub use showing::Show;
+pub use smoothing::Smooth;

@@ -32,16 +32,6 @@ module _ {G : Type 0} (logged broken : G → List Slip → G → Type 0) where
   heard_refused (Some slips) operation a b Unheard before after refuses same = absurd refuses
   heard_refused (Some slips) operation a b stop before after refuses same = same
 
-  -- a command without slips left it as it was
-  pub heard_none : (tells : Option (Files → List Slip)) (operation : Operation) (a : ShelfState) (answer : Answer) (before after : G) → tells ≡ None → HeardBy logged broken tells operation a answer before after → after ≡ before
-  heard_none None operation a answer before after none heard = heard
-  heard_none (Some slips) operation a answer before after none heard = absurd (let wrong : Some slips ≡ None = none in cc)
-
-  -- and leaves it so
-  pub unheard : (tells : Option (Files → List Slip)) (operation : Operation) (a : ShelfState) (outcome : Outcome) (before after : G) → tells ≡ None → after ≡ before → IsHeard logged broken tells operation a outcome before after
-  unheard None operation a outcome before after none same = same
-  unheard (Some slips) operation a outcome before after none same = absurd (let wrong : Some slips ≡ None = none in cc)
-
   module _ (slips : Files → List Slip) (operation : Operation) (a : ShelfState) (before after : G) where
     -- all of them are the first of them
     front_of_all : HearsAll logged broken slips operation a before after → HearsFront logged broken slips operation a before after

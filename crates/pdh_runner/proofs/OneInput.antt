@@ -1,5 +1,5 @@
 -- A command that begins with one file, of which the length alone decides whether it is refused.
-use Rattle.std.proofs.Common.{◌≡◌, ℕ, zero, suc, ◌<◌, List, [], ◌∷◌, slice_get, Option, None, Some, Result, Ok, Err, true, false, length, refl, ap, sym, subst, ◌∙◌, arith}
+use Rattle.std.proofs.Common.{◌≡◌, ℕ, zero, suc, List, [], ◌∷◌, slice_get, Option, None, Some, Result, Ok, Err, false, length, refl, ap, sym, subst, ◌∙◌, arith}
 use Rattle.std.specs.Prelude.{IfErr}
 use Rattle.std.specs.Option.{option_map}
 use Rattle.std.proofs.lemmas.Option.{none-some, same_Some}
@@ -8,13 +8,12 @@ use Rattle.pdh_edge.specs.Files.Told.{Known}
 use Rattle.pdh_answers.specs.Names.{name_of}
 use Rattle.pdh_answers.specs.Answer.{Answer, and_then}
 use Rattle.pdh_runner.specs.Reading.{HasLength, IsSizeStop, IsReadStop}
-use Rattle.pdh_runner.specs.Operation.{Operation, AreTold, OfInputs, reaches_outputs, IsReadDue, Files}
+use Rattle.pdh_runner.specs.Operation.{Operation, AreTold, OfInputs, reaches_outputs, Files}
 use Rattle.pdh_runner.specs.Performing.{Comes, GoesOn}
 use Rattle.pdh_runner.specs.Refusing.{Refuses}
 use Rattle.pdh_runner.specs.LineSteps.{Judge, BeginsWith}
 use Rattle.pdh_answers.specs.declared.file.File.{File}
 use Rattle.pdh_answers.specs.declared.answer.Stop.{Stop}
-use Rattle.pdh_answers.specs.declared.answer.Stop.TheVariants.{Missing}
 use Rattle.pdh_runner.specs.declared.port.Input.{Input}
 use Rattle.pdh_runner.proofs.Refusing.{size_refuses, read_refuses}
 

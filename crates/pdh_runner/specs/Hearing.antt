@@ -4,7 +4,7 @@ use Rattle.std.specs.Prelude.{◌≡◌, ◌⊎◌, List, ◌++◌, ⊤, Option,
 use Rattle.pdh_edge.specs.Files.{ShelfState}
 use Rattle.pdh_slips.specs.declared.slip.Slip.{Slip}
 use Rattle.pdh_answers.specs.Answer.{Answer}
-use Rattle.pdh_answers.specs.SlipLines.{LogState, TellsLines, BreaksLines}
+use Rattle.pdh_answers.specs.SlipLines.{LogState, log_state, TellsLines, BreaksLines}
 use Rattle.pdh_answers.specs.declared.answer.Stop.{Stop}
 use Rattle.pdh_answers.specs.declared.answer.Stop.TheVariants.{Memory, Read, Write, Unheard}
 use Rattle.pdh_runner.specs.Operation.{Operation, OfInputs, Files}
@@ -58,6 +58,10 @@ IsHeard logged broken (Some slips) operation begun Failed before after = HearsFr
 IsHeard logged broken (Some slips) operation begun LogFailed before after = BreaksAt logged broken slips operation begun before after
 
 -- ---- the log of the program
+
+-- where there is none
+abbrev pub no_log : LogState
+no_log = log_state (record { written = None; faults = 0 }) 0
 
 -- what a command tells it
 abbrev pub LogsSlips : Operation → ShelfState → Answer → LogState → LogState → Type 0

@@ -1,8 +1,7 @@
 -- What the steps of `inspect e1` before its run come to.
-use Rattle.std.proofs.Common.{◌≡◌, List, Err, refl, sym, subst, inl, inr, lit<}
+use Rattle.std.proofs.Common.{List, Err, refl, sym, inl, inr, lit<}
 use Rattle.std.proofs.lemmas.Bool.{false≢true}
 use Rattle.pdh_edge.specs.Files.{ShelfState}
-use Rattle.pdh_answers.specs.Answer.{Answer}
 use Rattle.pdh_answers.specs.declared.file.File.TheVariants.{E1Line}
 use Rattle.pdh_watch.specs.Monitors.{State}
 use Rattle.pdh_answers.specs.declared.answer.Stop.{Stop}
@@ -23,14 +22,10 @@ framed_begins = record { some = lit< tt; first = refl; missing = refl; comes = �
 pub inspecting_refused : (a b : ShelfState) (stop : Stop) → RefusesFramed e1_codec a b stop → Refuses inspecting_e1 a b stop
 inspecting_refused a b stop refused = refused inspecting_e1 e1_inspected framed_begins
 
-unseen : (a b : ShelfState) (stop : Stop) (states : List State) → RefusesFramed e1_codec a b stop → IsWatched inspecting_e1 a b (Err stop) states states
-unseen a b (Read file) states refused = elim (inspecting_refused a b (Read file) refused).1 [
+-- and the monitors saw nothing
+pub inspecting_unseen : (a b : ShelfState) (stop : Stop) (states : List State) → RefusesFramed e1_codec a b stop → IsWatched inspecting_e1 a b (Err stop) states states
+inspecting_unseen a b (Read file) states refused = elim (inspecting_refused a b (Read file) refused).1 [
   | inl size ↦ inl (size, refl)
   | inr early ↦ absurd (false≢true (sym early))
 ]
-unseen a b stop states refused = refl
-
--- and the monitors saw nothing
-pub inspecting_unseen : (a b c : ShelfState) (answer : Answer) (stop : Stop) (states : List State) → c ≡ b → answer ≡ Err stop → RefusesFramed e1_codec a b stop → IsWatched inspecting_e1 a c answer states states
-inspecting_unseen a b c answer stop states back is refused =
-    subst (λ (x : Answer). IsWatched inspecting_e1 a c x states states) (sym is) (subst (λ (state : ShelfState). IsWatched inspecting_e1 a state (Err stop) states states) (sym back) (unseen a b stop states refused))
+inspecting_unseen a b stop states refused = refl

@@ -132,7 +132,7 @@ fn leaves_over_borders(rt: HostRuntime) -> Result<(), Fail> {
     let alloc = rt.alloc();
     let bytes = pattern(alloc, 5000)?;
     let short = pattern(alloc, 4999)?;
-    let mut folder = Folder::new(rt.clone()?);
+    let mut folder = Folder::new(rt.alloc(), rt.clone()?);
     write_file(&rt, &mut folder, "pb_1", &bytes);
     write_file(&rt, &mut folder, "pb_22", &short);
     let mut two = open(alloc, folder, 40000, "pb_4444")?;
@@ -161,8 +161,8 @@ fn put_nearly_a_block<S: Shelf>(
 #[test]
 fn outputs_by_blocks(rt: HostRuntime) -> Result<(), Fail> {
     let alloc = rt.alloc();
-    let mut folder = Folder::new(rt.clone()?);
-    let mut two = open(alloc, Folder::new(rt.clone()?), 0, "pb_4444")?;
+    let mut folder = Folder::new(rt.alloc(), rt.clone()?);
+    let mut two = open(alloc, Folder::new(rt.alloc(), rt.clone()?), 0, "pb_4444")?;
     // put before start: the first full block starts all outputs
     put_nearly_a_block(&rt, alloc, &mut two)?;
     has_size(&rt, &mut folder, "pb_4444", None);
@@ -186,7 +186,7 @@ const LONG: &str = "pb_4444_of_a_name_that_does_not_stay_open";
 #[test]
 fn append_to_a_file_that_is_gone(rt: HostRuntime) -> Result<(), Fail> {
     let alloc = rt.alloc();
-    let mut two = open(alloc, Folder::new(rt.clone()?), 0, LONG)?;
+    let mut two = open(alloc, Folder::new(rt.alloc(), rt.clone()?), 0, LONG)?;
     assert!(rt; two.start() == Ok(()));
     fs::remove_file(&rt, LONG)?;
     assert!(rt; two.put_bytes(alloc, 1, 4095)?);
@@ -199,10 +199,15 @@ fn append_to_a_file_that_is_gone(rt: HostRuntime) -> Result<(), Fail> {
 
 #[test]
 fn start_makes_files_empty(rt: HostRuntime) -> Result<(), Fail> {
-    let mut folder = Folder::new(rt.clone()?);
+    let mut folder = Folder::new(rt.alloc(), rt.clone()?);
     write_file(&rt, &mut folder, "pb_333", b"ab");
     write_file(&rt, &mut folder, "pb_4444", b"ab");
-    let mut two = open(rt.alloc(), Folder::new(rt.clone()?), 0, "pb_4444")?;
+    let mut two = open(
+        rt.alloc(),
+        Folder::new(rt.alloc(), rt.clone()?),
+        0,
+        "pb_4444",
+    )?;
     assert!(rt; two.start() == Ok(()));
     has_size(&rt, &mut folder, "pb_333", Some(0));
     has_size(&rt, &mut folder, "pb_4444", Some(0));

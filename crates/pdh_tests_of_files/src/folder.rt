@@ -2,6 +2,7 @@
 
 use pdh_edge::{Failed, Shelf, Sink};
 use pdh_folder::{Folder, Out};
+use std::alloc::Global;
 use std::fs::Files;
 use std::os::unix::fs::symlink;
 use std::process::Abort;
@@ -48,7 +49,12 @@ fn use_file<R: Files + Drop>(rt: &impl Abort, mut folder: Folder<R>, name: &str,
 
 #[test]
 fn folder_of_a_file_that_stays_open(rt: HostRuntime) -> io::Result<()> {
-    use_file(&rt, Folder::new(rt.clone()?), "pf_file", "pf_file/below");
+    use_file(
+        &rt,
+        Folder::new(rt.alloc(), rt.clone()?),
+        "pf_file",
+        "pf_file/below",
+    );
     fs::remove_file(&rt, "pf_file")
 }
 
@@ -56,7 +62,7 @@ fn folder_of_a_file_that_stays_open(rt: HostRuntime) -> io::Result<()> {
 fn folder_of_a_file_with_a_long_name(rt: HostRuntime) -> io::Result<()> {
     use_file(
         &rt,
-        Folder::new(rt.clone()?),
+        Folder::new(rt.alloc(), rt.clone()?),
         "pf_file_of_a_name_that_does_not_stay_open",
         "pf_file_of_a_name_that_does_not_stay_open/below",
     );
@@ -64,8 +70,14 @@ fn folder_of_a_file_with_a_long_name(rt: HostRuntime) -> io::Result<()> {
 }
 
 // A folder in which a file of this name was written.
-fn folder_with<R: Files + Drop>(rt: &impl Abort, files: R, name: &str, bytes: &[u8]) -> Folder<R> {
-    let mut folder = Folder::new(files);
+fn folder_with<R: Files + Drop>(
+    rt: &impl Abort,
+    alloc: Global,
+    files: R,
+    name: &str,
+    bytes: &[u8],
+) -> Folder<R> {
+    let mut folder = Folder::new(alloc, files);
     assert!(rt; folder.start(name) == Ok(()));
     assert!(rt; folder.append(name, bytes) == Ok(()));
     folder
@@ -81,14 +93,14 @@ fn has_bytes<R: Files + Drop>(rt: &impl Abort, folder: &mut Folder<R>, name: &st
 
 #[test]
 fn links_to_what_is_read(rt: HostRuntime) -> io::Result<()> {
-    let mut folder = folder_with(&rt, rt.clone()?, "pf_line", b"abcdef");
+    let mut folder = folder_with(&rt, rt.alloc(), rt.clone()?, "pf_line", b"abcdef");
     fs::hard_link(&rt, "pf_line", "pf_hard")?;
     symlink(&rt, "pf_line", "pf_soft")?;
     has_bytes(&rt, &mut folder, "pf_line", b"abcdef");
     assert!(rt; folder.start("pf_hard") == Err(Failed));
     assert!(rt; folder.start("pf_soft") == Err(Failed));
     has_bytes(&rt, &mut folder, "pf_line", b"abcdef");
-    let mut other = Folder::new(rt.clone()?);
+    let mut other = Folder::new(rt.alloc(), rt.clone()?);
     has_bytes(&rt, &mut other, "pf_soft", b"abcdef");
     assert!(rt; other.start("pf_line") == Err(Failed));
     has_bytes(&rt, &mut other, "pf_soft", b"abcdef");
@@ -101,7 +113,7 @@ fn links_to_what_is_read(rt: HostRuntime) -> io::Result<()> {
 
 #[test]
 fn other_names_keep_their_bytes(rt: HostRuntime) -> io::Result<()> {
-    let mut folder = folder_with(&rt, rt.clone()?, "pf_old", b"abcdef");
+    let mut folder = folder_with(&rt, rt.alloc(), rt.clone()?, "pf_old", b"abcdef");
     fs::hard_link(&rt, "pf_old", "pf_kept")?;
     symlink(&rt, "pf_kept", "pf_link")?;
     symlink(&rt, "pf_nowhere", "pf_bare")?;
@@ -112,7 +124,7 @@ fn other_names_keep_their_bytes(rt: HostRuntime) -> io::Result<()> {
             "append to {name}"
         );
     }
-    let mut other = Folder::new(rt.clone()?);
+    let mut other = Folder::new(rt.alloc(), rt.clone()?);
     has_bytes(&rt, &mut other, "pf_kept", b"abcdef");
     for name in ["pf_old", "pf_link", "pf_bare"] {
         has_bytes(&rt, &mut other, name, b"ghijkl");
@@ -124,7 +136,7 @@ fn other_names_keep_their_bytes(rt: HostRuntime) -> io::Result<()> {
 
 #[test]
 fn what_is_no_file(rt: HostRuntime) -> io::Result<()> {
-    let mut folder = Folder::new(rt.clone()?);
+    let mut folder = Folder::new(rt.alloc(), rt.clone()?);
     fs::create_dir(&rt, "pf_dir")?;
     symlink(&rt, "/dev/null", "pf_null")?;
     for name in ["pf_dir", "/dev/null", "pf_null"] {
@@ -138,8 +150,8 @@ fn what_is_no_file(rt: HostRuntime) -> io::Result<()> {
 
 #[test]
 fn a_name_beside_is_taken(rt: HostRuntime) -> io::Result<()> {
-    let mut folder = folder_with(&rt, rt.clone()?, "pf_two", b"abcdef");
-    let mut left = folder_with(&rt, rt.clone()?, "pf_two.new", b"remain");
+    let mut folder = folder_with(&rt, rt.alloc(), rt.clone()?, "pf_two", b"abcdef");
+    let mut left = folder_with(&rt, rt.alloc(), rt.clone()?, "pf_two.new", b"remain");
     assert!(rt; folder.start("pf_two") == Ok(()));
     assert!(rt; folder.size("pf_two") == Ok(Some(0)));
     has_bytes(&rt, &mut left, "pf_two.new", b"remain");

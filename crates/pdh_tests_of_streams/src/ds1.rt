@@ -27,14 +27,31 @@ fn counts_of(align: &Ds1Align) -> [u64; 3] {
     [align.superframes(), align.blocks(), align.errored()]
 }
 
-// What a machine finds in a line: superframes, blocks and errored ones, and the octets of its payload.
-fn found(alloc: Global, frame: Frame1, line: &[u8]) -> Result<([u64; 3], Vec<u8>), Fail> {
-    let bits = Packed::of_bytes(alloc, line)?;
-    let mut port = port_for(alloc, bits.len())?;
+// What a machine counts of a line: superframes, blocks and errored ones.
+fn counted<D: Drain>(
+    alloc: Global,
+    frame: Frame1,
+    bits: &Packed,
+    drain: &mut D,
+) -> Result<[u64; 3], Fail>
+    requires { IsTrue ((D.outputs drain.old).holds 0) }
+    ensures { OnOk result ((D.outputs drain.new).holds ≡ (D.outputs drain.old).holds) }
+{
     let mut align = Ds1Align::open(alloc, frame)?;
-    take_all(&mut align, &bits, &mut port)?;
-    let payload = port.output(0).to_bytes(alloc)?;
-    Ok((counts_of(&align), payload))
+    take_all(&mut align, bits, drain)?;
+    Ok(counts_of(&align))
+}
+
+// What a machine finds in bits: superframes, blocks and errored ones, and the octets of its payload.
+fn found_in(alloc: Global, frame: Frame1, bits: &Packed) -> Result<([u64; 3], Vec<u8>), Fail> {
+    let mut port = port_for(alloc, bits.len())?;
+    let counts = counted(alloc, frame, bits, &mut port)?;
+    Ok((counts, port.output(0).to_bytes(alloc)?))
+}
+
+// What a machine finds in a line.
+fn found(alloc: Global, frame: Frame1, line: &[u8]) -> Result<([u64; 3], Vec<u8>), Fail> {
+    found_in(alloc, frame, &Packed::of_bytes(alloc, line)?)
 }
 
 // What a machine has counted after each octet of a line of at most 4,096.

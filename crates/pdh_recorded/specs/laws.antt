@@ -1,2 +1,0 @@
--- Laws that ghost members cite.
-pub mod InspectLaws
